@@ -1,0 +1,54 @@
+-- The arithmetic of cells: document 01, 'Arithmetic'. Definitions only; assumes nothing.
+use mathlib.Core.Bool.{cond}
+use Prim.Native.Nat.{zero, suc}
+use lib.IntN.{ℤ, pos, negsuc, negℤ, _+ℤ_, _-ℤ_, _*ℤ_}
+use lib.Signed.{ltZ, quotZ}
+
+-- "Cells are 32-bit signed": from −2,147,483,648, since `negsuc n` is −(n + 1), to 2,147,483,647.
+abbrev pub lowest : ℤ
+lowest = negsuc 2147483647
+
+abbrev pub highest : ℤ
+highest = pos 2147483647
+
+-- "clamped to the range": the number itself, or the end of the range that it lies beyond
+unfoldable pub clamp : ℤ → ℤ
+clamp z = cond (ltZ z lowest) lowest (cond (ltZ highest z) highest z)
+
+-- "`add sub mul neg` give the exact result, clamped to the range."
+unfoldable pub sum : ℤ → ℤ → ℤ
+sum x y = clamp (x +ℤ y)
+
+unfoldable pub difference : ℤ → ℤ → ℤ
+difference x y = clamp (x -ℤ y)
+
+unfoldable pub product : ℤ → ℤ → ℤ
+product x y = clamp (x *ℤ y)
+
+unfoldable pub negation : ℤ → ℤ
+negation x = clamp (negℤ x)
+
+-- "`div` rounds toward zero, is clamped, and gives 0 for divisor 0." (`quotZ` rounds toward zero.)
+unfoldable pub quotient : ℤ → ℤ → ℤ
+quotient x (pos zero) = pos 0
+quotient x (pos (suc n)) = clamp (quotZ x (pos (suc n)))
+quotient x (negsuc n) = clamp (quotZ x (negsuc n))
+
+-- "`min` and `max` give the lesser and the greater."
+unfoldable pub lesser : ℤ → ℤ → ℤ
+lesser x y = cond (ltZ x y) x y
+
+unfoldable pub greater : ℤ → ℤ → ℤ
+greater x y = cond (ltZ x y) y x
+
+-- The six operations over two numbers, by their words `add sub mul div min max`.
+pub data Operation : Type 0 where
+  addition subtraction multiplication division minimum maximum : Operation
+
+unfoldable pub operate : Operation → ℤ → ℤ → ℤ
+operate Operation.addition x y = sum x y
+operate Operation.subtraction x y = difference x y
+operate Operation.multiplication x y = product x y
+operate Operation.division x y = quotient x y
+operate Operation.minimum x y = lesser x y
+operate Operation.maximum x y = greater x y

@@ -1,0 +1,68 @@
+// The refusals of document 01: one case for each question that can be answered "no".
+ghost use mathlib.Core.Path.{_≡_};
+ghost use Rattle.refusals.specs.Refusals.{numberOf, lineOf};
+
+// Which question was answered "no"; where document 01 gives a line, that line, from 1.
+pub enum Refusal {
+    TextForm,
+    LineForm(usize),
+    LineCount,
+    RowDue(usize),
+    NumberRange(usize),
+    NameCount(usize),
+    TypeMisfit(usize),
+    TypeSize(usize),
+    OffsetBound(usize),
+    LoopsLength,
+    WriteCount,
+    LentSize,
+    UnknownOrder,
+    StoreSize,
+    ValueLines,
+}
+
+// The refusal's number.
+pub fn number(refusal: Refusal) -> u8
+    ensures { λ r. ⌜ r ≡ numberOf refusal ⌝ }
+{
+    match refusal {
+        Refusal::TextForm => 1,
+        Refusal::LineForm(_) => 2,
+        Refusal::LineCount => 3,
+        Refusal::RowDue(_) => 4,
+        Refusal::NumberRange(_) => 5,
+        Refusal::NameCount(_) => 6,
+        Refusal::TypeMisfit(_) => 7,
+        Refusal::TypeSize(_) => 8,
+        Refusal::OffsetBound(_) => 9,
+        Refusal::LoopsLength => 10,
+        Refusal::WriteCount => 11,
+        Refusal::LentSize => 12,
+        Refusal::UnknownOrder => 13,
+        Refusal::StoreSize => 14,
+        Refusal::ValueLines => 15,
+    }
+}
+
+// The refusal's line: 0 where the question is put to a whole.
+pub fn line(refusal: Refusal) -> usize
+    ensures { λ r. ⌜ r ≡ lineOf refusal ⌝ }
+{
+    match refusal {
+        Refusal::TextForm => 0,
+        Refusal::LineForm(line) => line,
+        Refusal::LineCount => 0,
+        Refusal::RowDue(line) => line,
+        Refusal::NumberRange(line) => line,
+        Refusal::NameCount(line) => line,
+        Refusal::TypeMisfit(line) => line,
+        Refusal::TypeSize(line) => line,
+        Refusal::OffsetBound(line) => line,
+        Refusal::LoopsLength => 0,
+        Refusal::WriteCount => 0,
+        Refusal::LentSize => 0,
+        Refusal::UnknownOrder => 0,
+        Refusal::StoreSize => 0,
+        Refusal::ValueLines => 0,
+    }
+}

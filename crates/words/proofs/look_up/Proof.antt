@@ -1,0 +1,57 @@
+-- `words::look_up` meets its contract. The loop's invariant: what is found is what is found from the present word on.
+use mathlib.Core.Path.{_≡_, sym, ap, _∙_}
+use mathlib.Core.Bool.{Bool, cond}
+use Prim.Native.Nat.{_+_, _-_, _≤_}
+use lib.ListN.{drop}
+use borrow.Author.Needs.{needs}
+use native.Mathlib.Omega.{arith}
+use Rattle.words.specs.Words.{words, lookFrom, lookUp}
+use Rattle.words.specs.Laws.{look-next, look-end, words-count}
+use Rattle.words.specs.declared.Found.the-variants.{At}
+use Rattle.words.proofs.look_up.Statement.{statement}
+use Rattle.words.proofs.look_up.Tie as tie
+
+abbrev Inv-loop : tie.InvT-loop
+Inv-loop letters kind₀ kind = (kind ≤ 38) × (lookUp words letters ≡ lookFrom kind (drop kind words) letters)
+
+abbrev μ-loop : tie.MeasureT-loop
+μ-loop letters kind₀ kind = 38 - kind
+
+loop-holds : tie.Need-loop-holds Inv-loop μ-loop
+loop-holds c = search needs
+
+same-requires : tie.Need-same-requires Inv-loop μ-loop
+same-requires c κs = search needs
+
+cast-t5 : tie.Need-cast-t5 Inv-loop μ-loop
+cast-t5 c = search needs
+
+returns : tie.Need-returns Inv-loop μ-loop
+returns c = sym (c .before .before .before .loop .inv .1 ∙ look-next words (c .before .before .before .before .before .args .letters .now) (c .before .before .before .loop .kind) (omega (arith, words-count)) ∙ ap (λ (b : Bool). cond b (At (c .before .before .before .loop .kind)) (lookFrom (c .before .before .before .loop .kind + 1) (drop (c .before .before .before .loop .kind + 1) words) (c .before .before .before .before .before .args .letters .now))) (sym (c .before .same .ensures) ∙ c .if1 .taken))
+
+add-kind : tie.Need-add-kind Inv-loop μ-loop
+add-kind c = search needs
+
+loop-less : tie.Need-loop-less Inv-loop μ-loop
+loop-less c = search needs
+
+loop-again : tie.Need-loop-again Inv-loop μ-loop
+loop-again c = (search needs, c .before .before .before .loop .inv .1 ∙ look-next words (c .before .before .before .before .before .args .letters .now) (c .before .before .before .loop .kind) (omega (arith, words-count)) ∙ ap (λ (b : Bool). cond b (At (c .before .before .before .loop .kind)) (lookFrom (c .before .before .before .loop .kind + 1) (drop (c .before .before .before .loop .kind + 1) words) (c .before .before .before .before .before .args .letters .now))) (sym (c .before .same .ensures) ∙ c .if1 .left))
+
+returns-2 : tie.Need-returns-2 Inv-loop μ-loop
+returns-2 c = sym (c .before .loop .inv .1 ∙ look-end words (c .before .before .before .args .letters .now) (c .before .loop .kind) (omega (arith, words-count)))
+
+pub look-up-spec : {M : Type 1} → statement M
+look-up-spec =
+    tie.close
+    (tie.spec
+    Inv-loop
+    μ-loop
+    loop-holds
+    same-requires
+    cast-t5
+    returns
+    add-kind
+    loop-less
+    loop-again
+    returns-2)

@@ -1,0 +1,42 @@
+-- `words::operand_count` meets its contract: the sort's column of a packed entry is the count's digit, or a dash.
+use mathlib.Core.Path.{sym, ap, _∙_, subst}
+use Prim.Native.Nat.{ℕ, _+_, _-_, _≤_}
+use lib.ListN.{getD}
+use borrow.Author.Needs.{needs}
+use Rattle.words.specs.declared.Operands.the-variants.{Count}
+use Rattle.words.proofs.Packed.{column-none, column-count}
+use Rattle.words.proofs.operand_count.Statement.{statement}
+use Rattle.words.proofs.operand_count.Tie as tie
+
+word-at-requires : tie.Need-word-at-requires
+word-at-requires c κs = search needs
+
+column-requires : tie.Need-column-requires
+column-requires c κs = search needs
+
+add-count : tie.Need-add-count
+add-count c = search needs
+
+array-read-count : tie.Need-array-read-count
+array-read-count c = search needs
+
+returns : tie.Need-returns
+returns c = column-none _ _ (c .before .before .word-at .ensures) (c .before .before .before .args .sort) (ap (λ (j : ℕ). getD (c .before .before .word-at .result) (9 + j) 0) (sym (c .before .column .ensures .0)) ∙ c .if1 .taken)
+
+digit-requires : tie.Need-digit-requires
+digit-requires c κs = subst (λ (j : ℕ). 48 ≤ getD (c .before .before .word-at .result) (9 + j) 0) (sym (c .before .column .ensures .0)) (column-count _ _ (c .before .before .word-at .ensures) (c .before .before .before .args .sort) (λ e. c .if1 .left (ap (λ (j : ℕ). getD (c .before .before .word-at .result) (9 + j) 0) (c .before .column .ensures .0) ∙ e)) .0)
+
+returns-2 : tie.Need-returns-2
+returns-2 c = ap Count (c .digit .ensures) ∙ ap (λ (j : ℕ). Count (getD (c .before .before .before .word-at .result) (9 + j) 0 - 48)) (c .before .before .column .ensures .0) ∙ column-count _ _ (c .before .before .before .word-at .ensures) (c .before .before .before .before .args .sort) (λ e. c .before .if1 .left (ap (λ (j : ℕ). getD (c .before .before .before .word-at .result) (9 + j) 0) (c .before .before .column .ensures .0) ∙ e)) .1
+
+pub operand-count-spec : {M : Type 1} → statement M
+operand-count-spec =
+    tie.close
+    (tie.spec
+    word-at-requires
+    column-requires
+    add-count
+    array-read-count
+    returns
+    digit-requires
+    returns-2)

@@ -1,0 +1,187 @@
+-- Laws of the table of words. Those of looking up hold for every table whose words are distinct. Assumes nothing.
+use mathlib.Core.Path.{_≡_, refl, sym, ap, ap₂, _∙_, subst}
+use mathlib.Core.Bool.{Bool, true, false, not, cond, _&&_}
+use mathlib.Core.List.{List, [], _∷_, map}
+use Prim.Native.String.{String}
+use mathlib.Core.Logic.{_⊎_, inl, inr, ⊎-elim}
+use Prim.Native.Nat.{ℕ, zero, suc, _+_, _≤_, _<_, suc-le-suc}
+use native.Mathlib.Nat.{add-zero, add-suc, suc-add, le-of-suc-le-suc, not-suc-le-zero}
+use native.Mathlib.Numerals.{add-one}
+use native.Mathlib.Omega.{arith}
+use lib.Dec.{T, T-not, eqb, leb, eqb→eq, eqb-refl, leb→le}
+use lib.Ieee.Fits.{and-i, and-l, and-r}
+use lib.ListN.{length, getD, drop, drop-of-length-le}
+use lib.Seq.{drop-cons}
+use Rattle.words.specs.Kinds.{word-plan, word-num, word-arr, word-two, word-in, word-var, word-lit, word-neg, word-add, word-sub, word-mul, word-div, word-min, word-max, word-mappar, word-mapseq, word-redseq, word-zip, word-pair, word-split, word-join, word-fst, word-snd, word-idx, word-loops, word-cells, word-set, word-seq, word-for, word-par, word-new, word-out, word-loc, word-ctr, word-plus, word-times, word-over, word-rest}
+use Rattle.words.specs.Words.{bytes, table, words, wordAt, sameLetters, lookFrom, lookUp, absent, distinct, lowerCase, wellFormed}
+use Rattle.words.specs.declared.Found.{Found}
+use Rattle.words.specs.declared.Found.the-variants.{At, NotListed}
+
+-- ---- the test of two words tells whether they are equal
+
+pub same-refl : (l : List ℕ) → T (sameLetters l l)
+unfolding sameLetters
+same-refl [] = tt
+same-refl (b ∷ bs) = and-i (eqb b b) (sameLetters bs bs) (eqb-refl b) (same-refl bs)
+
+pub same-equal : (l w : List ℕ) → T (sameLetters l w) → l ≡ w
+unfolding sameLetters
+same-equal [] [] t = refl
+same-equal [] (w ∷ ws) t = absurd t
+same-equal (l ∷ ls) [] t = absurd t
+same-equal (l ∷ ls) (w ∷ ws) t =
+    ap₂ _∷_ (eqb→eq l w (and-l (eqb l w) (sameLetters ls ws) t)) (same-equal ls ws (and-r (eqb l w) (sameLetters ls ws) t))
+
+pub same-true : (l w : List ℕ) → l ≡ w → true ≡ sameLetters l w
+same-true l w e = go (sameLetters l w) (subst (λ (v : List ℕ). T (sameLetters l v)) e (same-refl l))
+  where
+    go : (b : Bool) → T b → true ≡ b
+    go true t = refl
+    go false t = absurd t
+
+pub same-false : (l w : List ℕ) → (l ≡ w → ⊥) → false ≡ sameLetters l w
+same-false l w h = go (sameLetters l w) (λ t. h (same-equal l w t))
+  where
+    go : (b : Bool) → (T b → ⊥) → false ≡ b
+    go true h = absurd (h tt)
+    go false h = refl
+
+-- ---- looking up
+
+-- one word of the table after the other
+pub look-next : (ws : List (List ℕ)) (l : List ℕ) (k : ℕ) → k < length ws
+    → lookFrom k (drop k ws) l ≡ cond (sameLetters l (wordAt ws k)) (At k) (lookFrom (k + 1) (drop (k + 1) ws) l)
+unfolding lookFrom
+look-next ws l k h =
+    ap (λ (v : List (List ℕ)). lookFrom k v l) (drop-cons ws k [] h)
+    ∙ ap (λ (j : ℕ). cond (sameLetters l (wordAt ws k)) (At k) (lookFrom j (drop j ws) l)) (sym (add-one k))
+
+pub look-end : (ws : List (List ℕ)) (l : List ℕ) (k : ℕ) → length ws ≤ k → lookFrom k (drop k ws) l ≡ NotListed
+unfolding lookFrom
+look-end ws l k h = ap (λ (v : List (List ℕ)). lookFrom k v l) (drop-of-length-le ws h)
+
+-- what is found at k, counted from j, stands there
+hit : (b : Bool) (j k : ℕ) (later : Found) → cond b (At j) later ≡ At k → (T b × (j ≡ k)) ⊎ (later ≡ At k)
+hit true j k later e = inl (tt, cc)
+hit false j k later e = inr e
+
+found-from : (j : ℕ) (ws : List (List ℕ)) (l : List ℕ) (k : ℕ) → lookFrom j ws l ≡ At k
+    → (i : ℕ) × (k ≡ j + i) × (i < length ws) × (getD ws i [] ≡ l)
+unfolding lookFrom
+found-from j [] l k e = let z : _≡_ {A = ℕ} 0 1 = cc in absurd (omega arith)
+found-from j (w ∷ ws) l k e =
+    ⊎-elim
+    (λ h. (0, omega (arith, h .1), omega arith, sym (same-equal l w (h .0))))
+    (λ h. let r = found-from (suc j) ws l k h in (suc (r .0), omega (arith, r .1), suc-le-suc (r .2), r .3))
+    (hit (sameLetters l w) j k (lookFrom (suc j) ws l) e)
+
+pub found-word : (ws : List (List ℕ)) (l : List ℕ) (k : ℕ) → lookUp ws l ≡ At k → (k < length ws) × (wordAt ws k ≡ l)
+found-word ws l k e =
+    let r = found-from 0 ws l k e in
+    let q : k ≡ r .0 = omega (arith, r .1) in
+    (omega (arith, r .2), ap (λ (i : ℕ). getD ws i []) q ∙ r .3)
+
+-- a word of a table with distinct words is found at its own place
+absent-at : (l : List ℕ) (ws : List (List ℕ)) (i : ℕ) → T (absent l ws) → i < length ws → l ≡ getD ws i [] → ⊥
+unfolding absent
+absent-at l [] i t h e = not-suc-le-zero h
+absent-at l (w ∷ ws) zero t h e =
+    T-not (sameLetters l w) (and-l (not (sameLetters l w)) (absent l ws) t)
+    (subst (λ (v : List ℕ). T (sameLetters l v)) e (same-refl l))
+absent-at l (w ∷ ws) (suc i) t h e =
+    absent-at l ws i (and-r (not (sameLetters l w)) (absent l ws) t) (le-of-suc-le-suc h) e
+
+cond-true : {A : Type 0} (b : Bool) (x y : A) → T b → cond b x y ≡ x
+cond-true true x y t = refl
+cond-true false x y t = absurd t
+
+cond-false : {A : Type 0} (b : Bool) (x y : A) → (T b → ⊥) → cond b x y ≡ y
+cond-false true x y h = absurd (h tt)
+cond-false false x y h = refl
+
+own-from : (j : ℕ) (ws : List (List ℕ)) (i : ℕ) → T (distinct ws) → i < length ws → lookFrom j ws (getD ws i []) ≡ At (j + i)
+unfolding lookFrom distinct
+own-from j [] i t h = absurd (not-suc-le-zero h)
+own-from j (w ∷ ws) zero t h =
+    cond-true (sameLetters w w) (At j) (lookFrom (suc j) ws w) (same-refl w) ∙ ap At (sym (add-zero j))
+own-from j (w ∷ ws) (suc i) t h =
+    let v : List ℕ = getD ws i [] in
+    let k : i < length ws = le-of-suc-le-suc h in
+    cond-false (sameLetters v w) (At j) (lookFrom (suc j) ws v)
+    (λ s. absent-at w ws i (and-l (absent w ws) (distinct ws) t) k (sym (same-equal v w s)))
+    ∙ own-from (suc j) ws i (and-r (absent w ws) (distinct ws) t) k
+    ∙ ap At (suc-add j i ∙ sym (add-suc j i))
+
+pub own-place : (ws : List (List ℕ)) (k : ℕ) → T (distinct ws) → k < length ws → lookUp ws (wordAt ws k) ≡ At k
+own-place ws k t h = own-from 0 ws k t h ∙ ap At (omega arith)
+
+-- ---- the words of a well-formed table
+
+pub word-formed : (n : ℕ) (ws : List (List ℕ)) (k : ℕ) → T (wellFormed n ws) → T (lowerCase (wordAt ws k)) × (length (wordAt ws k) ≤ n)
+unfolding wellFormed
+word-formed n [] k t = (tt, omega arith)
+word-formed n (w ∷ ws) zero t =
+    let u = and-l (lowerCase w && leb (length w) n) (wellFormed n ws) t in
+    (and-l (lowerCase w) (leb (length w) n) u, leb→le (length w) n (and-r (lowerCase w) (leb (length w) n) u))
+word-formed n (w ∷ ws) (suc k) t = word-formed n ws k (and-r (lowerCase w && leb (length w) n) (wellFormed n ws) t)
+
+-- ---- the built-in table: three tests that are computed
+
+pub words-count : length words ≡ 38
+unfolding words table
+words-count = refl
+
+pub words-distinct : T (distinct words)
+unfolding words table distinct absent sameLetters
+words-distinct = tt
+
+pub words-formed : T (wellFormed 6 words)
+unfolding words table wellFormed
+words-formed = tt
+
+-- each kind's constant is the place of the word that it is called by: one computed test
+abbrev named : List (ℕ × String)
+named =
+    (word-plan, "plan")
+    ∷ (word-num, "num")
+    ∷ (word-arr, "arr")
+    ∷ (word-two, "two")
+    ∷ (word-in, "in")
+    ∷ (word-var, "var")
+    ∷ (word-lit, "lit")
+    ∷ (word-neg, "neg")
+    ∷ (word-add, "add")
+    ∷ (word-sub, "sub")
+    ∷ (word-mul, "mul")
+    ∷ (word-div, "div")
+    ∷ (word-min, "min")
+    ∷ (word-max, "max")
+    ∷ (word-mappar, "mappar")
+    ∷ (word-mapseq, "mapseq")
+    ∷ (word-redseq, "redseq")
+    ∷ (word-zip, "zip")
+    ∷ (word-pair, "pair")
+    ∷ (word-split, "split")
+    ∷ (word-join, "join")
+    ∷ (word-fst, "fst")
+    ∷ (word-snd, "snd")
+    ∷ (word-idx, "idx")
+    ∷ (word-loops, "loops")
+    ∷ (word-cells, "cells")
+    ∷ (word-set, "set")
+    ∷ (word-seq, "seq")
+    ∷ (word-for, "for")
+    ∷ (word-par, "par")
+    ∷ (word-new, "new")
+    ∷ (word-out, "out")
+    ∷ (word-loc, "loc")
+    ∷ (word-ctr, "ctr")
+    ∷ (word-plus, "plus")
+    ∷ (word-times, "times")
+    ∷ (word-over, "over")
+    ∷ (word-rest, "rest")
+    ∷ []
+
+kinds-named : map (λ (n : ℕ × String). wordAt words (n .0)) named ≡ map (λ (n : ℕ × String). bytes (n .1)) named
+unfolding words table
+kinds-named = refl

@@ -1,0 +1,152 @@
+-- The table of words: document 01, 'Lines', "All 38 words stand in one table with sort and operand count". Definitions only;
+-- assumes nothing.
+use mathlib.Core.Bool.{Bool, true, false, not, cond, _&&_}
+use mathlib.Core.List.{List, [], _∷_, _++_, map}
+use Prim.Native.Nat.{ℕ, suc, _+_}
+use Prim.Native.Char.{code}
+use Prim.Native.String.{String, [] as none, _∷_ as _before_}
+use lib.Dec.{eqb, leb}
+use lib.ListN.{length, getD, take}
+use Rattle.words.specs.declared.Sort.{Sort}
+use Rattle.words.specs.declared.Sort.the-variants.{Plan, DataType, Term, Loops, Cells, Command, Place, Value, Offset}
+use Rattle.words.specs.declared.Found.{Found}
+use Rattle.words.specs.declared.Found.the-variants.{At, NotListed}
+use Rattle.words.specs.declared.Operands.{Operands}
+use Rattle.words.specs.declared.Operands.the-variants.{Count, NotOfSort}
+
+-- the bytes of a text
+abbrev pub bytes : String → List ℕ
+bytes none = []
+bytes (c before s) = code c ∷ bytes s
+
+-- A word: its letters, and for each sort of which it makes rows the count of their operands.
+pub record Entry : Type 0 where
+  pub letters : List ℕ
+  pub uses : List (Sort × ℕ)
+
+abbrev pub entry : String → List (Sort × ℕ) → Entry
+entry w us = record { letters = bytes w; uses = us }
+
+-- In document 01's order of mention: plan, types, terms, then the words of loops that are new. The operands of `plan` and
+-- `loops` stand behind the inputs that their number counts: a term; the output's `cells` and a command.
+unfoldable pub table : List Entry
+table =
+    entry "plan" ((Plan, 1) ∷ [])
+    ∷ entry "num" ((DataType, 0) ∷ [])
+    ∷ entry "arr" ((DataType, 1) ∷ [])
+    ∷ entry "two" ((DataType, 2) ∷ [])
+    ∷ entry "in" ((Term, 0) ∷ (Value, 1) ∷ [])
+    ∷ entry "var" ((Term, 0) ∷ [])
+    ∷ entry "lit" ((Term, 0) ∷ (Value, 0) ∷ (Offset, 0) ∷ [])
+    ∷ entry "neg" ((Term, 1) ∷ (Value, 1) ∷ [])
+    ∷ entry "add" ((Term, 2) ∷ (Value, 2) ∷ [])
+    ∷ entry "sub" ((Term, 2) ∷ (Value, 2) ∷ [])
+    ∷ entry "mul" ((Term, 2) ∷ (Value, 2) ∷ [])
+    ∷ entry "div" ((Term, 2) ∷ (Value, 2) ∷ [])
+    ∷ entry "min" ((Term, 2) ∷ (Value, 2) ∷ [])
+    ∷ entry "max" ((Term, 2) ∷ (Value, 2) ∷ [])
+    ∷ entry "mappar" ((Term, 2) ∷ [])
+    ∷ entry "mapseq" ((Term, 2) ∷ [])
+    ∷ entry "redseq" ((Term, 3) ∷ [])
+    ∷ entry "zip" ((Term, 2) ∷ [])
+    ∷ entry "pair" ((Term, 2) ∷ [])
+    ∷ entry "split" ((Term, 1) ∷ [])
+    ∷ entry "join" ((Term, 1) ∷ [])
+    ∷ entry "fst" ((Term, 1) ∷ [])
+    ∷ entry "snd" ((Term, 1) ∷ [])
+    ∷ entry "idx" ((Term, 1) ∷ [])
+    ∷ entry "loops" ((Loops, 2) ∷ [])
+    ∷ entry "cells" ((Cells, 0) ∷ [])
+    ∷ entry "set" ((Command, 2) ∷ [])
+    ∷ entry "seq" ((Command, 2) ∷ [])
+    ∷ entry "for" ((Command, 1) ∷ [])
+    ∷ entry "par" ((Command, 1) ∷ [])
+    ∷ entry "new" ((Command, 1) ∷ [])
+    ∷ entry "out" ((Place, 1) ∷ [])
+    ∷ entry "loc" ((Place, 1) ∷ (Value, 1) ∷ [])
+    ∷ entry "ctr" ((Offset, 0) ∷ [])
+    ∷ entry "plus" ((Offset, 2) ∷ [])
+    ∷ entry "times" ((Offset, 1) ∷ [])
+    ∷ entry "over" ((Offset, 1) ∷ [])
+    ∷ entry "rest" ((Offset, 1) ∷ [])
+    ∷ []
+
+-- the letters alone: another table of words may stand in their place
+unfoldable pub words : List (List ℕ)
+words = map (λ (e : Entry). e .letters) table
+
+-- the word at a place of a table, with no letters past its end
+abbrev pub wordAt : List (List ℕ) → ℕ → List ℕ
+wordAt ws k = getD ws k []
+
+unfoldable pub sameLetters : List ℕ → List ℕ → Bool
+sameLetters [] [] = true
+sameLetters [] (w ∷ ws) = false
+sameLetters (l ∷ ls) [] = false
+sameLetters (l ∷ ls) (w ∷ ws) = eqb l w && sameLetters ls ws
+
+-- the first place, counted from k, at which a table has the word
+unfoldable pub lookFrom : ℕ → List (List ℕ) → List ℕ → Found
+lookFrom k [] l = NotListed
+lookFrom k (w ∷ ws) l = cond (sameLetters l w) (At k) (lookFrom (suc k) ws l)
+
+abbrev pub lookUp : List (List ℕ) → List ℕ → Found
+lookUp ws l = lookFrom 0 ws l
+
+-- no two places of a table have the same word
+unfoldable pub absent : List ℕ → List (List ℕ) → Bool
+absent l [] = true
+absent l (w ∷ ws) = not (sameLetters l w) && absent l ws
+
+unfoldable pub distinct : List (List ℕ) → Bool
+distinct [] = true
+distinct (w ∷ ws) = absent w ws && distinct ws
+
+-- "Words are lower case."
+abbrev pub lowerCase : List ℕ → Bool
+lowerCase [] = true
+lowerCase (b ∷ bs) = leb 97 b && leb b 122 && lowerCase bs
+
+-- every word of a table is lower case and has at most n letters
+unfoldable pub wellFormed : ℕ → List (List ℕ) → Bool
+wellFormed n [] = true
+wellFormed n (w ∷ ws) = lowerCase w && leb (length w) n && wellFormed n ws
+
+-- the sorts in document 01's order
+abbrev pub columnOf : Sort → ℕ
+columnOf Plan = 0
+columnOf DataType = 1
+columnOf Term = 2
+columnOf Loops = 3
+columnOf Cells = 4
+columnOf Command = 5
+columnOf Place = 6
+columnOf Value = 7
+columnOf Offset = 8
+
+-- the operands of a row of sort s, of a word with these uses
+abbrev pub operandsAs : Sort → List (Sort × ℕ) → Operands
+operandsAs s [] = NotOfSort
+operandsAs s (u ∷ us) = cond (eqb (columnOf s) (columnOf (u .0))) (Count (u .1)) (operandsAs s us)
+
+-- the entry of kind k; past the table's end one with no letters and no use
+abbrev pub entryAt : ℕ → Entry
+entryAt k = getD table k (entry "" [])
+
+-- the operands of a row of kind k as a row of sort s
+unfoldable pub operandsOf : ℕ → Sort → Operands
+operandsOf k s = operandsAs s (entryAt k .uses)
+
+-- ---- an entry as the code's table holds it: letters and blanks, their count, and a column for each sort, in bytes
+
+abbrev pub columnFor : Operands → ℕ
+columnFor (Count n) = 48 + n
+columnFor NotOfSort = 45
+
+abbrev pub sorts : List Sort
+sorts = Plan ∷ DataType ∷ Term ∷ Loops ∷ Cells ∷ Command ∷ Place ∷ Value ∷ Offset ∷ []
+
+unfoldable pub packed : Entry → List ℕ
+packed e =
+    take 6 (e .letters ++ bytes "      ")
+    ++ (32 ∷ (48 + length (e .letters)) ∷ 32 ∷ map (λ (s : Sort). columnFor (operandsAs s (e .uses))) sorts)

@@ -1,0 +1,174 @@
+// The words of plans and loops: one table, and looking a word up in it.
+ghost use mathlib.Core.Path.{_≡_};
+ghost use Prim.Native.Nat.{_-_, _≤_, _<_};
+ghost use lib.ListN.{length, getD};
+ghost use Rattle.words.specs.Words.{words, wordAt, entryAt, packed, sameLetters, lookUp, columnOf, operandsOf};
+
+// The sorts of rows.
+pub enum Sort {
+    Plan,
+    DataType,
+    Term,
+    Loops,
+    Cells,
+    Command,
+    Place,
+    Value,
+    Offset,
+}
+
+// Where a word stands in the table.
+pub enum Found {
+    At(usize),
+    NotListed,
+}
+
+// How many operands a row has; or its word makes no row of the sort asked for.
+pub enum Operands {
+    Count(usize),
+    NotOfSort,
+}
+
+// A row for each word: its letters, how many they are, and its operands as a row of each sort, '-' where it makes none:
+// plan, type, term, loops, cells, command, place, value, offset. The operands of `plan` and `loops` stand behind the
+// inputs that their number counts.
+const WORDS: [[u8; 18]; 38] = [
+    *b"plan   4 1--------",
+    *b"num    3 -0-------",
+    *b"arr    3 -1-------",
+    *b"two    3 -2-------",
+    *b"in     2 --0----1-",
+    *b"var    3 --0------",
+    *b"lit    3 --0----00",
+    *b"neg    3 --1----1-",
+    *b"add    3 --2----2-",
+    *b"sub    3 --2----2-",
+    *b"mul    3 --2----2-",
+    *b"div    3 --2----2-",
+    *b"min    3 --2----2-",
+    *b"max    3 --2----2-",
+    *b"mappar 6 --2------",
+    *b"mapseq 6 --2------",
+    *b"redseq 6 --3------",
+    *b"zip    3 --2------",
+    *b"pair   4 --2------",
+    *b"split  5 --1------",
+    *b"join   4 --1------",
+    *b"fst    3 --1------",
+    *b"snd    3 --1------",
+    *b"idx    3 --1------",
+    *b"loops  5 ---2-----",
+    *b"cells  5 ----0----",
+    *b"set    3 -----2---",
+    *b"seq    3 -----2---",
+    *b"for    3 -----1---",
+    *b"par    3 -----1---",
+    *b"new    3 -----1---",
+    *b"out    3 ------1--",
+    *b"loc    3 ------11-",
+    *b"ctr    3 --------0",
+    *b"plus   4 --------2",
+    *b"times  5 --------1",
+    *b"over   4 --------1",
+    *b"rest   4 --------1",
+];
+
+// The column of a sort.
+fn column(sort: Sort) -> usize
+    ensures { λ r. ⌜ (r ≡ columnOf sort) × (r < 9) ⌝ }
+{
+    match sort {
+        Sort::Plan => 0,
+        Sort::DataType => 1,
+        Sort::Term => 2,
+        Sort::Loops => 3,
+        Sort::Cells => 4,
+        Sort::Command => 5,
+        Sort::Place => 6,
+        Sort::Value => 7,
+        Sort::Offset => 8,
+    }
+}
+
+// The row of the word of this kind; one with no letters where the kind is no word's.
+fn word_at(kind: u8) -> [u8; 18]
+    ensures { λ r. ⌜ r ≡ packed (entryAt kind) ⌝ }
+{
+    let at = kind as usize;
+    if 38 <= at {
+        return *b"       0 ---------";
+    }
+    WORDS[at]
+}
+
+// The number that a digit stands for.
+fn digit(byte: u8) -> usize
+    requires { ⌜ 48 ≤ byte ⌝ }
+    ensures { λ r. ⌜ r ≡ byte - 48 ⌝ }
+{
+    (byte - b'0') as usize
+}
+
+// The operands of a row of this kind, as a row of this sort.
+pub fn operand_count(kind: u8, sort: Sort) -> Operands
+    ensures { λ r. ⌜ r ≡ operandsOf kind sort ⌝ }
+{
+    let word = word_at(kind);
+    let count = word[9 + column(sort)];
+    if count == b'-' {
+        return Operands::NotOfSort;
+    }
+    Operands::Count(digit(count))
+}
+
+// How many letters the word of this kind has.
+pub fn length(kind: u8) -> usize
+    ensures { λ r. ⌜ (r ≡ length (wordAt words kind)) × (r ≤ 6) ⌝ }
+{
+    let word = word_at(kind);
+    digit(word[7])
+}
+
+// Letter i of the word of this kind; 0 past its end.
+pub fn letter(kind: u8, i: usize) -> u8
+    ensures { λ r. ⌜ r ≡ getD (wordAt words kind) i 0 ⌝ }
+{
+    if length(kind) <= i {
+        return 0;
+    }
+    let word = word_at(kind);
+    word[i]
+}
+
+// Whether these are the letters of the word of this kind.
+fn same(letters: &[u8], kind: u8) -> bool
+    ensures { λ r. ⌜ r ≡ sameLetters (now (letters .entry)) (wordAt words kind) ⌝ }
+{
+    let n = length(kind);
+    if letters.len() != n {
+        return false;
+    }
+    let word = word_at(kind);
+    let mut i = 0;
+    while i < n {
+        if letters[i] != word[i] {
+            return false;
+        }
+        i += 1;
+    }
+    true
+}
+
+// Where the word with these letters stands.
+pub fn look_up(letters: &[u8]) -> Found
+    ensures { λ r. ⌜ r ≡ lookUp words (now (letters .entry)) ⌝ }
+{
+    let mut kind: u8 = 0;
+    while kind < 38 {
+        if same(letters, kind) {
+            return Found::At(kind as usize);
+        }
+        kind += 1;
+    }
+    Found::NotListed
+}
