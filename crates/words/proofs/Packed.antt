@@ -6,7 +6,8 @@ use native.Mathlib.Nat.{le-of-suc-le-suc, not-suc-le-zero}
 use native.Mathlib.Omega.{arith}
 use lib.ListN.{length, getD, take, length-append, List·getD-map, List·getD-eq-default, List·getD-append}
 use lib.Seq.{getD-take, getD-append-add, length-take-le}
-use Rattle.words.specs.Words.{Entry, entry, table, words, wordAt, entryAt, packed, bytes, columnOf, columnFor, sorts, operandsAs, operandsOf}
+use Rattle.words.specs.Packed.{packed, columnFor, sorts}
+use Rattle.words.specs.Words.{Entry, entry, table, words, wordAt, entryAt, bytes, columnOf, operandsAs, operandsOf}
 use Rattle.words.specs.Laws.{word-formed, words-formed}
 use Rattle.words.specs.declared.Sort.{Sort}
 use Rattle.words.specs.declared.Sort.the-variants.{Plan, DataType, Term, Loops, Cells, Command, Place, Value, Offset}

@@ -1,19 +1,20 @@
--- Laws of the table of words. Those of looking up hold for every table whose words are distinct. Assumes nothing.
+-- Laws of the table of words and of rows. Those of looking up hold for every table whose words are distinct. Assumes nothing.
 use mathlib.Core.Path.{_≡_, refl, sym, ap, ap₂, _∙_, subst}
 use mathlib.Core.Bool.{Bool, true, false, not, cond, _&&_}
 use mathlib.Core.List.{List, [], _∷_, map}
 use Prim.Native.String.{String}
 use mathlib.Core.Logic.{_⊎_, inl, inr, ⊎-elim}
-use Prim.Native.Nat.{ℕ, zero, suc, _+_, _≤_, _<_, suc-le-suc}
-use native.Mathlib.Nat.{add-zero, add-suc, suc-add, le-of-suc-le-suc, not-suc-le-zero}
+use Prim.Native.Nat.{ℕ, zero, suc, _+_, _≤_, _<_, min, suc-le-suc}
+use lib.IntN.{ℤ, pos}
+use native.Mathlib.Nat.{zero-min, min-zero, suc-min-suc, add-zero, add-suc, suc-add, le-of-suc-le-suc, not-suc-le-zero}
 use native.Mathlib.Numerals.{add-one}
 use native.Mathlib.Omega.{arith}
 use lib.Dec.{T, T-not, eqb, leb, eqb→eq, eqb-refl, leb→le}
 use lib.Ieee.Fits.{and-i, and-l, and-r}
 use lib.ListN.{length, getD, drop, drop-of-length-le}
 use lib.Seq.{drop-cons}
-use Rattle.words.specs.Kinds.{word-plan, word-num, word-arr, word-two, word-in, word-var, word-lit, word-neg, word-add, word-sub, word-mul, word-div, word-min, word-max, word-mappar, word-mapseq, word-redseq, word-zip, word-pair, word-split, word-join, word-fst, word-snd, word-idx, word-loops, word-cells, word-set, word-seq, word-for, word-par, word-new, word-out, word-loc, word-ctr, word-plus, word-times, word-over, word-rest}
-use Rattle.words.specs.Words.{bytes, table, words, wordAt, sameLetters, lookFrom, lookUp, absent, distinct, lowerCase, wellFormed}
+use Rattle.words.specs.Kinds.{Row, rowsOf, word-plan, word-num, word-arr, word-two, word-in, word-var, word-lit, word-neg, word-add, word-sub, word-mul, word-div, word-min, word-max, word-mappar, word-mapseq, word-redseq, word-zip, word-pair, word-split, word-join, word-fst, word-snd, word-idx, word-loops, word-cells, word-set, word-seq, word-for, word-par, word-new, word-out, word-loc, word-ctr, word-plus, word-times, word-over, word-rest}
+use Rattle.words.specs.Words.{bytes, table, words, wordAt, sameLetters, lookFrom, lookUp}
 use Rattle.words.specs.declared.Found.{Found}
 use Rattle.words.specs.declared.Found.the-variants.{At, NotListed}
 
@@ -45,6 +46,27 @@ same-false l w h = go (sameLetters l w) (λ t. h (same-equal l w t))
     go : (b : Bool) → (T b → ⊥) → false ≡ b
     go true h = absurd (h tt)
     go false h = refl
+
+-- ---- tests of a table, to be computed
+
+-- no two places of a table have the same word
+unfoldable pub absent : List ℕ → List (List ℕ) → Bool
+absent l [] = true
+absent l (w ∷ ws) = not (sameLetters l w) && absent l ws
+
+unfoldable pub distinct : List (List ℕ) → Bool
+distinct [] = true
+distinct (w ∷ ws) = absent w ws && distinct ws
+
+-- "Words are lower case."
+abbrev pub lowerCase : List ℕ → Bool
+lowerCase [] = true
+lowerCase (b ∷ bs) = leb 97 b && leb b 122 && lowerCase bs
+
+-- every word of a table is lower case and has at most n letters
+unfoldable pub wellFormed : ℕ → List (List ℕ) → Bool
+wellFormed n [] = true
+wellFormed n (w ∷ ws) = lowerCase w && leb (length w) n && wellFormed n ws
 
 -- ---- looking up
 
@@ -138,6 +160,22 @@ words-distinct = tt
 pub words-formed : T (wellFormed 6 words)
 unfolding words table wellFormed
 words-formed = tt
+
+-- ---- the rows of a table that is lent as kinds and numbers
+
+pub rows-length : (ks : List ℕ) (ns : List ℤ) → length (rowsOf ks ns) ≡ min (length ks) (length ns)
+unfolding rowsOf
+rows-length [] ns = sym (zero-min (length ns))
+rows-length (k ∷ ks) [] = sym (min-zero (suc (length ks)))
+rows-length (k ∷ ks) (n ∷ ns) = ap suc (rows-length ks ns) ∙ sym (suc-min-suc (length ks) (length ns))
+
+pub rows-at : (ks : List ℕ) (ns : List ℤ) (i : ℕ) (d : Row) → i < length ks → i < length ns
+    → getD (rowsOf ks ns) i d ≡ (getD ks i 0, getD ns i (pos 0))
+unfolding rowsOf
+rows-at [] ns i d h g = absurd (not-suc-le-zero h)
+rows-at (k ∷ ks) [] i d h g = absurd (not-suc-le-zero g)
+rows-at (k ∷ ks) (n ∷ ns) zero d h g = refl
+rows-at (k ∷ ks) (n ∷ ns) (suc i) d h g = rows-at ks ns i d (le-of-suc-le-suc h) (le-of-suc-le-suc g)
 
 -- each kind's constant is the place of the word that it is called by: one computed test
 abbrev named : List (ℕ × String)

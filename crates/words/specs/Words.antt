@@ -1,12 +1,12 @@
 -- The table of words: document 01, 'Lines', "All 38 words stand in one table with sort and operand count". Definitions only;
 -- assumes nothing.
-use mathlib.Core.Bool.{Bool, true, false, not, cond, _&&_}
-use mathlib.Core.List.{List, [], _∷_, _++_, map}
-use Prim.Native.Nat.{ℕ, suc, _+_}
+use mathlib.Core.Bool.{Bool, true, false, cond, _&&_}
+use mathlib.Core.List.{List, [], _∷_, map}
+use Prim.Native.Nat.{ℕ, suc}
 use Prim.Native.Char.{code}
 use Prim.Native.String.{String, [] as none, _∷_ as _before_}
-use lib.Dec.{eqb, leb}
-use lib.ListN.{length, getD, take}
+use lib.Dec.{eqb}
+use lib.ListN.{getD}
 use Rattle.words.specs.declared.Sort.{Sort}
 use Rattle.words.specs.declared.Sort.the-variants.{Plan, DataType, Term, Loops, Cells, Command, Place, Value, Offset}
 use Rattle.words.specs.declared.Found.{Found}
@@ -93,25 +93,6 @@ lookFrom k (w ∷ ws) l = cond (sameLetters l w) (At k) (lookFrom (suc k) ws l)
 abbrev pub lookUp : List (List ℕ) → List ℕ → Found
 lookUp ws l = lookFrom 0 ws l
 
--- no two places of a table have the same word
-unfoldable pub absent : List ℕ → List (List ℕ) → Bool
-absent l [] = true
-absent l (w ∷ ws) = not (sameLetters l w) && absent l ws
-
-unfoldable pub distinct : List (List ℕ) → Bool
-distinct [] = true
-distinct (w ∷ ws) = absent w ws && distinct ws
-
--- "Words are lower case."
-abbrev pub lowerCase : List ℕ → Bool
-lowerCase [] = true
-lowerCase (b ∷ bs) = leb 97 b && leb b 122 && lowerCase bs
-
--- every word of a table is lower case and has at most n letters
-unfoldable pub wellFormed : ℕ → List (List ℕ) → Bool
-wellFormed n [] = true
-wellFormed n (w ∷ ws) = lowerCase w && leb (length w) n && wellFormed n ws
-
 -- the sorts in document 01's order
 abbrev pub columnOf : Sort → ℕ
 columnOf Plan = 0
@@ -136,17 +117,3 @@ entryAt k = getD table k (entry "" [])
 -- the operands of a row of kind k as a row of sort s
 unfoldable pub operandsOf : ℕ → Sort → Operands
 operandsOf k s = operandsAs s (entryAt k .uses)
-
--- ---- an entry as the code's table holds it: letters and blanks, their count, and a column for each sort, in bytes
-
-abbrev pub columnFor : Operands → ℕ
-columnFor (Count n) = 48 + n
-columnFor NotOfSort = 45
-
-abbrev pub sorts : List Sort
-sorts = Plan ∷ DataType ∷ Term ∷ Loops ∷ Cells ∷ Command ∷ Place ∷ Value ∷ Offset ∷ []
-
-unfoldable pub packed : Entry → List ℕ
-packed e =
-    take 6 (e .letters ++ bytes "      ")
-    ++ (32 ∷ (48 + length (e .letters)) ∷ 32 ∷ map (λ (s : Sort). columnFor (operandsAs s (e .uses))) sorts)

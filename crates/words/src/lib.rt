@@ -2,7 +2,8 @@
 ghost use mathlib.Core.Path.{_≡_};
 ghost use Prim.Native.Nat.{_-_, _≤_, _<_};
 ghost use lib.ListN.{length, getD};
-ghost use Rattle.words.specs.Words.{words, wordAt, entryAt, packed, sameLetters, lookUp, columnOf, operandsOf};
+ghost use Rattle.words.specs.Packed.{packed};
+ghost use Rattle.words.specs.Words.{words, wordAt, entryAt, sameLetters, lookUp, columnOf, operandsOf};
 
 // The sorts of rows.
 pub enum Sort {

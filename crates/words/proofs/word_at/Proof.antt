@@ -1,6 +1,7 @@
 -- `words::word_at` meets its contract: the code's table, computed, is the table of words, packed.
 use borrow.Author.Needs.{needs}
-use Rattle.words.specs.Words.{packed, table}
+use Rattle.words.specs.Packed.{packed}
+use Rattle.words.specs.Words.{table}
 use Rattle.words.proofs.Packed.{past-table, in-table}
 use Rattle.words.proofs.word_at.Statement.{statement}
 use Rattle.words.proofs.word_at.Tie as tie

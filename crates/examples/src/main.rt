@@ -1,0 +1,108 @@
+// Runs the worked examples of document 01's readings: file NNN.plan or NNN.loops holds the text of example NNN. For each, its
+// answer is printed: the rows read and whether they print back to the same text, or the refusal's number and line.
+use libc::STDOUT_FILENO;
+use lines::Printing;
+use lines::Reading;
+
+fn main() {
+    let mut example: u8 = 0;
+    while example < 210 {
+        run_plan(example);
+        run_loops(example);
+        example += 1;
+    }
+}
+
+// A digit of an example's number, from the left.
+fn digit(example: u8, place: u8) -> u8 {
+    if place == 0 {
+        return b'0' + example / 100;
+    }
+    if place == 1 {
+        return b'0' + example / 10 % 10;
+    }
+    b'0' + example % 10
+}
+
+// Reads a plan's example, if there is one of this number.
+fn run_plan(example: u8) {
+    let mut path = *b"000.plan";
+    path[0] = digit(example, 0);
+    path[1] = digit(example, 1);
+    path[2] = digit(example, 2);
+    let file = os::open_read(&path);
+    if file < 0 {
+        return;
+    }
+    let mut text = [0u8; 4097];
+    let size = io::read_full(file, &mut text);
+    libc::close(file);
+    let mut kinds = [0u8; 256];
+    let mut numbers = [0i32; 256];
+    let answer = lines::read_plan(&text[..size], &mut kinds, &mut numbers);
+    show(example, answer, &text[..size], &kinds, &numbers);
+}
+
+// Reads an example of loops, if there is one of this number.
+fn run_loops(example: u8) {
+    let mut path = *b"000.loops";
+    path[0] = digit(example, 0);
+    path[1] = digit(example, 1);
+    path[2] = digit(example, 2);
+    let file = os::open_read(&path);
+    if file < 0 {
+        return;
+    }
+    let mut text = [0u8; 65537];
+    let size = io::read_full(file, &mut text);
+    libc::close(file);
+    let mut kinds = [0u8; 4096];
+    let mut numbers = [0i32; 4096];
+    let answer = lines::read_loops(&text[..size], &mut kinds, &mut numbers);
+    show(example, answer, &text[..size], &kinds, &numbers);
+}
+
+// One line: the example, its answer, and for rows whether they print back.
+fn show(example: u8, answer: Reading, text: &[u8], kinds: &[u8], numbers: &[i32]) {
+    io::print_decimal(STDOUT_FILENO, example as u64);
+    match answer {
+        Reading::Rows(rows) => {
+            io::write_all(STDOUT_FILENO, b" rows,");
+            io::print_decimal(STDOUT_FILENO, rows as u64);
+            if prints_back(rows, text, kinds, numbers) {
+                io::write_all(STDOUT_FILENO, b" and back");
+            }
+        }
+        Reading::Refused(refusal) => {
+            io::write_all(STDOUT_FILENO, b" no,");
+            io::print_decimal(STDOUT_FILENO, refusals::number(refusal) as u64);
+            io::write_all(STDOUT_FILENO, b",");
+            io::print_decimal(STDOUT_FILENO, refusals::line(refusal) as u64);
+        }
+    }
+    io::write_all(STDOUT_FILENO, b"\n");
+}
+
+// Whether the rows, printed, are the text.
+fn prints_back(rows: usize, text: &[u8], kinds: &[u8], numbers: &[i32]) -> bool {
+    if kinds.len() < rows {
+        return false;
+    }
+    if numbers.len() < rows {
+        return false;
+    }
+    let mut back = [0u8; 65536];
+    let printed = lines::print(&kinds[..rows], &numbers[..rows], &mut back);
+    let Printing::Bytes(size) = printed else {
+        return false;
+    };
+    begins(&back, size, text)
+}
+
+// Whether the first bytes are the text.
+fn begins(bytes: &[u8], size: usize, text: &[u8]) -> bool {
+    if bytes.len() < size {
+        return false;
+    }
+    check::same(&bytes[..size], text)
+}

@@ -1,0 +1,41 @@
+-- `print` meets its contract: the text is put only where it fits.
+use borrow.Author.Needs.{needs}
+use Rattle.words.specs.Kinds.{rowsOf}
+use Rattle.words.specs.Words.{words}
+use Rattle.lines.specs.Printing.{textOf}
+use Rattle.lines.proofs.Sizes.{bytes-fit, unprinted, printed}
+use Rattle.lines.proofs.print.Statement.{statement}
+use Rattle.lines.proofs.print.Tie as tie
+
+text-size-requires : tie.Need-text-size-requires
+text-size-requires c κs = search needs
+
+enum-told : tie.Need-enum-told
+enum-told c = search needs
+
+enum-told-2 : tie.Need-enum-told-2
+enum-told-2 c = search needs
+
+returns : tie.Need-returns
+returns c = record { answer = c .before .before .text-size .ensures; text-left = unprinted (textOf words (rowsOf (c .before .before .before .before .before .args .kinds .now) (c .before .before .before .before .before .args .numbers .now))) (c .before .before .before .before .before .args .text .now) (c .before .before .text-size .ensures) (c .enum-told2 .given .1) }
+
+put-text-requires : tie.Need-put-text-requires
+put-text-requires c κs = bytes-fit (textOf words (rowsOf (c .before .before .before .before .before .before .args .kinds .now) (c .before .before .before .before .before .before .args .numbers .now))) (c .before .before .before .before .before .before .args .text .now) (c .before .before .before .text-size .ensures) (c .before .enum-told .given .1)
+
+same-length : tie.Need-same-length
+same-length c = search needs
+
+returns-2 : tie.Need-returns-2
+returns-2 c = record { answer = c .before .before .before .before .before .before .text-size .ensures; text-left = printed (textOf words (rowsOf (c .before .before .before .before .before .before .before .before .before .args .kinds .now) (c .before .before .before .before .before .before .before .before .before .args .numbers .now))) (c .before .before .before .before .before .before .before .before .before .args .text .now) (c .before .before .before .before .before .before .text-size .ensures) (c .before .before .before .before .enum-told .given .1) (c .before .before .put-text .ensures) }
+
+pub print-spec : {M : Type 1} → statement M
+print-spec =
+    tie.close
+    (tie.spec
+    text-size-requires
+    enum-told
+    enum-told-2
+    returns
+    put-text-requires
+    same-length
+    returns-2)

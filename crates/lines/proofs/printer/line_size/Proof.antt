@@ -1,0 +1,35 @@
+-- `line_size` meets its contract: a line is a word, a comma, a number and byte 10.
+use mathlib.Core.Path.{ap, _∙_}
+use lib.IntN.{ℤ}
+use mir.Facts.{toZ-ofZ}
+use native.Mathlib.Omega.{arith}
+use lib.ListN.{length}
+use borrow.Author.Needs.{needs}
+use Rattle.words.specs.Words.{words}
+use Rattle.numerals.specs.Numerals.{decimal}
+use Rattle.lines.specs.Laws.{line-length}
+use Rattle.lines.proofs.printer.line_size.Statement.{statement}
+use Rattle.lines.proofs.printer.line_size.Tie as tie
+
+length-requires : tie.Need-length-requires
+length-requires c κs = search needs
+
+add-result : tie.Need-add-result
+add-result c = search needs
+
+size-requires : tie.Need-size-requires
+size-requires c κs = search needs
+
+add-result-2 : tie.Need-add-result-2
+add-result-2 c = search needs
+
+add-result-3 : tie.Need-add-result-3
+add-result-3 c = search needs
+
+returns : tie.Need-returns
+returns c = let same = c .size .ensures .0 ∙ ap (λ (z : ℤ). length (decimal z)) (toZ-ofZ (c .before .before .fits .number)) in
+    (omega (arith, same, c .before .length .ensures .0, line-length words (c .before .before .args .kind, c .before .before .args .number)), omega (arith, c .size .ensures .1, c .before .length .ensures .1))
+
+pub line-size-spec : {M : Type 1} → statement M
+line-size-spec =
+    tie.close (tie.spec length-requires add-result size-requires add-result-2 add-result-3 returns)

@@ -1,0 +1,77 @@
+-- `put_text` meets its contract. The loop's invariant: what is stored and the lines still to come make up the text.
+use mathlib.Core.Path.{_≡_, refl, sym, ap, _∙_}
+use Prim.Native.Nat.{_+_, _-_, _≤_}
+use lib.IntN.{ℤ, pos}
+use lib.ListN.{getD, drop, length}
+use lib.Seq.{sets, length-sets}
+use borrow.Author.Needs.{needs}
+use native.Mathlib.Omega.{arith}
+use Rattle.words.specs.Kinds.{rowsOf}
+use Rattle.words.specs.Words.{words}
+use Rattle.lines.specs.Printing.{written, textOf}
+use Rattle.lines.proofs.Sizes.{text-put, size-from, text-end}
+use Rattle.lines.proofs.Stores.{held}
+use Rattle.lines.proofs.printer.put_text.Statement.{statement}
+use Rattle.lines.proofs.printer.put_text.Tie as tie
+
+abbrev Inv-loop : tie.InvT-loop
+Inv-loop kinds numbers text₀ rows at₀ i₀ text at i =
+    (i ≤ rows) × (length text ≡ length text₀)
+    × (at + length (textOf words (drop i (rowsOf kinds numbers))) ≤ length text₀)
+    × (sets text at (textOf words (drop i (rowsOf kinds numbers))) ≡ sets text₀ 0 (textOf words (rowsOf kinds numbers)))
+
+abbrev μ-loop : tie.MeasureT-loop
+μ-loop kinds numbers text₀ rows at₀ i₀ text at i = rows - i
+
+rows-of-requires : tie.Need-rows-of-requires Inv-loop μ-loop
+rows-of-requires c κs = search needs
+
+loop-holds : tie.Need-loop-holds Inv-loop μ-loop
+loop-holds c = (search needs, refl, omega (arith, c .before .before .before .pre), refl)
+
+shared-slice-read-put-line : tie.Need-shared-slice-read-put-line Inv-loop μ-loop
+shared-slice-read-put-line c = search needs
+
+mul-put-line : tie.Need-mul-put-line Inv-loop μ-loop
+mul-put-line c = search needs
+
+shared-slice-copy-out-put-line : tie.Need-shared-slice-copy-out-put-line Inv-loop μ-loop
+shared-slice-copy-out-put-line c = search needs
+
+put-line-requires : tie.Need-put-line-requires Inv-loop μ-loop
+put-line-requires c κs = omega (arith, c .before .before .before .before .loop .inv .1, c .before .before .before .before .loop .inv .2)
+
+add-i : tie.Need-add-i Inv-loop μ-loop
+add-i c = search needs
+
+loop-less : tie.Need-loop-less Inv-loop μ-loop
+loop-less c = search needs
+
+loop-again : tie.Need-loop-again Inv-loop μ-loop
+loop-again c = let line = ap (λ (z : ℤ). written words (getD (c .before .before .before .before .before .before .before .before .before .before .before .args .kinds .now) (c .before .before .before .before .before .before .before .loop .i) 0, z)) (held (getD (c .before .before .before .before .before .before .before .before .before .before .before .args .numbers .now) (c .before .before .before .before .before .before .before .loop .i) (pos 0)) (c .before .before .before .before .put-line-arg .given)) in
+    let left = size-from words (c .before .before .before .before .before .before .before .before .before .before .before .args .kinds .now) (c .before .before .before .before .before .before .before .before .before .before .before .args .numbers .now) (c .before .before .before .before .before .before .before .loop .i) (omega (arith, c .before .before .before .before .before .before .before .before .rows-of .ensures .0, c .before .before .before .before .before .before .loop-test .taken)) in
+    (search needs, ap length (c .before .before .put-line .ensures .1) ∙ simp length-sets (c .before .before .before .before .before .before .before .loop .inv .1), omega (arith, c .before .before .before .before .before .before .before .loop .inv .2, left, c .before .before .put-line .ensures .0, ap length line), text-put words (c .before .before .before .before .before .before .before .before .before .before .before .args .kinds .now) (c .before .before .before .before .before .before .before .before .before .before .before .args .numbers .now) (c .before .before .before .before .before .before .before .loop .i) (omega (arith, c .before .before .before .before .before .before .before .before .rows-of .ensures .0, c .before .before .before .before .before .before .loop-test .taken)) (c .before .before .before .before .before .before .before .loop .text) _ _ _ (c .before .before .before .before .before .before .before .loop .at) (c .before .before .put-line .result) line (c .before .before .put-line .ensures .0) (c .before .before .put-line .ensures .1) (c .before .before .before .before .before .before .before .loop .inv .3))
+
+same-length : tie.Need-same-length Inv-loop μ-loop
+same-length c = c .before .loop .inv .1
+
+returns : tie.Need-returns Inv-loop μ-loop
+returns c = ap (sets (c .before .loop .text) (c .before .loop .at)) (sym (text-end words (c .before .before .before .before .before .args .kinds .now) (c .before .before .before .before .before .args .numbers .now) (c .before .loop .i) (omega (arith, c .before .before .rows-of .ensures .0, c .loop-test .left)))) ∙ c .before .loop .inv .3
+
+pub put-text-spec : {M : Type 1} → statement M
+put-text-spec =
+    tie.close
+    (tie.spec
+    Inv-loop
+    μ-loop
+    rows-of-requires
+    loop-holds
+    shared-slice-read-put-line
+    mul-put-line
+    shared-slice-copy-out-put-line
+    put-line-requires
+    add-i
+    loop-less
+    loop-again
+    same-length
+    returns)

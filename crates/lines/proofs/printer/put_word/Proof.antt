@@ -1,0 +1,68 @@
+-- `put_word` meets its contract. The loop's invariant: what is stored and the letters still to come make up the word.
+use mathlib.Core.Path.{_≡_, refl, sym, ap, _∙_}
+use mathlib.Core.List.{List}
+use lib.ListN.{drop-of-length-le, drop, set, length-set, length}
+use Prim.Native.Nat.{ℕ, _+_, _-_, _≤_}
+use native.Mathlib.Nat.{add-zero}
+use lib.Seq.{sets}
+use borrow.Author.Needs.{needs}
+use native.Mathlib.Omega.{arith}
+use Rattle.words.specs.Words.{words, wordAt}
+use Rattle.lines.proofs.Stores.{sets-next}
+use Rattle.lines.proofs.printer.put_word.Statement.{statement}
+use Rattle.lines.proofs.printer.put_word.Tie as tie
+
+abbrev Inv-loop : tie.InvT-loop
+Inv-loop kind text₀ at n i₀ text i =
+    (i ≤ n) × (length text ≡ length text₀) × (sets text (at + i) (drop i (wordAt words kind)) ≡ sets text₀ at (wordAt words kind))
+
+abbrev μ-loop : tie.MeasureT-loop
+μ-loop kind text₀ at n i₀ text i = n - i
+
+length-requires : tie.Need-length-requires Inv-loop μ-loop
+length-requires c κs = search needs
+
+loop-holds : tie.Need-loop-holds Inv-loop μ-loop
+loop-holds c = (search needs, refl, ap (λ (j : ℕ). sets (c .before .before .args .text .now) j (wordAt words (c .before .before .args .kind))) (add-zero (c .before .before .args .at)))
+
+add-put-u8 : tie.Need-add-put-u8 Inv-loop μ-loop
+add-put-u8 c = search needs
+
+letter-requires : tie.Need-letter-requires Inv-loop μ-loop
+letter-requires c κs = search needs
+
+put-u8-requires : tie.Need-put-u8-requires Inv-loop μ-loop
+put-u8-requires c κs = search needs
+
+add-i : tie.Need-add-i Inv-loop μ-loop
+add-i c = search needs
+
+loop-less : tie.Need-loop-less Inv-loop μ-loop
+loop-less c = search needs
+
+loop-again : tie.Need-loop-again Inv-loop μ-loop
+loop-again c = (search needs, ap length (c .before .before .put-u8 .ensures) ∙ length-set (c .before .before .before .before .before .before .loop .text) (c .before .before .before .before .before .before .before .before .before .args .at + c .before .before .before .before .before .before .loop .i) (c .before .before .before .letter .result) ∙ c .before .before .before .before .before .before .loop .inv .1, ap (λ (t : List ℕ). sets t (c .before .before .before .before .before .before .before .before .before .args .at + (c .before .before .before .before .before .before .loop .i + 1)) (drop (c .before .before .before .before .before .before .loop .i + 1) (wordAt words (c .before .before .before .before .before .before .before .before .before .args .kind)))) (c .before .before .put-u8 .ensures ∙ ap (set (c .before .before .before .before .before .before .loop .text) (c .before .before .before .before .before .before .before .before .before .args .at + c .before .before .before .before .before .before .loop .i)) (c .before .before .before .letter .ensures)) ∙ sym (sets-next (c .before .before .before .before .before .before .loop .text) (c .before .before .before .before .before .before .before .before .before .args .at) (c .before .before .before .before .before .before .loop .i) (wordAt words (c .before .before .before .before .before .before .before .before .before .args .kind)) 0 (omega (arith, c .before .before .before .before .before .before .before .length .ensures .0, c .before .before .before .before .before .loop-test .taken))) ∙ c .before .before .before .before .before .before .loop .inv .2)
+
+same-length : tie.Need-same-length Inv-loop μ-loop
+same-length c = c .before .loop .inv .1
+
+returns : tie.Need-returns Inv-loop μ-loop
+returns c = let all : length (wordAt words (c .before .before .before .before .args .kind)) ≤ c .before .loop .i = omega (arith, c .before .before .length .ensures .0, c .loop-test .left) in
+    ap (sets (c .before .loop .text) (c .before .before .before .before .args .at + c .before .loop .i)) (sym (drop-of-length-le (wordAt words (c .before .before .before .before .args .kind)) all)) ∙ c .before .loop .inv .2
+
+pub put-word-spec : {M : Type 1} → statement M
+put-word-spec =
+    tie.close
+    (tie.spec
+    Inv-loop
+    μ-loop
+    length-requires
+    loop-holds
+    add-put-u8
+    letter-requires
+    put-u8-requires
+    add-i
+    loop-less
+    loop-again
+    same-length
+    returns)

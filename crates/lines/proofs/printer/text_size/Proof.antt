@@ -1,0 +1,86 @@
+-- `text_size` meets its contract. The loop's invariant: the text has the bytes counted and those of the rows still to come.
+use lib.IntN.{ℤ, pos}
+use lib.ListN.{getD, drop, length}
+use mathlib.Core.Path.{_≡_, sym, ap, _∙_}
+use Prim.Native.Nat.{_+_, _-_, _≤_}
+use native.Mathlib.Nat.{zero-add}
+use borrow.Author.Needs.{needs}
+use native.Mathlib.Omega.{arith}
+use Rattle.lines.proofs.Stores.{held}
+use Rattle.lines.specs.Printing.{written, textOf}
+use Rattle.words.specs.Kinds.{rowsOf}
+use Rattle.words.specs.Words.{words}
+use Rattle.lines.proofs.Sizes.{size-from, text-end, too-long, fits-in}
+use Rattle.lines.proofs.printer.text_size.Statement.{statement}
+use Rattle.lines.proofs.printer.text_size.Tie as tie
+
+abbrev Inv-loop : tie.InvT-loop
+Inv-loop kinds numbers room rows bytes₀ i₀ bytes i =
+    (i ≤ rows) × (bytes ≤ room)
+    × (length (textOf words (rowsOf kinds numbers)) ≡ bytes + length (textOf words (drop i (rowsOf kinds numbers))))
+
+abbrev μ-loop : tie.MeasureT-loop
+μ-loop kinds numbers room rows bytes₀ i₀ bytes i = rows - i
+
+rows-of-requires : tie.Need-rows-of-requires Inv-loop μ-loop
+rows-of-requires c κs = search needs
+
+loop-holds : tie.Need-loop-holds Inv-loop μ-loop
+loop-holds c = (search needs, search needs, sym (zero-add _))
+
+shared-slice-read-line-size : tie.Need-shared-slice-read-line-size Inv-loop μ-loop
+shared-slice-read-line-size c = search needs
+
+mul-line-size : tie.Need-mul-line-size Inv-loop μ-loop
+mul-line-size c = search needs
+
+shared-slice-copy-out-line-size : tie.Need-shared-slice-copy-out-line-size Inv-loop μ-loop
+shared-slice-copy-out-line-size c = search needs
+
+line-size-requires : tie.Need-line-size-requires Inv-loop μ-loop
+line-size-requires c κs = search needs
+
+sub-if1 : tie.Need-sub-if1 Inv-loop μ-loop
+sub-if1 c = search needs
+
+returns : tie.Need-returns Inv-loop μ-loop
+returns c = let size = c .before .line-size .ensures .0 ∙ ap (λ (z : ℤ). length (written words (getD (c .before .before .before .before .before .before .before .before .args .kinds .now) (c .before .before .before .before .before .loop .i) 0, z))) (held (getD (c .before .before .before .before .before .before .before .before .args .numbers .now) (c .before .before .before .before .before .loop .i) (pos 0)) (c .before .before .line-size-arg .given)) in
+    let rest = size-from words (c .before .before .before .before .before .before .before .before .args .kinds .now) (c .before .before .before .before .before .before .before .before .args .numbers .now) (c .before .before .before .before .before .loop .i) (omega (arith, c .before .before .before .before .before .before .rows-of .ensures .0, c .before .before .before .before .loop-test .taken)) in
+    too-long (textOf words (rowsOf (c .before .before .before .before .before .before .before .before .args .kinds .now) (c .before .before .before .before .before .before .before .before .args .numbers .now))) (c .before .before .before .before .before .before .before .before .args .room) (omega (arith, c .before .before .before .before .before .loop .inv .1, c .before .before .before .before .before .loop .inv .2, c .if1 .taken, size, rest))
+
+add-bytes : tie.Need-add-bytes Inv-loop μ-loop
+add-bytes c = search needs
+
+add-i : tie.Need-add-i Inv-loop μ-loop
+add-i c = search needs
+
+loop-less : tie.Need-loop-less Inv-loop μ-loop
+loop-less c = search needs
+
+loop-again : tie.Need-loop-again Inv-loop μ-loop
+loop-again c = let size = c .before .line-size .ensures .0 ∙ ap (λ (z : ℤ). length (written words (getD (c .before .before .before .before .before .before .before .before .args .kinds .now) (c .before .before .before .before .before .loop .i) 0, z))) (held (getD (c .before .before .before .before .before .before .before .before .args .numbers .now) (c .before .before .before .before .before .loop .i) (pos 0)) (c .before .before .line-size-arg .given)) in
+    let rest = size-from words (c .before .before .before .before .before .before .before .before .args .kinds .now) (c .before .before .before .before .before .before .before .before .args .numbers .now) (c .before .before .before .before .before .loop .i) (omega (arith, c .before .before .before .before .before .before .rows-of .ensures .0, c .before .before .before .before .loop-test .taken)) in
+    (search needs, omega (arith, c .if1 .left, c .before .before .before .before .before .loop .inv .1), omega (arith, c .before .before .before .before .before .loop .inv .2, size, rest))
+
+returns-2 : tie.Need-returns-2 Inv-loop μ-loop
+returns-2 c = fits-in (textOf words (rowsOf (c .before .before .before .before .args .kinds .now) (c .before .before .before .before .args .numbers .now))) (c .before .before .before .before .args .room) (c .before .loop .bytes) (omega (arith, c .before .loop .inv .2, ap length (text-end words (c .before .before .before .before .args .kinds .now) (c .before .before .before .before .args .numbers .now) (c .before .loop .i) (omega (arith, c .before .before .rows-of .ensures .0, c .loop-test .left))))) (c .before .loop .inv .1)
+
+pub text-size-spec : {M : Type 1} → statement M
+text-size-spec =
+    tie.close
+    (tie.spec
+    Inv-loop
+    μ-loop
+    rows-of-requires
+    loop-holds
+    shared-slice-read-line-size
+    mul-line-size
+    shared-slice-copy-out-line-size
+    line-size-requires
+    sub-if1
+    returns
+    add-bytes
+    add-i
+    loop-less
+    loop-again
+    returns-2)

@@ -1,0 +1,59 @@
+-- `read_values` meets its contract: refused or with no room, the slices are as lent; else cells and values stand in front.
+use mathlib.Core.Path.{sym, _∙_}
+use lib.ListN.{length-map, length}
+use borrow.Author.Needs.{needs}
+use Rattle.words.specs.Kinds.{Row}
+use Rattle.words.specs.Words.{words}
+use Rattle.lines.specs.Reading.{headOf, linesOf, rowsIn, kindsOf, numbersOf, valuesLimits}
+use Rattle.lines.specs.Laws.{rows-read}
+use Rattle.lines.specs.declared.Heads.the-variants.{Cells}
+use Rattle.lines.proofs.Questions.{kept-refused, kept-kinds, kept-numbers, filled-with}
+use Rattle.lines.proofs.read_values.Statement.{statement}
+use Rattle.lines.proofs.read_values.Tie as tie
+
+ask-requires : tie.Need-ask-requires
+ask-requires c κs = search needs
+
+enum-known-answer : tie.Need-enum-known-answer
+enum-known-answer c = search needs
+
+enum-told : tie.Need-enum-told
+enum-told c = search needs
+
+returns : tie.Need-returns
+returns c = record { answer = c .before .before .ask .ensures; kinds-left = kept-refused (kindsOf (rowsIn (headOf words Cells) (linesOf (c .before .before .before .before .before .args .text .now)))) (c .before .before .before .before .before .args .cells .now) (length (c .before .before .before .before .before .args .cells .now)) (length (c .before .before .before .before .before .args .values .now)) (c .enum-told .given .1); numbers-left = kept-refused (numbersOf (rowsIn (headOf words Cells) (linesOf (c .before .before .before .before .before .args .text .now)))) (c .before .before .before .before .before .args .values .now) (length (c .before .before .before .before .before .args .cells .now)) (length (c .before .before .before .before .before .args .values .now)) (c .enum-told .given .1) }
+
+returns-2 : tie.Need-returns-2
+returns-2 c = record { answer = sym (c .before .before .answer .given .1) ∙ c .before .before .before .before .ask .ensures; kinds-left = kept-kinds (kindsOf (rowsIn (headOf words Cells) (linesOf (c .before .before .before .before .before .before .before .args .text .now)))) (c .before .before .before .before .before .before .before .args .cells .now) (length (c .before .before .before .before .before .before .before .args .cells .now)) (length (c .before .before .before .before .before .before .before .args .values .now)) (c .before .before .answer .given .0 .0) (c .if1 .taken); numbers-left = kept-kinds (numbersOf (rowsIn (headOf words Cells) (linesOf (c .before .before .before .before .before .before .before .args .text .now)))) (c .before .before .before .before .before .before .before .args .values .now) (length (c .before .before .before .before .before .before .before .args .cells .now)) (length (c .before .before .before .before .before .before .before .args .values .now)) (c .before .before .answer .given .0 .0) (c .if1 .taken) }
+
+returns-3 : tie.Need-returns-3
+returns-3 c = record { answer = sym (c .before .before .before .answer .given .1) ∙ c .before .before .before .before .before .ask .ensures; kinds-left = kept-numbers (kindsOf (rowsIn (headOf words Cells) (linesOf (c .before .before .before .before .before .before .before .before .args .text .now)))) (c .before .before .before .before .before .before .before .before .args .cells .now) (length (c .before .before .before .before .before .before .before .before .args .cells .now)) (length (c .before .before .before .before .before .before .before .before .args .values .now)) (c .before .before .before .answer .given .0 .0) (c .before .if1 .left) (c .if2 .taken); numbers-left = kept-numbers (numbersOf (rowsIn (headOf words Cells) (linesOf (c .before .before .before .before .before .before .before .before .args .text .now)))) (c .before .before .before .before .before .before .before .before .args .values .now) (length (c .before .before .before .before .before .before .before .before .args .cells .now)) (length (c .before .before .before .before .before .before .before .before .args .values .now)) (c .before .before .before .answer .given .0 .0) (c .before .if1 .left) (c .if2 .taken) }
+
+put-values-requires : tie.Need-put-values-requires
+put-values-requires c κs = search needs
+
+same-length : tie.Need-same-length
+same-length c = search needs
+
+same-length-2 : tie.Need-same-length-2
+same-length-2 c = search needs
+
+returns-4 : tie.Need-returns-4
+returns-4 c = let answered = sym (c .before .before .before .before .before .before .before .before .before .answer .given .1) ∙ c .before .before .before .before .before .before .before .before .before .before .before .ask .ensures in
+    let count = rows-read (headOf words Cells) valuesLimits (c .before .before .before .before .before .before .before .before .before .before .before .before .before .before .args .text .now) (c .before .before .before .before .before .before .before .before .before .answer .given .0 .0) (sym answered) in
+    record { answer = answered; kinds-left = filled-with (kindsOf (rowsIn (headOf words Cells) (linesOf (c .before .before .before .before .before .before .before .before .before .before .before .before .before .before .args .text .now)))) (c .before .before .before .before .before .before .before .before .before .before .before .before .before .before .args .cells .now) (length (c .before .before .before .before .before .before .before .before .before .before .before .before .before .before .args .cells .now)) (length (c .before .before .before .before .before .before .before .before .before .before .before .before .before .before .args .values .now)) (c .before .before .before .before .before .before .before .before .before .answer .given .0 .0) (c .before .before .before .before .before .before .before .if1 .left) (c .before .before .before .before .before .before .if2 .left) (length-map (rowsIn (headOf words Cells) (linesOf (c .before .before .before .before .before .before .before .before .before .before .before .before .before .before .args .text .now))) (λ (r : Row). r .0) ∙ count) (c .before .before .before .before .before .before .before .if1 .left) (c .before .before .before .put-values .ensures .0); numbers-left = filled-with (numbersOf (rowsIn (headOf words Cells) (linesOf (c .before .before .before .before .before .before .before .before .before .before .before .before .before .before .args .text .now)))) (c .before .before .before .before .before .before .before .before .before .before .before .before .before .before .args .values .now) (length (c .before .before .before .before .before .before .before .before .before .before .before .before .before .before .args .cells .now)) (length (c .before .before .before .before .before .before .before .before .before .before .before .before .before .before .args .values .now)) (c .before .before .before .before .before .before .before .before .before .answer .given .0 .0) (c .before .before .before .before .before .before .before .if1 .left) (c .before .before .before .before .before .before .if2 .left) (length-map (rowsIn (headOf words Cells) (linesOf (c .before .before .before .before .before .before .before .before .before .before .before .before .before .before .args .text .now))) (λ (r : Row). r .1) ∙ count) (c .before .before .before .before .before .before .if2 .left) (c .before .before .before .put-values .ensures .1) }
+
+pub read-values-spec : {M : Type 1} → statement M
+read-values-spec =
+    tie.close
+    (tie.spec
+    ask-requires
+    enum-known-answer
+    enum-told
+    returns
+    returns-2
+    returns-3
+    put-values-requires
+    same-length
+    same-length-2
+    returns-4)

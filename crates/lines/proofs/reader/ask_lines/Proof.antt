@@ -1,0 +1,62 @@
+-- `ask_lines` meets its contract. The loop's invariant: the answer is that of the lines still to come, after those counted.
+use mathlib.Core.Path.{_≡_, refl, sym, _∙_}
+use Prim.Native.Nat.{_+_, _-_, _≤_}
+use lib.ListN.{drop, length}
+use borrow.Author.Needs.{needs}
+use native.Mathlib.Omega.{arith}
+use Rattle.words.specs.Words.{words}
+use Rattle.lines.specs.Reading.{headOf, linesOf, formed}
+use Rattle.lines.proofs.Lines.{formed-row, formed-none, formed-end}
+use Rattle.lines.proofs.reader.ask_lines.Statement.{statement}
+use Rattle.lines.proofs.reader.ask_lines.Tie as tie
+
+abbrev Inv-loop : tie.InvT-loop
+Inv-loop heads text at₀ lines₀ at lines =
+    (at ≤ length text + 1) × (lines ≤ at)
+    × (formed (headOf words heads) 0 (linesOf text) ≡ formed (headOf words heads) lines (linesOf (drop at text)))
+
+abbrev μ-loop : tie.MeasureT-loop
+μ-loop heads text at₀ lines₀ at lines = length text - at
+
+loop-holds : tie.Need-loop-holds Inv-loop μ-loop
+loop-holds c = (search needs, search needs, refl)
+
+next-line-requires : tie.Need-next-line-requires Inv-loop μ-loop
+next-line-requires c κs = search needs
+
+add-lines : tie.Need-add-lines Inv-loop μ-loop
+add-lines c = search needs
+
+enum-told : tie.Need-enum-told Inv-loop μ-loop
+enum-told c = search needs
+
+enum-told-2 : tie.Need-enum-told-2 Inv-loop μ-loop
+enum-told-2 c = search needs
+
+returns : tie.Need-returns Inv-loop μ-loop
+returns c = formed-none (headOf words (c .before .before .before .before .before .before .args .heads)) (c .before .before .before .before .before .before .args .text .now) (c .before .before .before .before .loop .at) (c .before .before .next-line .result .after) (c .before .before .before .loop-test .taken) (c .before .before .next-line .ensures .0) (c .before .before .next-line .ensures .1) (c .before .before .before .before .loop .lines) (c .enum-told2 .given .1) ∙ sym (c .before .before .before .before .loop .inv .2)
+
+loop-less : tie.Need-loop-less Inv-loop μ-loop
+loop-less c = omega (arith, c .before .before .next-line .ensures .1)
+
+loop-again : tie.Need-loop-again Inv-loop μ-loop
+loop-again c = (c .before .before .next-line .ensures .2, omega (arith, c .before .before .next-line .ensures .1, c .before .before .before .before .loop .inv .1), c .before .before .before .before .loop .inv .2 ∙ formed-row (headOf words (c .before .before .before .before .before .before .args .heads)) (c .before .before .before .before .before .before .args .text .now) (c .before .before .before .before .loop .at) (c .before .before .next-line .result .after) (c .before .before .before .loop-test .taken) (c .before .before .next-line .ensures .0) (c .before .before .next-line .ensures .1) (c .before .before .before .before .loop .lines) (c .enum-told .given .1))
+
+returns-2 : tie.Need-returns-2 Inv-loop μ-loop
+returns-2 c = sym (c .before .loop .inv .2 ∙ formed-end (headOf words (c .before .before .before .args .heads)) (c .before .before .before .args .text .now) (c .before .loop .at) (c .loop-test .left) (c .before .loop .lines))
+
+pub ask-lines-spec : {M : Type 1} → statement M
+ask-lines-spec =
+    tie.close
+    (tie.spec
+    Inv-loop
+    μ-loop
+    loop-holds
+    next-line-requires
+    add-lines
+    enum-told
+    enum-told-2
+    returns
+    loop-less
+    loop-again
+    returns-2)

@@ -1,0 +1,41 @@
+-- `head_of` meets its contract: a word is looked up, a cell's number is read.
+use mathlib.Core.Path.{sym, ap, _∙_}
+use borrow.Author.Needs.{needs}
+use Rattle.words.specs.Words.{words}
+use Rattle.lines.specs.Reading.{cellOf, headOf}
+use Rattle.lines.specs.declared.Heads.{Heads}
+use Rattle.lines.proofs.reader.head_of.Statement.{statement}
+use Rattle.lines.proofs.reader.head_of.Tie as tie
+
+enum-told : tie.Need-enum-told
+enum-told c = search needs
+
+look-up-requires : tie.Need-look-up-requires
+look-up-requires c κs = search needs
+
+enum-told-2 : tie.Need-enum-told-2
+enum-told-2 c = search needs
+
+read-requires : tie.Need-read-requires
+read-requires c κs = search needs
+
+cell-of-requires : tie.Need-cell-of-requires
+cell-of-requires c κs = search needs
+
+returns : tie.Need-returns
+returns c = c .look-up .ensures ∙ ap (λ (h : Heads). headOf words h (c .before .before .before .before .args .bytes .now)) (sym (c .before .enum-told .given .1))
+
+returns-2 : tie.Need-returns-2
+returns-2 c = c .cell-of .ensures ∙ ap cellOf (c .before .read .ensures) ∙ ap (λ (h : Heads). headOf words h (c .before .before .before .before .before .args .bytes .now)) (sym (c .before .before .enum-told2 .given .1))
+
+pub head-of-spec : {M : Type 1} → statement M
+head-of-spec =
+    tie.close
+    (tie.spec
+    enum-told
+    look-up-requires
+    enum-told-2
+    read-requires
+    cell-of-requires
+    returns
+    returns-2)

@@ -1,0 +1,81 @@
+-- `line_of` meets its contract: what is before the first comma and what is behind it, each read; one way out for each that is not
+-- well written.
+use mathlib.Core.Path.{sym, ap, _∙_}
+use lib.Seq.{length-take-le}
+use borrow.Author.Needs.{needs}
+use Rattle.words.specs.Words.{words}
+use Rattle.lines.specs.Reading.{headOf}
+use Rattle.lines.specs.declared.Line.the-variants.{IsRow}
+use Rattle.lines.proofs.Lines.{no-head, no-comma, no-number, row}
+use Rattle.lines.proofs.Stores.{held}
+use Rattle.lines.proofs.reader.line_of.Statement.{statement}
+use Rattle.lines.proofs.reader.line_of.Tie as tie
+
+place-of-requires : tie.Need-place-of-requires
+place-of-requires c κs = search needs
+
+slice-aggregate-head-of : tie.Need-slice-aggregate-head-of
+slice-aggregate-head-of c = sym (length-take-le (c .before .place-of .result) (c .before .before .before .args .line .now) (c .before .place-of .ensures .1))
+
+head-of-requires : tie.Need-head-of-requires
+head-of-requires c κs = search needs
+
+enum-known-head : tie.Need-enum-known-head
+enum-known-head c = search needs
+
+enum-told : tie.Need-enum-told
+enum-told c = search needs
+
+returns : tie.Need-returns
+returns c = no-head (headOf words (c .before .before .before .before .before .before .args .heads)) (c .before .before .before .before .before .before .args .line .now) (c .before .before .before .before .place-of .result) (c .before .before .before .before .place-of .ensures .0) (c .before .before .head-of .ensures) (c .enum-told .given .1)
+
+returns-2 : tie.Need-returns-2
+returns-2 c = no-comma (headOf words (c .before .before .before .before .before .before .before .before .args .heads)) (c .before .before .before .before .before .before .before .before .args .line .now) (c .before .before .before .before .before .before .place-of .result) (c .before .before .before .before .before .before .place-of .ensures .0) (c .if1 .taken)
+
+add-behind : tie.Need-add-behind
+add-behind c = search needs
+
+sub-read : tie.Need-sub-read
+sub-read c = search needs
+
+part-read-start : tie.Need-part-read-start
+part-read-start c = search needs
+
+part-read-end : tie.Need-part-read-end
+part-read-end c = search needs
+
+read-requires : tie.Need-read-requires
+read-requires c κs = search needs
+
+enum-known-value : tie.Need-enum-known-value
+enum-known-value c = search needs
+
+enum-told-2 : tie.Need-enum-told-2
+enum-told-2 c = search needs
+
+returns-3 : tie.Need-returns-3
+returns-3 c = no-number (headOf words (c .before .before .before .before .before .before .before .before .before .before .before .before .args .heads)) (c .before .before .before .before .before .before .before .before .before .before .before .before .args .line .now) (c .before .before .before .before .before .before .before .before .before .before .place-of .result) (c .before .before .before .before .before .before .before .before .before .before .place-of .ensures .0) (c .before .before .read .ensures) (c .enum-told2 .given .1)
+
+returns-4 : tie.Need-returns-4
+returns-4 c = ap (IsRow (c .before .before .before .before .before .before .before .head .given .0 .0)) (held (c .before .value .given .0 .0) (c .known-told2 .given .0 .1)) ∙ row (headOf words (c .before .before .before .before .before .before .before .before .before .before .before .before .before .args .heads)) (c .before .before .before .before .before .before .before .before .before .before .before .before .before .args .line .now) (c .before .before .before .before .before .before .before .before .before .before .before .place-of .result) (c .before .before .before .before .before .before .before .before .before .before .before .place-of .ensures .0) (c .before .before .before .before .before .before .before .before .before .head-of .ensures) (c .before .before .before .before .before .before .before .head .given .1) (c .before .before .before .read .ensures) (c .before .value .given .1)
+
+pub line-of-spec : {M : Type 1} → statement M
+line-of-spec =
+    tie.close
+    (tie.spec
+    place-of-requires
+    slice-aggregate-head-of
+    head-of-requires
+    enum-known-head
+    enum-told
+    returns
+    returns-2
+    add-behind
+    sub-read
+    part-read-start
+    part-read-end
+    read-requires
+    enum-known-value
+    enum-told-2
+    returns-3
+    returns-4)

@@ -1,0 +1,53 @@
+-- `place_of` meets its contract. The loop's invariant: the byte's place is i and its place from i on.
+use mathlib.Core.Path.{_≡_, sym}
+use Prim.Native.Nat.{_+_, _-_, _≤_}
+use native.Mathlib.Nat.{zero-add}
+use lib.ListN.{drop, length}
+use borrow.Author.Needs.{needs}
+use native.Mathlib.Omega.{arith}
+use Rattle.lines.specs.Reading.{placeOf}
+use Rattle.lines.specs.LineLaws.{place-at, place-past, place-end}
+use Rattle.lines.proofs.reader.place_of.Statement.{statement}
+use Rattle.lines.proofs.reader.place_of.Tie as tie
+
+abbrev Inv-loop : tie.InvT-loop
+Inv-loop byte bytes i₀ i =
+    (i ≤ length bytes) × (placeOf byte bytes ≡ i + placeOf byte (drop i bytes))
+
+abbrev μ-loop : tie.MeasureT-loop
+μ-loop byte bytes i₀ i = length bytes - i
+
+loop-holds : tie.Need-loop-holds Inv-loop μ-loop
+loop-holds c = (search needs, sym (zero-add (placeOf (c .args .byte) (c .args .bytes .now))))
+
+shared-slice-read-if1 : tie.Need-shared-slice-read-if1 Inv-loop μ-loop
+shared-slice-read-if1 c = search needs
+
+returns : tie.Need-returns Inv-loop μ-loop
+returns c = (omega (arith, c .before .before .before .loop .inv .1, place-at (c .before .before .before .before .args .byte) (c .before .before .before .before .args .bytes .now) (c .before .before .before .loop .i) (c .before .before .loop-test .taken) (c .if1 .taken)), search needs)
+
+add-i : tie.Need-add-i Inv-loop μ-loop
+add-i c = search needs
+
+loop-less : tie.Need-loop-less Inv-loop μ-loop
+loop-less c = search needs
+
+loop-again : tie.Need-loop-again Inv-loop μ-loop
+loop-again c = (search needs, omega (arith, c .before .before .before .loop .inv .1, place-past (c .before .before .before .before .args .byte) (c .before .before .before .before .args .bytes .now) (c .before .before .before .loop .i) (c .before .before .loop-test .taken) (c .if1 .left)))
+
+returns-2 : tie.Need-returns-2 Inv-loop μ-loop
+returns-2 c = (omega (arith, c .before .loop .inv .1, place-end (c .before .before .args .byte) (c .before .before .args .bytes .now) (c .before .loop .i) (omega arith)), search needs)
+
+pub place-of-spec : {M : Type 1} → statement M
+place-of-spec =
+    tie.close
+    (tie.spec
+    Inv-loop
+    μ-loop
+    loop-holds
+    shared-slice-read-if1
+    returns
+    add-i
+    loop-less
+    loop-again
+    returns-2)

@@ -1,0 +1,135 @@
+-- From a text to rows: document 01, 'Lines', and questions 1 to 3 of 'Questions at the door'. The table of words is an
+-- argument. Definitions only; assumes nothing.
+use mathlib.Core.Bool.{Bool, false, cond, _&&_}
+use mathlib.Core.Path.{_≡_}
+use mathlib.Core.List.{List, [], _∷_, _++_, map}
+use Prim.Native.Nat.{ℕ, suc, _-_}
+use lib.Dec.{eqb, leb}
+use lib.IntN.{ℤ, pos, negsuc}
+use lib.ListN.{length, getD, take, drop}
+use Rattle.refusals.specs.declared.Refusal.the-variants.{TextForm, LineForm, LineCount}
+use Rattle.words.specs.Kinds.{Row}
+use Rattle.words.specs.Words.{lookUp}
+use Rattle.words.specs.declared.Found.{Found}
+use Rattle.words.specs.declared.Found.the-variants.{At, NotListed}
+use Rattle.numerals.specs.Numerals.{numberOf}
+use Rattle.numerals.specs.declared.Numeral.{Numeral}
+use Rattle.numerals.specs.declared.Numeral.the-variants.{Is, Malformed}
+use Rattle.lines.specs.declared.Heads.{Heads}
+use Rattle.lines.specs.declared.Heads.the-variants.{Words, Cells}
+use Rattle.lines.specs.declared.Line.{Line}
+use Rattle.lines.specs.declared.Line.the-variants.{IsRow, NoRow}
+use Rattle.lines.specs.declared.Limits.{Limits}
+use Rattle.lines.specs.declared.Reading.{Reading}
+use Rattle.lines.specs.declared.Reading.the-variants.{Rows, Refused}
+
+-- ---- lines
+
+-- "A text is lines .., each closed by byte 10." Bytes behind the last byte 10 would be one line more.
+abbrev pub begin : ℕ → List (List ℕ) → List (List ℕ)
+begin b [] = (b ∷ []) ∷ []
+begin b (l ∷ ls) = (b ∷ l) ∷ ls
+
+unfoldable pub linesOf : List ℕ → List (List ℕ)
+linesOf [] = []
+linesOf (b ∷ bs) = cond (eqb b 10) ([] ∷ linesOf bs) (begin b (linesOf bs))
+
+-- where byte b first stands; the length where it does not
+unfoldable pub placeOf : ℕ → List ℕ → ℕ
+placeOf b [] = 0
+placeOf b (c ∷ cs) = cond (eqb c b) 0 (suc (placeOf b cs))
+
+-- What stands before the first comma, byte 44, of a line, and what behind it.
+abbrev pub beforeComma : List ℕ → List ℕ
+beforeComma l = take (placeOf 44 l) l
+
+abbrev pub afterComma : List ℕ → List ℕ
+afterComma l = drop (suc (placeOf 44 l)) l
+
+-- ---- a line's row
+
+-- "a well-written number not below 0 stands in place of the word and names an input cell"
+abbrev pub cellOf : Numeral → Found
+cellOf (Is (pos n)) = At n
+cellOf (Is (negsuc n)) = NotListed
+cellOf Malformed = NotListed
+
+-- What stands before the comma: a listed word, or in the values file a cell.
+abbrev pub headOf : List (List ℕ) → Heads → List ℕ → Found
+headOf ws Words l = lookUp ws l
+headOf ws Cells l = cellOf (numberOf l)
+
+abbrev pub paired : Found → Numeral → Line
+paired (At k) (Is z) = IsRow k z
+paired (At k) Malformed = NoRow
+paired NotListed n = NoRow
+
+-- "a listed word, a comma and a well-written number"
+unfoldable pub lineOf : (List ℕ → Found) → List ℕ → Line
+lineOf head l = paired (head (beforeComma l)) (numberOf (afterComma l))
+
+-- The rows of lines.
+abbrev pub addRow : Line → List Row → List Row
+addRow (IsRow k z) rs = (k, z) ∷ rs
+addRow NoRow rs = rs
+
+unfoldable pub rowsIn : (List ℕ → Found) → List (List ℕ) → List Row
+rowsIn head [] = []
+rowsIn head (l ∷ ls) = addRow (lineOf head l) (rowsIn head ls)
+
+-- ---- questions 1 to 3
+
+-- "Is the text 1 to 4,096 bytes (loops 65,536), its last byte 10?"
+abbrev pub closed : ℕ → List ℕ → Bool
+closed limit t = leb 1 (length t) && leb (length t) limit && eqb (getD t (length t - 1) 0) 10
+
+-- "Is every line a listed word, a comma and a well-written number?" n lines were asked already.
+abbrev pub whether : Line → Reading → Reading → Reading
+whether (IsRow k z) yes′ no′ = yes′
+whether NoRow yes′ no′ = no′
+
+unfoldable pub formed : (List ℕ → Found) → ℕ → List (List ℕ) → Reading
+formed head n [] = Rows n
+formed head n (l ∷ ls) = whether (lineOf head l) (formed head (suc n) ls) (Refused (LineForm (suc n)))
+
+-- "At most 256 lines (loops 4,096)?"
+abbrev pub limited : ℕ → Reading → Reading
+limited limit (Rows n) = cond (leb n limit) (Rows n) (Refused LineCount)
+limited limit (Refused r) = Refused r
+
+-- The first "no" of the three; else how many rows there are.
+unfoldable pub reading : (List ℕ → Found) → Limits → List ℕ → Reading
+reading head limits t =
+    cond (closed (limits .bytes) t) (limited (limits .lines) (formed head 0 (linesOf t))) (Refused TextForm)
+
+abbrev pub planLimits : Limits
+planLimits = record { bytes = 4096; lines = 256 }
+
+abbrev pub loopsLimits : Limits
+loopsLimits = record { bytes = 65536; lines = 4096 }
+
+-- Question 3 is not put to a values file: 65,536 bytes have no more lines than that.
+abbrev pub valuesLimits : Limits
+valuesLimits = record { bytes = 65536; lines = 65536 }
+
+-- ---- what lent slices hold in the end: the rows in front if both have room for them; else what they held
+
+abbrev pub roomFor : Reading → ℕ → ℕ → Bool
+roomFor (Rows n) kinds numbers = leb n kinds && leb n numbers
+roomFor (Refused r) kinds numbers = false
+
+abbrev pub kindsOf : List Row → List ℕ
+kindsOf rs = map (λ (r : Row). r .0) rs
+
+abbrev pub numbersOf : List Row → List ℤ
+numbersOf rs = map (λ (r : Row). r .1) rs
+
+abbrev pub filled : {A : Type 0} → Bool → List A → List A → List A
+filled room put held = cond room (put ++ drop (length put) held) held
+
+-- What a reader promises of its answer r and of the two slices, as lent and as left.
+pub record ReadInto (head : List ℕ → Found) (limits : Limits) (t : List ℕ) (kinds : List ℕ) (numbers : List ℤ)
+    (r : Reading) (kinds′ : List ℕ) (numbers′ : List ℤ) : Type 0 where
+  pub answer : r ≡ reading head limits t
+  pub kinds-left : kinds′ ≡ filled (roomFor r (length kinds) (length numbers)) (kindsOf (rowsIn head (linesOf t))) kinds
+  pub numbers-left : numbers′ ≡ filled (roomFor r (length kinds) (length numbers)) (numbersOf (rowsIn head (linesOf t))) numbers

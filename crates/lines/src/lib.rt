@@ -1,0 +1,125 @@
+// Texts and rows: a text is read into kinds and numbers, and rows are printed as a text.
+ghost use Rattle.words.specs.Kinds.{rowsOf};
+ghost use Rattle.words.specs.Words.{words};
+ghost use Rattle.lines.specs.Reading.{headOf, planLimits, loopsLimits, valuesLimits, ReadInto};
+ghost use Rattle.lines.specs.Printing.{PrintInto};
+ghost use Rattle.lines.specs.declared.Heads.the-variants.{Words, Cells};
+use refusals::Refusal;
+
+mod printer;
+mod reader;
+
+// What stands before a line's comma: a word of the table, or in the values file the number of a cell.
+pub enum Heads {
+    Words,
+    Cells,
+}
+
+// What a line is: a row of a kind, or of a cell, and a number; or nothing well written.
+pub enum Line {
+    IsRow { kind: usize, number: i32 },
+    NoRow,
+}
+
+// The most bytes and lines that a text may have.
+pub struct Limits {
+    pub bytes: usize,
+    pub lines: usize,
+}
+
+// How many rows a text has, or the first question that it answers "no".
+pub enum Reading {
+    Rows(usize),
+    Refused(Refusal),
+}
+
+// How many bytes were put, or the question that the lent text answers "no".
+pub enum Printing {
+    Bytes(usize),
+    Refused(Refusal),
+}
+
+// Reads a text within limits; its rows go into the lent table if that has room for them.
+fn read(text: &[u8], limits: Limits, kinds: &mut [u8], numbers: &mut [i32]) -> Reading
+    ensures { λ r. ⌜ ReadInto (headOf words Words) limits (now (text .entry)) (now (kinds .entry)) (now (numbers .entry)) r (now (kinds .exit)) (now (numbers .exit)) ⌝ }
+{
+    let answer = reader::ask(Heads::Words, limits, text);
+    let Reading::Rows(rows) = answer else {
+        return answer;
+    };
+    if kinds.len() < rows {
+        return answer;
+    }
+    if numbers.len() < rows {
+        return answer;
+    }
+    reader::put_rows(text, kinds, numbers);
+    answer
+}
+
+// Reads a plan's text.
+pub fn read_plan(text: &[u8], kinds: &mut [u8], numbers: &mut [i32]) -> Reading
+    ensures { λ r. ⌜ ReadInto (headOf words Words) planLimits (now (text .entry)) (now (kinds .entry)) (now (numbers .entry)) r (now (kinds .exit)) (now (numbers .exit)) ⌝ }
+{
+    read(
+        text,
+        Limits {
+            bytes: 4096,
+            lines: 256,
+        },
+        kinds,
+        numbers,
+    )
+}
+
+// Reads the text of loops.
+pub fn read_loops(text: &[u8], kinds: &mut [u8], numbers: &mut [i32]) -> Reading
+    ensures { λ r. ⌜ ReadInto (headOf words Words) loopsLimits (now (text .entry)) (now (kinds .entry)) (now (numbers .entry)) r (now (kinds .exit)) (now (numbers .exit)) ⌝ }
+{
+    read(
+        text,
+        Limits {
+            bytes: 65536,
+            lines: 4096,
+        },
+        kinds,
+        numbers,
+    )
+}
+
+// Reads a values file: the cells and their values.
+pub fn read_values(text: &[u8], cells: &mut [u32], values: &mut [i32]) -> Reading
+    ensures { λ r. ⌜ ReadInto (headOf words Cells) valuesLimits (now (text .entry)) (now (cells .entry)) (now (values .entry)) r (now (cells .exit)) (now (values .exit)) ⌝ }
+{
+    let answer = reader::ask(
+        Heads::Cells,
+        Limits {
+            bytes: 65536,
+            lines: 65536,
+        },
+        text,
+    );
+    let Reading::Rows(rows) = answer else {
+        return answer;
+    };
+    if cells.len() < rows {
+        return answer;
+    }
+    if values.len() < rows {
+        return answer;
+    }
+    reader::put_values(text, cells, values);
+    answer
+}
+
+// Prints the rows of a table, as many as the shorter slice has, at the front of the lent text.
+pub fn print(kinds: &[u8], numbers: &[i32], text: &mut [u8]) -> Printing
+    ensures { λ r. ⌜ PrintInto words (rowsOf (now (kinds .entry)) (now (numbers .entry))) (now (text .entry)) r (now (text .exit)) ⌝ }
+{
+    let answer = printer::text_size(kinds, numbers, text.len());
+    let Printing::Bytes(_) = answer else {
+        return answer;
+    };
+    printer::put_text(kinds, numbers, text);
+    answer
+}

@@ -1,0 +1,87 @@
+// From rows to a text, line by line.
+ghost use mathlib.Core.Path.{_≡_};
+ghost use Prim.Native.Nat.{_+_, _≤_, _<_};
+ghost use lib.ListN.{length, set};
+ghost use lib.Seq.{sets};
+ghost use Rattle.words.specs.Kinds.{rowsOf};
+ghost use Rattle.words.specs.Words.{words, wordAt};
+ghost use Rattle.lines.specs.Printing.{written, textOf, printing};
+use crate::Printing;
+use refusals::Refusal;
+
+// How many rows a table has.
+fn rows_of(kinds: &[u8], numbers: &[i32]) -> usize
+    ensures { λ r. ⌜ (r ≡ length (rowsOf (now (kinds .entry)) (now (numbers .entry)))) × (r ≤ length (now (kinds .entry))) × (r ≤ length (now (numbers .entry))) ⌝ }
+{
+    if kinds.len() < numbers.len() {
+        return kinds.len();
+    }
+    numbers.len()
+}
+
+// The bytes of a row's line.
+fn line_size(kind: u8, number: i32) -> usize
+    ensures { λ r. ⌜ (r ≡ length (written words (kind, number))) × (r ≤ 19) ⌝ }
+{
+    words::length(kind) + 1 + numerals::size(number) + 1
+}
+
+// The bytes of the rows' text, if it has at most as many as there is room for.
+pub fn text_size(kinds: &[u8], numbers: &[i32], room: usize) -> Printing
+    ensures { λ r. ⌜ r ≡ printing (textOf words (rowsOf (now (kinds .entry)) (now (numbers .entry)))) room ⌝ }
+{
+    let rows = rows_of(kinds, numbers);
+    let mut bytes = 0;
+    let mut i = 0;
+    while i < rows {
+        let size = line_size(kinds[i], numbers[i]);
+        if room - bytes < size {
+            return Printing::Refused(Refusal::LentSize);
+        }
+        bytes += size;
+        i += 1;
+    }
+    Printing::Bytes(bytes)
+}
+
+// Puts a word's letters.
+fn put_word(kind: u8, text: &mut [u8], at: usize)
+    requires { ⌜ at ≤ length (now text) ⌝ }
+    ensures { λ _. ⌜ now (text .exit) ≡ sets (now (text .entry)) at (wordAt words kind) ⌝ }
+{
+    let n = words::length(kind);
+    let mut i = 0;
+    while i < n {
+        slices::put_u8(text, at + i, words::letter(kind, i));
+        i += 1;
+    }
+}
+
+// Puts a row's line; the place behind it.
+fn put_line(kind: u8, number: i32, text: &mut [u8], at: usize) -> usize
+    requires { ⌜ at ≤ length (now text) ⌝ }
+    ensures { λ r. ⌜ (r ≡ at + length (written words (kind, number)))
+        × (now (text .exit) ≡ sets (now (text .entry)) at (written words (kind, number))) ⌝ }
+{
+    put_word(kind, text, at);
+    let comma = at + words::length(kind);
+    slices::put_u8(text, comma, b',');
+    numerals::put(number, text, comma + 1);
+    let end = comma + 1 + numerals::size(number);
+    slices::put_u8(text, end, b'\n');
+    end + 1
+}
+
+// Puts the rows' text at the front of a text that has room for it.
+pub fn put_text(kinds: &[u8], numbers: &[i32], text: &mut [u8])
+    requires { ⌜ length (textOf words (rowsOf (now kinds) (now numbers))) ≤ length (now text) ⌝ }
+    ensures { λ _. ⌜ now (text .exit) ≡ sets (now (text .entry)) 0 (textOf words (rowsOf (now (kinds .entry)) (now (numbers .entry)))) ⌝ }
+{
+    let rows = rows_of(kinds, numbers);
+    let mut at = 0;
+    let mut i = 0;
+    while i < rows {
+        at = put_line(kinds[i], numbers[i], text, at);
+        i += 1;
+    }
+}

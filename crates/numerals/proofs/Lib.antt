@@ -1,0 +1,3 @@
+pub mod SignedLaws
+pub mod ReadingLaws
+pub mod PuttingLaws

@@ -1,0 +1,34 @@
+-- `size` meets its contract: a number's bytes are its digits and, below 0, the minus. Assumes nothing.
+use mathlib.Core.Path.{ap}
+use native.Mathlib.Omega.{arith}
+use borrow.Author.Needs.{needs}
+use lib.ListN.{length}
+use Rattle.numerals.specs.Laws.{decimal-length}
+use Rattle.numerals.proofs.PuttingLaws.{below-zero, not-below-zero}
+use Rattle.numerals.proofs.size.Statement.{statement}
+use Rattle.numerals.proofs.size.Tie as tie
+
+absolute-requires : tie.Need-absolute-requires
+absolute-requires c κs = search needs
+
+digit-count-requires : tie.Need-digit-count-requires
+digit-count-requires c κs = search needs
+
+add-result : tie.Need-add-result
+add-result c = search needs
+
+returns : tie.Need-returns
+returns c =
+    let h = c .before .before .before .fits .number in
+    let written = ap length (below-zero h (c .before .before .absolute .ensures) (c .if1 .taken)) in
+    omega (arith, c .before .digit-count .ensures .0, written, decimal-length _ h)
+
+returns-2 : tie.Need-returns-2
+returns-2 c =
+    let h = c .before .before .before .fits .number in
+    let written = ap length (not-below-zero h (c .before .before .absolute .ensures) (c .if1 .left)) in
+    omega (arith, c .before .digit-count .ensures .0, written, decimal-length _ h)
+
+pub size-spec : {M : Type 1} → statement M
+size-spec =
+    tie.close (tie.spec absolute-requires digit-count-requires add-result returns returns-2)

@@ -1,0 +1,22 @@
+-- An entry of the table of words as the code's table holds it, in bytes: letters and blanks, their count, and a column for
+-- each sort. What the private function `word_at` answers; no other contract rests on it. Assumes nothing.
+use mathlib.Core.List.{List, [], _∷_, _++_, map}
+use Prim.Native.Nat.{ℕ, _+_}
+use lib.ListN.{length, take}
+use Rattle.words.specs.Words.{bytes, Entry, operandsAs}
+use Rattle.words.specs.declared.Sort.{Sort}
+use Rattle.words.specs.declared.Sort.the-variants.{Plan, DataType, Term, Loops, Cells, Command, Place, Value, Offset}
+use Rattle.words.specs.declared.Operands.{Operands}
+use Rattle.words.specs.declared.Operands.the-variants.{Count, NotOfSort}
+
+abbrev pub columnFor : Operands → ℕ
+columnFor (Count n) = 48 + n
+columnFor NotOfSort = 45
+
+abbrev pub sorts : List Sort
+sorts = Plan ∷ DataType ∷ Term ∷ Loops ∷ Cells ∷ Command ∷ Place ∷ Value ∷ Offset ∷ []
+
+unfoldable pub packed : Entry → List ℕ
+packed e =
+    take 6 (e .letters ++ bytes "      ")
+    ++ (32 ∷ (48 + length (e .letters)) ∷ 32 ∷ map (λ (s : Sort). columnFor (operandsAs s (e .uses))) sorts)
