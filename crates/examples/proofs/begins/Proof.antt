@@ -9,7 +9,9 @@ returns : tie.Need-returns
 returns c = search needs
 
 slice-aggregate-same : tie.Need-slice-aggregate-same
-slice-aggregate-same c = sym (length-take-le (c .before .before .before .before .args .size) (c .before .before .before .before .args .bytes .now) (c .before .if1 .left))
+slice-aggregate-same c =
+    let a = c .before .before .before .before .args in
+    sym (length-take-le (a .size) (a .bytes .now) (c .before .if1 .left))
 
 same-requires : tie.Need-same-requires
 same-requires c κs = search needs

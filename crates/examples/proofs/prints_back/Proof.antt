@@ -12,10 +12,14 @@ returns-2 : tie.Need-returns-2
 returns-2 c = search needs
 
 slice-aggregate-print : tie.Need-slice-aggregate-print
-slice-aggregate-print c = sym (length-take-le (c .before .before .before .before .before .args .rows) (c .before .before .before .before .before .args .kinds .now) (c .before .before .if1 .left))
+slice-aggregate-print c =
+    let a = c .before .before .before .before .before .args in
+    sym (length-take-le (a .rows) (a .kinds .now) (c .before .before .if1 .left))
 
 slice-aggregate-print-2 : tie.Need-slice-aggregate-print-2
-slice-aggregate-print-2 c = sym (length-take-le (c .before .before .before .before .before .before .args .rows) (c .before .before .before .before .before .before .args .numbers .now) (c .before .before .if2 .left))
+slice-aggregate-print-2 c =
+    let a = c .before .before .before .before .before .before .args in
+    sym (length-take-le (a .rows) (a .numbers .now) (c .before .before .if2 .left))
 
 slice-aggregate-print-3 : tie.Need-slice-aggregate-print-3
 slice-aggregate-print-3 c = search needs

@@ -17,16 +17,32 @@ enum-told-2 : tie.Need-enum-told-2
 enum-told-2 c = search needs
 
 returns : tie.Need-returns
-returns c = record { answer = c .before .before .text-size .ensures; text-left = unprinted (textOf words (rowsOf (c .before .before .before .before .before .args .kinds .now) (c .before .before .before .before .before .args .numbers .now))) (c .before .before .before .before .before .args .text .now) (c .before .before .text-size .ensures) (c .enum-told2 .given .1) }
+returns c =
+    let a = c .before .before .before .before .before .args in
+    record {
+      answer = c .before .before .text-size .ensures;
+      text-left = unprinted (textOf words (rowsOf (a .kinds .now) (a .numbers .now))) (a .text .now)
+          (c .before .before .text-size .ensures) (c .enum-told2 .given .1);
+    }
 
 put-text-requires : tie.Need-put-text-requires
-put-text-requires c κs = bytes-fit (textOf words (rowsOf (c .before .before .before .before .before .before .args .kinds .now) (c .before .before .before .before .before .before .args .numbers .now))) (c .before .before .before .before .before .before .args .text .now) (c .before .before .before .text-size .ensures) (c .before .enum-told .given .1)
+put-text-requires c κs =
+    let a = c .before .before .before .before .before .before .args in
+    bytes-fit (textOf words (rowsOf (a .kinds .now) (a .numbers .now))) (a .text .now)
+    (c .before .before .before .text-size .ensures) (c .before .enum-told .given .1)
 
 same-length : tie.Need-same-length
 same-length c = search needs
 
 returns-2 : tie.Need-returns-2
-returns-2 c = record { answer = c .before .before .before .before .before .before .text-size .ensures; text-left = printed (textOf words (rowsOf (c .before .before .before .before .before .before .before .before .before .args .kinds .now) (c .before .before .before .before .before .before .before .before .before .args .numbers .now))) (c .before .before .before .before .before .before .before .before .before .args .text .now) (c .before .before .before .before .before .before .text-size .ensures) (c .before .before .before .before .enum-told .given .1) (c .before .before .put-text .ensures) }
+returns-2 c =
+    let a = c .before .before .before .before .before .before .before .before .before .args in
+    let text-size = c .before .before .before .before .before .before .text-size in
+    record {
+      answer = text-size .ensures;
+      text-left = printed (textOf words (rowsOf (a .kinds .now) (a .numbers .now))) (a .text .now) (text-size .ensures)
+          (c .before .before .before .before .enum-told .given .1) (c .before .before .put-text .ensures);
+    }
 
 pub print-spec : {M : Type 1} → statement M
 print-spec =

@@ -21,13 +21,39 @@ enum-told : tie.Need-enum-told
 enum-told c = search needs
 
 returns : tie.Need-returns
-returns c = record { answer = c .before .before .ask .ensures; kinds-left = kept-refused (kindsOf (rowsIn (headOf words Words) (linesOf (c .before .before .before .before .before .args .text .now)))) (c .before .before .before .before .before .args .kinds .now) (length (c .before .before .before .before .before .args .kinds .now)) (length (c .before .before .before .before .before .args .numbers .now)) (c .enum-told .given .1); numbers-left = kept-refused (numbersOf (rowsIn (headOf words Words) (linesOf (c .before .before .before .before .before .args .text .now)))) (c .before .before .before .before .before .args .numbers .now) (length (c .before .before .before .before .before .args .kinds .now)) (length (c .before .before .before .before .before .args .numbers .now)) (c .enum-told .given .1) }
+returns c =
+    let a = c .before .before .before .before .before .args in
+    record {
+      answer = c .before .before .ask .ensures;
+      kinds-left = kept-refused (kindsOf (rowsIn (headOf words Words) (linesOf (a .text .now)))) (a .kinds .now)
+          (length (a .kinds .now)) (length (a .numbers .now)) (c .enum-told .given .1);
+      numbers-left = kept-refused (numbersOf (rowsIn (headOf words Words) (linesOf (a .text .now)))) (a .numbers .now)
+          (length (a .kinds .now)) (length (a .numbers .now)) (c .enum-told .given .1);
+    }
 
 returns-2 : tie.Need-returns-2
-returns-2 c = record { answer = sym (c .before .before .answer .given .1) ∙ c .before .before .before .before .ask .ensures; kinds-left = kept-kinds (kindsOf (rowsIn (headOf words Words) (linesOf (c .before .before .before .before .before .before .before .args .text .now)))) (c .before .before .before .before .before .before .before .args .kinds .now) (length (c .before .before .before .before .before .before .before .args .kinds .now)) (length (c .before .before .before .before .before .before .before .args .numbers .now)) (c .before .before .answer .given .0 .0) (c .if1 .taken); numbers-left = kept-kinds (numbersOf (rowsIn (headOf words Words) (linesOf (c .before .before .before .before .before .before .before .args .text .now)))) (c .before .before .before .before .before .before .before .args .numbers .now) (length (c .before .before .before .before .before .before .before .args .kinds .now)) (length (c .before .before .before .before .before .before .before .args .numbers .now)) (c .before .before .answer .given .0 .0) (c .if1 .taken) }
+returns-2 c =
+    let a = c .before .before .before .before .before .before .before .args in
+    let answer = c .before .before .answer in
+    record {
+      answer = sym (answer .given .1) ∙ c .before .before .before .before .ask .ensures;
+      kinds-left = kept-kinds (kindsOf (rowsIn (headOf words Words) (linesOf (a .text .now)))) (a .kinds .now)
+          (length (a .kinds .now)) (length (a .numbers .now)) (answer .given .0 .0) (c .if1 .taken);
+      numbers-left = kept-kinds (numbersOf (rowsIn (headOf words Words) (linesOf (a .text .now)))) (a .numbers .now)
+          (length (a .kinds .now)) (length (a .numbers .now)) (answer .given .0 .0) (c .if1 .taken);
+    }
 
 returns-3 : tie.Need-returns-3
-returns-3 c = record { answer = sym (c .before .before .before .answer .given .1) ∙ c .before .before .before .before .before .ask .ensures; kinds-left = kept-numbers (kindsOf (rowsIn (headOf words Words) (linesOf (c .before .before .before .before .before .before .before .before .args .text .now)))) (c .before .before .before .before .before .before .before .before .args .kinds .now) (length (c .before .before .before .before .before .before .before .before .args .kinds .now)) (length (c .before .before .before .before .before .before .before .before .args .numbers .now)) (c .before .before .before .answer .given .0 .0) (c .before .if1 .left) (c .if2 .taken); numbers-left = kept-numbers (numbersOf (rowsIn (headOf words Words) (linesOf (c .before .before .before .before .before .before .before .before .args .text .now)))) (c .before .before .before .before .before .before .before .before .args .numbers .now) (length (c .before .before .before .before .before .before .before .before .args .kinds .now)) (length (c .before .before .before .before .before .before .before .before .args .numbers .now)) (c .before .before .before .answer .given .0 .0) (c .before .if1 .left) (c .if2 .taken) }
+returns-3 c =
+    let a = c .before .before .before .before .before .before .before .before .args in
+    let answer = c .before .before .before .answer in
+    record {
+      answer = sym (answer .given .1) ∙ c .before .before .before .before .before .ask .ensures;
+      kinds-left = kept-numbers (kindsOf (rowsIn (headOf words Words) (linesOf (a .text .now)))) (a .kinds .now)
+          (length (a .kinds .now)) (length (a .numbers .now)) (answer .given .0 .0) (c .before .if1 .left) (c .if2 .taken);
+      numbers-left = kept-numbers (numbersOf (rowsIn (headOf words Words) (linesOf (a .text .now)))) (a .numbers .now)
+          (length (a .kinds .now)) (length (a .numbers .now)) (answer .given .0 .0) (c .before .if1 .left) (c .if2 .taken);
+    }
 
 put-rows-requires : tie.Need-put-rows-requires
 put-rows-requires c κs = search needs
@@ -39,9 +65,28 @@ same-length-2 : tie.Need-same-length-2
 same-length-2 c = search needs
 
 returns-4 : tie.Need-returns-4
-returns-4 c = let answered = sym (c .before .before .before .before .before .before .before .before .before .answer .given .1) ∙ c .before .before .before .before .before .before .before .before .before .before .before .ask .ensures in
-    let count = rows-read (headOf words Words) (c .before .before .before .before .before .before .before .before .before .before .before .before .before .before .args .limits) (c .before .before .before .before .before .before .before .before .before .before .before .before .before .before .args .text .now) (c .before .before .before .before .before .before .before .before .before .answer .given .0 .0) (sym answered) in
-    record { answer = answered; kinds-left = filled-with (kindsOf (rowsIn (headOf words Words) (linesOf (c .before .before .before .before .before .before .before .before .before .before .before .before .before .before .args .text .now)))) (c .before .before .before .before .before .before .before .before .before .before .before .before .before .before .args .kinds .now) (length (c .before .before .before .before .before .before .before .before .before .before .before .before .before .before .args .kinds .now)) (length (c .before .before .before .before .before .before .before .before .before .before .before .before .before .before .args .numbers .now)) (c .before .before .before .before .before .before .before .before .before .answer .given .0 .0) (c .before .before .before .before .before .before .before .if1 .left) (c .before .before .before .before .before .before .if2 .left) (length-map (rowsIn (headOf words Words) (linesOf (c .before .before .before .before .before .before .before .before .before .before .before .before .before .before .args .text .now))) (λ (r : Row). r .0) ∙ count) (c .before .before .before .before .before .before .before .if1 .left) (c .before .before .before .put-rows .ensures .0); numbers-left = filled-with (numbersOf (rowsIn (headOf words Words) (linesOf (c .before .before .before .before .before .before .before .before .before .before .before .before .before .before .args .text .now)))) (c .before .before .before .before .before .before .before .before .before .before .before .before .before .before .args .numbers .now) (length (c .before .before .before .before .before .before .before .before .before .before .before .before .before .before .args .kinds .now)) (length (c .before .before .before .before .before .before .before .before .before .before .before .before .before .before .args .numbers .now)) (c .before .before .before .before .before .before .before .before .before .answer .given .0 .0) (c .before .before .before .before .before .before .before .if1 .left) (c .before .before .before .before .before .before .if2 .left) (length-map (rowsIn (headOf words Words) (linesOf (c .before .before .before .before .before .before .before .before .before .before .before .before .before .before .args .text .now))) (λ (r : Row). r .1) ∙ count) (c .before .before .before .before .before .before .if2 .left) (c .before .before .before .put-rows .ensures .1) }
+returns-4 c =
+    let a = c .before .before .before .before .before .before .before .before .before .before .before .before .before .before .args in
+    let answer = c .before .before .before .before .before .before .before .before .before .answer in
+    let put-rows = c .before .before .before .put-rows in
+    let answered = sym (answer .given .1)
+    ∙ c .before .before .before .before .before .before .before .before .before .before .before .ask .ensures in
+    let count = rows-read (headOf words Words) (a .limits) (a .text .now) (answer .given .0 .0) (sym answered) in
+    record {
+      answer = answered;
+      kinds-left = filled-with (kindsOf (rowsIn (headOf words Words) (linesOf (a .text .now)))) (a .kinds .now)
+          (length (a .kinds .now)) (length (a .numbers .now)) (answer .given .0 .0)
+          (c .before .before .before .before .before .before .before .if1 .left)
+          (c .before .before .before .before .before .before .if2 .left)
+          (length-map (rowsIn (headOf words Words) (linesOf (a .text .now))) (λ (r : Row). r .0) ∙ count)
+          (c .before .before .before .before .before .before .before .if1 .left) (put-rows .ensures .0);
+      numbers-left = filled-with (numbersOf (rowsIn (headOf words Words) (linesOf (a .text .now)))) (a .numbers .now)
+          (length (a .kinds .now)) (length (a .numbers .now)) (answer .given .0 .0)
+          (c .before .before .before .before .before .before .before .if1 .left)
+          (c .before .before .before .before .before .before .if2 .left)
+          (length-map (rowsIn (headOf words Words) (linesOf (a .text .now))) (λ (r : Row). r .1) ∙ count)
+          (c .before .before .before .before .before .before .if2 .left) (put-rows .ensures .1);
+    }
 
 pub read-spec : {M : Type 1} → statement M
 read-spec =

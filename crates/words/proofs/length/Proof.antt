@@ -15,7 +15,11 @@ digit-requires : tie.Need-digit-requires
 digit-requires c κs = omega (arith, word-length _ _ (c .word-at .ensures))
 
 returns : tie.Need-returns
-returns c = (omega (arith, word-length _ _ (c .before .word-at .ensures), c .digit .ensures), omega (arith, word-length _ _ (c .before .word-at .ensures), c .digit .ensures, word-short (c .before .before .args .kind)))
+returns c = (
+  omega (arith, word-length _ _ (c .before .word-at .ensures), c .digit .ensures),
+  omega
+      (arith, word-length _ _ (c .before .word-at .ensures), c .digit .ensures, word-short (c .before .before .args .kind)),
+)
 
 pub length-spec : {M : Type 1} → statement M
 length-spec = tie.close (tie.spec word-at-requires array-read-digit digit-requires returns)

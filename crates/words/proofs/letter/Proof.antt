@@ -12,7 +12,9 @@ length-requires : tie.Need-length-requires
 length-requires c κs = search needs
 
 returns : tie.Need-returns
-returns c = sym (List·getD-eq-default (wordAt words (c .before .before .args .kind)) 0 (omega (arith, c .before .length .ensures .0)))
+returns c =
+    sym
+    (List·getD-eq-default (wordAt words (c .before .before .args .kind)) 0 (omega (arith, c .before .length .ensures .0)))
 
 word-at-requires : tie.Need-word-at-requires
 word-at-requires c κs = search needs
@@ -21,7 +23,9 @@ array-read-result : tie.Need-array-read-result
 array-read-result c = search needs
 
 returns-2 : tie.Need-returns-2
-returns-2 c = word-letter _ _ (c .word-at .ensures) (c .before .before .before .args .i) (omega (arith, c .before .before .length .ensures .0))
+returns-2 c =
+    word-letter _ _ (c .word-at .ensures) (c .before .before .before .args .i)
+    (omega (arith, c .before .before .length .ensures .0))
 
 pub letter-spec : {M : Type 1} → statement M
 letter-spec =

@@ -27,7 +27,11 @@ cast-t5 : tie.Need-cast-t5 Inv-loop μ-loop
 cast-t5 c = search needs
 
 returns : tie.Need-returns Inv-loop μ-loop
-returns c = sym (c .before .before .before .loop .inv .1 ∙ look-next words (c .before .before .before .before .before .args .letters .now) (c .before .before .before .loop .kind) (omega (arith, words-count)) ∙ ap (λ (b : Bool). cond b (At (c .before .before .before .loop .kind)) (lookFrom (c .before .before .before .loop .kind + 1) (drop (c .before .before .before .loop .kind + 1) words) (c .before .before .before .before .before .args .letters .now))) (sym (c .before .same .ensures) ∙ c .if1 .taken))
+returns c =
+    let a = c .before .before .before .before .before .args in
+    let turn = c .before .before .before .loop in
+    sym
+    (turn .inv .1 ∙ look-next words (a .letters .now) (turn .kind) (omega (arith, words-count)) ∙ ap (λ (b : Bool). cond b (At (turn .kind)) (lookFrom (turn .kind + 1) (drop (turn .kind + 1) words) (a .letters .now))) (sym (c .before .same .ensures) ∙ c .if1 .taken))
 
 add-kind : tie.Need-add-kind Inv-loop μ-loop
 add-kind c = search needs
@@ -36,10 +40,21 @@ loop-less : tie.Need-loop-less Inv-loop μ-loop
 loop-less c = search needs
 
 loop-again : tie.Need-loop-again Inv-loop μ-loop
-loop-again c = (search needs, c .before .before .before .loop .inv .1 ∙ look-next words (c .before .before .before .before .before .args .letters .now) (c .before .before .before .loop .kind) (omega (arith, words-count)) ∙ ap (λ (b : Bool). cond b (At (c .before .before .before .loop .kind)) (lookFrom (c .before .before .before .loop .kind + 1) (drop (c .before .before .before .loop .kind + 1) words) (c .before .before .before .before .before .args .letters .now))) (sym (c .before .same .ensures) ∙ c .if1 .left))
+loop-again c =
+    let a = c .before .before .before .before .before .args in
+    let turn = c .before .before .before .loop in (
+      search needs,
+      turn .inv .1
+          ∙ look-next words (a .letters .now) (turn .kind) (omega (arith, words-count))
+          ∙ ap
+          (λ (b : Bool). cond b (At (turn .kind)) (lookFrom (turn .kind + 1) (drop (turn .kind + 1) words) (a .letters .now)))
+          (sym (c .before .same .ensures) ∙ c .if1 .left),
+    )
 
 returns-2 : tie.Need-returns-2 Inv-loop μ-loop
-returns-2 c = sym (c .before .loop .inv .1 ∙ look-end words (c .before .before .before .args .letters .now) (c .before .loop .kind) (omega (arith, words-count)))
+returns-2 c =
+    sym
+    (c .before .loop .inv .1 ∙ look-end words (c .before .before .before .args .letters .now) (c .before .loop .kind) (omega (arith, words-count)))
 
 pub look-up-spec : {M : Type 1} → statement M
 look-up-spec =

@@ -39,7 +39,10 @@ array-read-if2 : tie.Need-array-read-if2 Inv-loop μ-loop
 array-read-if2 c = omega (arith, c .before .before .before .before .before .length .ensures .1)
 
 returns-2 : tie.Need-returns-2 Inv-loop μ-loop
-returns-2 c = same-false _ _ (λ e. c .if2 .taken (ap (λ (l : List ℕ). getD l (c .before .before .before .loop .i) 0) e ∙ sym (word-letter _ _ (c .before .before .before .before .word-at .ensures) (c .before .before .before .loop .i) (omega (arith, c .before .before .before .before .before .before .length .ensures .0)))))
+returns-2 c =
+    let turn = c .before .before .before .loop in
+    same-false _ _
+    (λ e. c .if2 .taken (ap (λ (l : List ℕ). getD l (turn .i) 0) e ∙ sym (word-letter _ _ (c .before .before .before .before .word-at .ensures) (turn .i) (omega (arith, c .before .before .before .before .before .before .length .ensures .0)))))
 
 add-i : tie.Need-add-i Inv-loop μ-loop
 add-i c = search needs
@@ -51,7 +54,11 @@ loop-again : tie.Need-loop-again Inv-loop μ-loop
 loop-again c = (search needs, below-more _ _ (c .before .before .before .loop .inv .1) (c .if2 .left))
 
 returns-3 : tie.Need-returns-3 Inv-loop μ-loop
-returns-3 c = same-true _ _ (ext-getD 0 (c .before .before .before .before .before .before .args .letters .now) (wordAt words (c .before .before .before .before .before .before .args .kind)) (c .before .before .before .if1 .left ∙ c .before .before .before .before .length .ensures .0) (λ k h. c .before .loop .inv .1 k (omega arith) ∙ word-letter _ _ (c .before .before .word-at .ensures) k (omega (arith, c .before .before .before .before .length .ensures .0))))
+returns-3 c =
+    let a = c .before .before .before .before .before .before .args in
+    let length = c .before .before .before .before .length in
+    same-true _ _
+    (ext-getD 0 (a .letters .now) (wordAt words (a .kind)) (c .before .before .before .if1 .left ∙ length .ensures .0) (λ k h. c .before .loop .inv .1 k (omega arith) ∙ word-letter _ _ (c .before .before .word-at .ensures) k (omega (arith, length .ensures .0))))
 
 pub same-spec : {M : Type 1} → statement M
 same-spec =

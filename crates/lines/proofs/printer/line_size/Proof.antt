@@ -27,8 +27,12 @@ add-result-3 : tie.Need-add-result-3
 add-result-3 c = search needs
 
 returns : tie.Need-returns
-returns c = let same = c .size .ensures .0 ∙ ap (λ (z : ℤ). length (decimal z)) (toZ-ofZ (c .before .before .fits .number)) in
-    (omega (arith, same, c .before .length .ensures .0, line-length words (c .before .before .args .kind, c .before .before .args .number)), omega (arith, c .size .ensures .1, c .before .length .ensures .1))
+returns c =
+    let a = c .before .before .args in
+    let same = c .size .ensures .0 ∙ ap (λ (z : ℤ). length (decimal z)) (toZ-ofZ (c .before .before .fits .number)) in (
+      omega (arith, same, c .before .length .ensures .0, line-length words (a .kind, a .number)),
+      omega (arith, c .size .ensures .1, c .before .length .ensures .1),
+    )
 
 pub line-size-spec : {M : Type 1} → statement M
 line-size-spec =

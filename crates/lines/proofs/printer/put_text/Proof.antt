@@ -39,7 +39,9 @@ shared-slice-copy-out-put-line : tie.Need-shared-slice-copy-out-put-line Inv-loo
 shared-slice-copy-out-put-line c = search needs
 
 put-line-requires : tie.Need-put-line-requires Inv-loop μ-loop
-put-line-requires c κs = omega (arith, c .before .before .before .before .loop .inv .1, c .before .before .before .before .loop .inv .2)
+put-line-requires c κs =
+    let turn = c .before .before .before .before .loop in
+    omega (arith, turn .inv .1, turn .inv .2)
 
 add-i : tie.Need-add-i Inv-loop μ-loop
 add-i c = search needs
@@ -48,15 +50,33 @@ loop-less : tie.Need-loop-less Inv-loop μ-loop
 loop-less c = search needs
 
 loop-again : tie.Need-loop-again Inv-loop μ-loop
-loop-again c = let line = ap (λ (z : ℤ). written words (getD (c .before .before .before .before .before .before .before .before .before .before .before .args .kinds .now) (c .before .before .before .before .before .before .before .loop .i) 0, z)) (held (getD (c .before .before .before .before .before .before .before .before .before .before .before .args .numbers .now) (c .before .before .before .before .before .before .before .loop .i) (pos 0)) (c .before .before .before .before .put-line-arg .given)) in
-    let left = size-from words (c .before .before .before .before .before .before .before .before .before .before .before .args .kinds .now) (c .before .before .before .before .before .before .before .before .before .before .before .args .numbers .now) (c .before .before .before .before .before .before .before .loop .i) (omega (arith, c .before .before .before .before .before .before .before .before .rows-of .ensures .0, c .before .before .before .before .before .before .loop-test .taken)) in
-    (search needs, ap length (c .before .before .put-line .ensures .1) ∙ simp length-sets (c .before .before .before .before .before .before .before .loop .inv .1), omega (arith, c .before .before .before .before .before .before .before .loop .inv .2, left, c .before .before .put-line .ensures .0, ap length line), text-put words (c .before .before .before .before .before .before .before .before .before .before .before .args .kinds .now) (c .before .before .before .before .before .before .before .before .before .before .before .args .numbers .now) (c .before .before .before .before .before .before .before .loop .i) (omega (arith, c .before .before .before .before .before .before .before .before .rows-of .ensures .0, c .before .before .before .before .before .before .loop-test .taken)) (c .before .before .before .before .before .before .before .loop .text) _ _ _ (c .before .before .before .before .before .before .before .loop .at) (c .before .before .put-line .result) line (c .before .before .put-line .ensures .0) (c .before .before .put-line .ensures .1) (c .before .before .before .before .before .before .before .loop .inv .3))
+loop-again c =
+    let a = c .before .before .before .before .before .before .before .before .before .before .before .args in
+    let rows-of = c .before .before .before .before .before .before .before .before .rows-of in
+    let turn = c .before .before .before .before .before .before .before .loop in
+    let put-line = c .before .before .put-line in
+    let line = ap (λ (z : ℤ). written words (getD (a .kinds .now) (turn .i) 0, z))
+    (held (getD (a .numbers .now) (turn .i) (pos 0)) (c .before .before .before .before .put-line-arg .given)) in
+    let left = size-from words (a .kinds .now) (a .numbers .now) (turn .i)
+    (omega (arith, rows-of .ensures .0, c .before .before .before .before .before .before .loop-test .taken)) in (
+      search needs,
+      ap length (put-line .ensures .1) ∙ simp length-sets (turn .inv .1),
+      omega (arith, turn .inv .2, left, put-line .ensures .0, ap length line),
+      text-put words (a .kinds .now) (a .numbers .now) (turn .i)
+          (omega (arith, rows-of .ensures .0, c .before .before .before .before .before .before .loop-test .taken))
+          (turn .text) _ _ _ (turn .at) (put-line .result) line (put-line .ensures .0) (put-line .ensures .1) (turn .inv .3),
+    )
 
 same-length : tie.Need-same-length Inv-loop μ-loop
 same-length c = c .before .loop .inv .1
 
 returns : tie.Need-returns Inv-loop μ-loop
-returns c = ap (sets (c .before .loop .text) (c .before .loop .at)) (sym (text-end words (c .before .before .before .before .before .args .kinds .now) (c .before .before .before .before .before .args .numbers .now) (c .before .loop .i) (omega (arith, c .before .before .rows-of .ensures .0, c .loop-test .left)))) ∙ c .before .loop .inv .3
+returns c =
+    let a = c .before .before .before .before .before .args in
+    let turn = c .before .loop in
+    ap (sets (turn .text) (turn .at))
+    (sym (text-end words (a .kinds .now) (a .numbers .now) (turn .i) (omega (arith, c .before .before .rows-of .ensures .0, c .loop-test .left))))
+    ∙ turn .inv .3
 
 pub put-text-spec : {M : Type 1} → statement M
 put-text-spec =

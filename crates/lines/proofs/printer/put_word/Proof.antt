@@ -23,7 +23,9 @@ length-requires : tie.Need-length-requires Inv-loop μ-loop
 length-requires c κs = search needs
 
 loop-holds : tie.Need-loop-holds Inv-loop μ-loop
-loop-holds c = (search needs, refl, ap (λ (j : ℕ). sets (c .before .before .args .text .now) j (wordAt words (c .before .before .args .kind))) (add-zero (c .before .before .args .at)))
+loop-holds c =
+    let a = c .before .before .args in
+    (search needs, refl, ap (λ (j : ℕ). sets (a .text .now) j (wordAt words (a .kind))) (add-zero (a .at)))
 
 add-put-u8 : tie.Need-add-put-u8 Inv-loop μ-loop
 add-put-u8 c = search needs
@@ -41,14 +43,30 @@ loop-less : tie.Need-loop-less Inv-loop μ-loop
 loop-less c = search needs
 
 loop-again : tie.Need-loop-again Inv-loop μ-loop
-loop-again c = (search needs, ap length (c .before .before .put-u8 .ensures) ∙ length-set (c .before .before .before .before .before .before .loop .text) (c .before .before .before .before .before .before .before .before .before .args .at + c .before .before .before .before .before .before .loop .i) (c .before .before .before .letter .result) ∙ c .before .before .before .before .before .before .loop .inv .1, ap (λ (t : List ℕ). sets t (c .before .before .before .before .before .before .before .before .before .args .at + (c .before .before .before .before .before .before .loop .i + 1)) (drop (c .before .before .before .before .before .before .loop .i + 1) (wordAt words (c .before .before .before .before .before .before .before .before .before .args .kind)))) (c .before .before .put-u8 .ensures ∙ ap (set (c .before .before .before .before .before .before .loop .text) (c .before .before .before .before .before .before .before .before .before .args .at + c .before .before .before .before .before .before .loop .i)) (c .before .before .before .letter .ensures)) ∙ sym (sets-next (c .before .before .before .before .before .before .loop .text) (c .before .before .before .before .before .before .before .before .before .args .at) (c .before .before .before .before .before .before .loop .i) (wordAt words (c .before .before .before .before .before .before .before .before .before .args .kind)) 0 (omega (arith, c .before .before .before .before .before .before .before .length .ensures .0, c .before .before .before .before .before .loop-test .taken))) ∙ c .before .before .before .before .before .before .loop .inv .2)
+loop-again c =
+    let a = c .before .before .before .before .before .before .before .before .before .args in
+    let turn = c .before .before .before .before .before .before .loop in
+    let letter = c .before .before .before .letter in
+    let put-u8 = c .before .before .put-u8 in (
+      search needs,
+      ap length (put-u8 .ensures) ∙ length-set (turn .text) (a .at + turn .i) (letter .result) ∙ turn .inv .1,
+      ap (λ (t : List ℕ). sets t (a .at + (turn .i + 1)) (drop (turn .i + 1) (wordAt words (a .kind))))
+          (put-u8 .ensures ∙ ap (set (turn .text) (a .at + turn .i)) (letter .ensures))
+          ∙ sym
+          (sets-next (turn .text) (a .at) (turn .i) (wordAt words (a .kind)) 0 (omega (arith, c .before .before .before .before .before .before .before .length .ensures .0, c .before .before .before .before .before .loop-test .taken)))
+          ∙ turn .inv .2,
+    )
 
 same-length : tie.Need-same-length Inv-loop μ-loop
 same-length c = c .before .loop .inv .1
 
 returns : tie.Need-returns Inv-loop μ-loop
-returns c = let all : length (wordAt words (c .before .before .before .before .args .kind)) ≤ c .before .loop .i = omega (arith, c .before .before .length .ensures .0, c .loop-test .left) in
-    ap (sets (c .before .loop .text) (c .before .before .before .before .args .at + c .before .loop .i)) (sym (drop-of-length-le (wordAt words (c .before .before .before .before .args .kind)) all)) ∙ c .before .loop .inv .2
+returns c =
+    let a = c .before .before .before .before .args in
+    let turn = c .before .loop in
+    let all : length (wordAt words (c .before .before .before .before .args .kind)) ≤ c .before .loop .i = omega
+    (arith, c .before .before .length .ensures .0, c .loop-test .left) in
+    ap (sets (turn .text) (a .at + turn .i)) (sym (drop-of-length-le (wordAt words (a .kind)) all)) ∙ turn .inv .2
 
 pub put-word-spec : {M : Type 1} → statement M
 put-word-spec =

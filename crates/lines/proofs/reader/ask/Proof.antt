@@ -7,10 +7,14 @@ use Rattle.lines.proofs.reader.ask.Statement.{statement}
 use Rattle.lines.proofs.reader.ask.Tie as tie
 
 returns : tie.Need-returns
-returns c = empty-text (headOf words (c .before .before .args .heads)) (c .before .before .args .limits) (c .before .before .args .text .now) (c .if1 .taken)
+returns c =
+    let a = c .before .before .args in
+    empty-text (headOf words (a .heads)) (a .limits) (a .text .now) (c .if1 .taken)
 
 returns-2 : tie.Need-returns-2
-returns-2 c = long-text (headOf words (c .before .before .before .before .args .heads)) (c .before .before .before .before .args .limits) (c .before .before .before .before .args .text .now) (c .before .before .if1 .left) (c .if2 .taken)
+returns-2 c =
+    let a = c .before .before .before .before .args in
+    long-text (headOf words (a .heads)) (a .limits) (a .text .now) (c .before .before .if1 .left) (c .if2 .taken)
 
 sub-if3 : tie.Need-sub-if3
 sub-if3 c = search needs
@@ -19,7 +23,10 @@ shared-slice-read-if3 : tie.Need-shared-slice-read-if3
 shared-slice-read-if3 c = search needs
 
 returns-3 : tie.Need-returns-3
-returns-3 c = open-text (headOf words (c .before .before .before .before .before .before .args .heads)) (c .before .before .before .before .before .before .args .limits) (c .before .before .before .before .before .before .args .text .now) (c .before .before .before .before .if1 .left) (c .before .before .if2 .left) (c .if3 .taken)
+returns-3 c =
+    let a = c .before .before .before .before .before .before .args in
+    open-text (headOf words (a .heads)) (a .limits) (a .text .now) (c .before .before .before .before .if1 .left)
+    (c .before .before .if2 .left) (c .if3 .taken)
 
 ask-lines-requires : tie.Need-ask-lines-requires
 ask-lines-requires c κs = search needs
@@ -31,13 +38,32 @@ enum-told : tie.Need-enum-told
 enum-told c = search needs
 
 returns-4 : tie.Need-returns-4
-returns-4 c = no-row (headOf words (c .before .before .before .before .before .before .before .before .before .args .heads)) (c .before .before .before .before .before .before .before .before .before .args .limits) (c .before .before .before .before .before .before .before .before .before .args .text .now) (c .before .before .before .before .before .before .before .if1 .left) (c .before .before .before .before .before .if2 .left) (c .before .before .before .if3 .left) (c .before .before .ask-lines .ensures) (c .enum-told .given .1)
+returns-4 c =
+    let a = c .before .before .before .before .before .before .before .before .before .args in
+    no-row (headOf words (a .heads)) (a .limits) (a .text .now)
+    (c .before .before .before .before .before .before .before .if1 .left)
+    (c .before .before .before .before .before .if2 .left) (c .before .before .before .if3 .left)
+    (c .before .before .ask-lines .ensures) (c .enum-told .given .1)
 
 returns-5 : tie.Need-returns-5
-returns-5 c = many-lines (headOf words (c .before .before .before .before .before .before .before .before .before .before .before .before .args .heads)) (c .before .before .before .before .before .before .before .before .before .before .before .before .args .limits) (c .before .before .before .before .before .before .before .before .before .before .before .before .args .text .now) (c .before .before .before .before .before .before .before .before .before .before .if1 .left) (c .before .before .before .before .before .before .before .before .if2 .left) (c .before .before .before .before .before .before .if3 .left) (c .before .before .before .before .before .ask-lines .ensures) (c .before .before .before .answer .given .1) (c .if4 .taken)
+returns-5 c =
+    let a = c .before .before .before .before .before .before .before .before .before .before .before .before .args in
+    many-lines (headOf words (a .heads)) (a .limits) (a .text .now)
+    (c .before .before .before .before .before .before .before .before .before .before .if1 .left)
+    (c .before .before .before .before .before .before .before .before .if2 .left)
+    (c .before .before .before .before .before .before .if3 .left)
+    (c .before .before .before .before .before .ask-lines .ensures) (c .before .before .before .answer .given .1)
+    (c .if4 .taken)
 
 returns-6 : tie.Need-returns-6
-returns-6 c = all-rows (headOf words (c .before .before .before .before .before .before .before .before .before .before .before .before .args .heads)) (c .before .before .before .before .before .before .before .before .before .before .before .before .args .limits) (c .before .before .before .before .before .before .before .before .before .before .before .before .args .text .now) (c .before .before .before .before .before .before .before .before .before .before .if1 .left) (c .before .before .before .before .before .before .before .before .if2 .left) (c .before .before .before .before .before .before .if3 .left) (c .before .before .before .before .before .ask-lines .ensures) (c .before .before .before .answer .given .1) (c .if4 .left)
+returns-6 c =
+    let a = c .before .before .before .before .before .before .before .before .before .before .before .before .args in
+    all-rows (headOf words (a .heads)) (a .limits) (a .text .now)
+    (c .before .before .before .before .before .before .before .before .before .before .if1 .left)
+    (c .before .before .before .before .before .before .before .before .if2 .left)
+    (c .before .before .before .before .before .before .if3 .left)
+    (c .before .before .before .before .before .ask-lines .ensures) (c .before .before .before .answer .given .1)
+    (c .if4 .left)
 
 pub ask-spec : {M : Type 1} → statement M
 ask-spec =

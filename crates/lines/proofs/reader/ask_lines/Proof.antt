@@ -34,16 +34,37 @@ enum-told-2 : tie.Need-enum-told-2 Inv-loop μ-loop
 enum-told-2 c = search needs
 
 returns : tie.Need-returns Inv-loop μ-loop
-returns c = formed-none (headOf words (c .before .before .before .before .before .before .args .heads)) (c .before .before .before .before .before .before .args .text .now) (c .before .before .before .before .loop .at) (c .before .before .next-line .result .after) (c .before .before .before .loop-test .taken) (c .before .before .next-line .ensures .0) (c .before .before .next-line .ensures .1) (c .before .before .before .before .loop .lines) (c .enum-told2 .given .1) ∙ sym (c .before .before .before .before .loop .inv .2)
+returns c =
+    let a = c .before .before .before .before .before .before .args in
+    let turn = c .before .before .before .before .loop in
+    let next-line = c .before .before .next-line in
+    formed-none (headOf words (a .heads)) (a .text .now) (turn .at) (next-line .result .after)
+    (c .before .before .before .loop-test .taken) (next-line .ensures .0) (next-line .ensures .1) (turn .lines)
+    (c .enum-told2 .given .1)
+    ∙ sym (turn .inv .2)
 
 loop-less : tie.Need-loop-less Inv-loop μ-loop
 loop-less c = omega (arith, c .before .before .next-line .ensures .1)
 
 loop-again : tie.Need-loop-again Inv-loop μ-loop
-loop-again c = (c .before .before .next-line .ensures .2, omega (arith, c .before .before .next-line .ensures .1, c .before .before .before .before .loop .inv .1), c .before .before .before .before .loop .inv .2 ∙ formed-row (headOf words (c .before .before .before .before .before .before .args .heads)) (c .before .before .before .before .before .before .args .text .now) (c .before .before .before .before .loop .at) (c .before .before .next-line .result .after) (c .before .before .before .loop-test .taken) (c .before .before .next-line .ensures .0) (c .before .before .next-line .ensures .1) (c .before .before .before .before .loop .lines) (c .enum-told .given .1))
+loop-again c =
+    let a = c .before .before .before .before .before .before .args in
+    let turn = c .before .before .before .before .loop in
+    let next-line = c .before .before .next-line in (
+      next-line .ensures .2,
+      omega (arith, next-line .ensures .1, turn .inv .1),
+      turn .inv .2
+          ∙ formed-row (headOf words (a .heads)) (a .text .now) (turn .at) (next-line .result .after)
+          (c .before .before .before .loop-test .taken) (next-line .ensures .0) (next-line .ensures .1) (turn .lines)
+          (c .enum-told .given .1),
+    )
 
 returns-2 : tie.Need-returns-2 Inv-loop μ-loop
-returns-2 c = sym (c .before .loop .inv .2 ∙ formed-end (headOf words (c .before .before .before .args .heads)) (c .before .before .before .args .text .now) (c .before .loop .at) (c .loop-test .left) (c .before .loop .lines))
+returns-2 c =
+    let a = c .before .before .before .args in
+    let turn = c .before .loop in
+    sym
+    (turn .inv .2 ∙ formed-end (headOf words (a .heads)) (a .text .now) (turn .at) (c .loop-test .left) (turn .lines))
 
 pub ask-lines-spec : {M : Type 1} → statement M
 ask-lines-spec =

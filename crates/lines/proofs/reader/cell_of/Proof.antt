@@ -10,16 +10,21 @@ enum-known-number : tie.Need-enum-known-number
 enum-known-number c = search needs
 
 returns : tie.Need-returns
-returns c = no-cell (c .before .before .number .given .1) (record { sfits = c .before .known-told .given .0 .1 }) (c .if1 .taken)
+returns c =
+    no-cell (c .before .before .number .given .1) (record { sfits = c .before .known-told .given .0 .1 })
+    (c .if1 .taken)
 
 cast-t5 : tie.Need-cast-t5
-cast-t5 c = cell-fits (c .before .before .number .given .1) (record { sfits = c .before .known-told .given .0 .1 }) (c .if1 .left)
+cast-t5 c =
+    cell-fits (c .before .before .number .given .1) (record { sfits = c .before .known-told .given .0 .1 })
+    (c .if1 .left)
 
 enum-told : tie.Need-enum-told
 enum-told c = search needs
 
 returns-2 : tie.Need-returns-2
-returns-2 c = cell (c .before .before .number .given .1) (record { sfits = c .before .known-told .given .0 .1 }) (c .if1 .left)
+returns-2 c =
+    cell (c .before .before .number .given .1) (record { sfits = c .before .known-told .given .0 .1 }) (c .if1 .left)
 
 returns-3 : tie.Need-returns-3
 returns-3 c = ap cellOf (sym (c .enum-told .given .1))

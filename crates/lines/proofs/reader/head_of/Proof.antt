@@ -23,10 +23,17 @@ cell-of-requires : tie.Need-cell-of-requires
 cell-of-requires c κs = search needs
 
 returns : tie.Need-returns
-returns c = c .look-up .ensures ∙ ap (λ (h : Heads). headOf words h (c .before .before .before .before .args .bytes .now)) (sym (c .before .enum-told .given .1))
+returns c =
+    c .look-up .ensures
+    ∙ ap (λ (h : Heads). headOf words h (c .before .before .before .before .args .bytes .now))
+    (sym (c .before .enum-told .given .1))
 
 returns-2 : tie.Need-returns-2
-returns-2 c = c .cell-of .ensures ∙ ap cellOf (c .before .read .ensures) ∙ ap (λ (h : Heads). headOf words h (c .before .before .before .before .before .args .bytes .now)) (sym (c .before .before .enum-told2 .given .1))
+returns-2 c =
+    c .cell-of .ensures
+    ∙ ap cellOf (c .before .read .ensures)
+    ∙ ap (λ (h : Heads). headOf words h (c .before .before .before .before .before .args .bytes .now))
+    (sym (c .before .before .enum-told2 .given .1))
 
 pub head-of-spec : {M : Type 1} → statement M
 head-of-spec =

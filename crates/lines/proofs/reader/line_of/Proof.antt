@@ -15,7 +15,9 @@ place-of-requires : tie.Need-place-of-requires
 place-of-requires c κs = search needs
 
 slice-aggregate-head-of : tie.Need-slice-aggregate-head-of
-slice-aggregate-head-of c = sym (length-take-le (c .before .place-of .result) (c .before .before .before .args .line .now) (c .before .place-of .ensures .1))
+slice-aggregate-head-of c =
+    sym
+    (length-take-le (c .before .place-of .result) (c .before .before .before .args .line .now) (c .before .place-of .ensures .1))
 
 head-of-requires : tie.Need-head-of-requires
 head-of-requires c κs = search needs
@@ -27,10 +29,17 @@ enum-told : tie.Need-enum-told
 enum-told c = search needs
 
 returns : tie.Need-returns
-returns c = no-head (headOf words (c .before .before .before .before .before .before .args .heads)) (c .before .before .before .before .before .before .args .line .now) (c .before .before .before .before .place-of .result) (c .before .before .before .before .place-of .ensures .0) (c .before .before .head-of .ensures) (c .enum-told .given .1)
+returns c =
+    let a = c .before .before .before .before .before .before .args in
+    let place-of = c .before .before .before .before .place-of in
+    no-head (headOf words (a .heads)) (a .line .now) (place-of .result) (place-of .ensures .0)
+    (c .before .before .head-of .ensures) (c .enum-told .given .1)
 
 returns-2 : tie.Need-returns-2
-returns-2 c = no-comma (headOf words (c .before .before .before .before .before .before .before .before .args .heads)) (c .before .before .before .before .before .before .before .before .args .line .now) (c .before .before .before .before .before .before .place-of .result) (c .before .before .before .before .before .before .place-of .ensures .0) (c .if1 .taken)
+returns-2 c =
+    let a = c .before .before .before .before .before .before .before .before .args in
+    let place-of = c .before .before .before .before .before .before .place-of in
+    no-comma (headOf words (a .heads)) (a .line .now) (place-of .result) (place-of .ensures .0) (c .if1 .taken)
 
 add-behind : tie.Need-add-behind
 add-behind c = search needs
@@ -54,10 +63,21 @@ enum-told-2 : tie.Need-enum-told-2
 enum-told-2 c = search needs
 
 returns-3 : tie.Need-returns-3
-returns-3 c = no-number (headOf words (c .before .before .before .before .before .before .before .before .before .before .before .before .args .heads)) (c .before .before .before .before .before .before .before .before .before .before .before .before .args .line .now) (c .before .before .before .before .before .before .before .before .before .before .place-of .result) (c .before .before .before .before .before .before .before .before .before .before .place-of .ensures .0) (c .before .before .read .ensures) (c .enum-told2 .given .1)
+returns-3 c =
+    let a = c .before .before .before .before .before .before .before .before .before .before .before .before .args in
+    let place-of = c .before .before .before .before .before .before .before .before .before .before .place-of in
+    no-number (headOf words (a .heads)) (a .line .now) (place-of .result) (place-of .ensures .0)
+    (c .before .before .read .ensures) (c .enum-told2 .given .1)
 
 returns-4 : tie.Need-returns-4
-returns-4 c = ap (IsRow (c .before .before .before .before .before .before .before .head .given .0 .0)) (held (c .before .value .given .0 .0) (c .known-told2 .given .0 .1)) ∙ row (headOf words (c .before .before .before .before .before .before .before .before .before .before .before .before .before .args .heads)) (c .before .before .before .before .before .before .before .before .before .before .before .before .before .args .line .now) (c .before .before .before .before .before .before .before .before .before .before .before .place-of .result) (c .before .before .before .before .before .before .before .before .before .before .before .place-of .ensures .0) (c .before .before .before .before .before .before .before .before .before .head-of .ensures) (c .before .before .before .before .before .before .before .head .given .1) (c .before .before .before .read .ensures) (c .before .value .given .1)
+returns-4 c =
+    let a = c .before .before .before .before .before .before .before .before .before .before .before .before .before .args in
+    let place-of = c .before .before .before .before .before .before .before .before .before .before .before .place-of in
+    let head = c .before .before .before .before .before .before .before .head in
+    ap (IsRow (head .given .0 .0)) (held (c .before .value .given .0 .0) (c .known-told2 .given .0 .1))
+    ∙ row (headOf words (a .heads)) (a .line .now) (place-of .result) (place-of .ensures .0)
+    (c .before .before .before .before .before .before .before .before .before .head-of .ensures) (head .given .1)
+    (c .before .before .before .read .ensures) (c .before .value .given .1)
 
 pub line-of-spec : {M : Type 1} → statement M
 line-of-spec =

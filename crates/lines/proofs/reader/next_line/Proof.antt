@@ -24,19 +24,36 @@ place-of-requires : tie.Need-place-of-requires
 place-of-requires c κs = search needs
 
 slice-aggregate-line-of : tie.Need-slice-aggregate-line-of
-slice-aggregate-line-of c = sym (length-take-le (c .before .place-of .result) (take (length (c .before .before .before .before .args .text .now) - c .before .before .before .before .args .at) (drop (c .before .before .before .before .args .at) (c .before .before .before .before .args .text .now))) (c .before .place-of .ensures .1))
+slice-aggregate-line-of c =
+    let a = c .before .before .before .before .args in
+    sym
+    (length-take-le (c .before .place-of .result) (take (length (a .text .now) - a .at) (drop (a .at) (a .text .now))) (c .before .place-of .ensures .1))
 
 line-of-requires : tie.Need-line-of-requires
 line-of-requires c κs = search needs
 
 add-t8 : tie.Need-add-t8
-add-t8 c = omega (arith, c .before .before .place-of .ensures .1, length-take (length (c .before .before .before .before .before .args .text .now) - c .before .before .before .before .before .args .at) (drop (c .before .before .before .before .before .args .at) (c .before .before .before .before .before .args .text .now)), length-drop (c .before .before .before .before .before .args .at) (c .before .before .before .before .before .args .text .now))
+add-t8 c =
+    let a = c .before .before .before .before .before .args in
+    omega
+    (arith, c .before .before .place-of .ensures .1, length-take (length (a .text .now) - a .at) (drop (a .at) (a .text .now)), length-drop (a .at) (a .text .now))
 
 add-t12 : tie.Need-add-t12
-add-t12 c = omega (arith, c .before .before .place-of .ensures .1, length-take (length (c .before .before .before .before .before .args .text .now) - c .before .before .before .before .before .args .at) (drop (c .before .before .before .before .before .args .at) (c .before .before .before .before .before .args .text .now)), length-drop (c .before .before .before .before .before .args .at) (c .before .before .before .before .before .args .text .now))
+add-t12 c =
+    let a = c .before .before .before .before .before .args in
+    omega
+    (arith, c .before .before .place-of .ensures .1, length-take (length (a .text .now) - a .at) (drop (a .at) (a .text .now)), length-drop (a .at) (a .text .now))
 
 returns : tie.Need-returns
-returns c = (next-line (headOf words (c .before .before .before .before .before .args .heads)) (c .before .before .before .before .before .args .text .now) (c .before .before .before .before .before .args .at) (c .before .before .place-of .result) (c .before .before .place-of .ensures .0) (c .line-of .ensures), next-after (headOf words (c .before .before .before .before .before .args .heads)) (c .before .before .before .before .before .args .text .now) (c .before .before .before .before .before .args .at) (c .before .before .place-of .result) (c .before .before .place-of .ensures .0), omega (arith, c .before .before .place-of .ensures .1, length-take (length (c .before .before .before .before .before .args .text .now) - c .before .before .before .before .before .args .at) (drop (c .before .before .before .before .before .args .at) (c .before .before .before .before .before .args .text .now)), length-drop (c .before .before .before .before .before .args .at) (c .before .before .before .before .before .args .text .now)))
+returns c =
+    let a = c .before .before .before .before .before .args in
+    let place-of = c .before .before .place-of in (
+      next-line (headOf words (a .heads)) (a .text .now) (a .at) (place-of .result) (place-of .ensures .0)
+          (c .line-of .ensures),
+      next-after (headOf words (a .heads)) (a .text .now) (a .at) (place-of .result) (place-of .ensures .0),
+      omega
+          (arith, place-of .ensures .1, length-take (length (a .text .now) - a .at) (drop (a .at) (a .text .now)), length-drop (a .at) (a .text .now)),
+    )
 
 pub next-line-spec : {M : Type 1} → statement M
 next-line-spec =

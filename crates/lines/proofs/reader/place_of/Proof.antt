@@ -24,7 +24,13 @@ shared-slice-read-if1 : tie.Need-shared-slice-read-if1 Inv-loop μ-loop
 shared-slice-read-if1 c = search needs
 
 returns : tie.Need-returns Inv-loop μ-loop
-returns c = (omega (arith, c .before .before .before .loop .inv .1, place-at (c .before .before .before .before .args .byte) (c .before .before .before .before .args .bytes .now) (c .before .before .before .loop .i) (c .before .before .loop-test .taken) (c .if1 .taken)), search needs)
+returns c =
+    let a = c .before .before .before .before .args in
+    let turn = c .before .before .before .loop in (
+      omega
+          (arith, turn .inv .1, place-at (a .byte) (a .bytes .now) (turn .i) (c .before .before .loop-test .taken) (c .if1 .taken)),
+      search needs,
+    )
 
 add-i : tie.Need-add-i Inv-loop μ-loop
 add-i c = search needs
@@ -33,10 +39,20 @@ loop-less : tie.Need-loop-less Inv-loop μ-loop
 loop-less c = search needs
 
 loop-again : tie.Need-loop-again Inv-loop μ-loop
-loop-again c = (search needs, omega (arith, c .before .before .before .loop .inv .1, place-past (c .before .before .before .before .args .byte) (c .before .before .before .before .args .bytes .now) (c .before .before .before .loop .i) (c .before .before .loop-test .taken) (c .if1 .left)))
+loop-again c =
+    let a = c .before .before .before .before .args in
+    let turn = c .before .before .before .loop in (
+      search needs,
+      omega
+          (arith, turn .inv .1, place-past (a .byte) (a .bytes .now) (turn .i) (c .before .before .loop-test .taken) (c .if1 .left)),
+    )
 
 returns-2 : tie.Need-returns-2 Inv-loop μ-loop
-returns-2 c = (omega (arith, c .before .loop .inv .1, place-end (c .before .before .args .byte) (c .before .before .args .bytes .now) (c .before .loop .i) (omega arith)), search needs)
+returns-2 c =
+    let a = c .before .before .args in (
+      omega (arith, c .before .loop .inv .1, place-end (a .byte) (a .bytes .now) (c .before .loop .i) (omega arith)),
+      search needs,
+    )
 
 pub place-of-spec : {M : Type 1} → statement M
 place-of-spec =

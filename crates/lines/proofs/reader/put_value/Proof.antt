@@ -15,10 +15,18 @@ enum-told : tie.Need-enum-told
 enum-told c = search needs
 
 returns : tie.Need-returns
-returns c = (search needs, (none-put (λ (r : Row). r .0) _ _ (c .enum-told .given .1), none-put (λ (r : Row). r .1) _ _ (c .enum-told .given .1)))
+returns c = (
+  search needs,
+  (
+    none-put (λ (r : Row). r .0) _ _ (c .enum-told .given .1),
+    none-put (λ (r : Row). r .1) _ _ (c .enum-told .given .1),
+  ),
+)
 
 cast-put-u32 : tie.Need-cast-put-u32
-cast-put-u32 c = record { fits = omega (arith, below-kind 2147483648 (c .before .before .line .given .1) (c .before .before .before .before .before .pre .0)) }
+cast-put-u32 c =
+    record
+    { fits = omega (arith, below-kind 2147483648 (c .before .before .line .given .1) (c .before .before .before .before .before .pre .0)) }
 
 put-u32-requires : tie.Need-put-u32-requires
 put-u32-requires c κs = search needs
@@ -36,7 +44,16 @@ same-length-2 : tie.Need-same-length-2
 same-length-2 c = search needs
 
 returns-2 : tie.Need-returns-2
-returns-2 c = (search needs, (row-put (λ (r : Row). r .0) _ _ (c .before .before .before .before .before .before .before .before .line .given .1) (c .before .before .before .before .before .put-u32 .ensures), row-put (λ (r : Row). r .1) _ _ (c .before .before .before .before .before .before .before .before .line .given .1) (c .before .put-i32 .ensures ∙ ap (set (c .before .before .before .before .before .before .before .before .before .before .before .args .values .now) (c .before .before .before .before .before .before .before .before .before .before .before .args .at)) (held (c .before .before .before .before .before .before .before .before .line .given .0 .1 .0) (c .before .before .before .before .before .before .before .known-told .given .1 .0 .1)))))
+returns-2 c =
+    let a = c .before .before .before .before .before .before .before .before .before .before .before .args in
+    let line = c .before .before .before .before .before .before .before .before .line in (
+      search needs,
+      (
+        row-put (λ (r : Row). r .0) _ _ (line .given .1) (c .before .before .before .before .before .put-u32 .ensures),
+        row-put (λ (r : Row). r .1) _ _ (line .given .1)
+            (c .before .put-i32 .ensures ∙ ap (set (a .values .now) (a .at)) (held (line .given .0 .1 .0) (c .before .before .before .before .before .before .before .known-told .given .1 .0 .1))),
+      ),
+    )
 
 pub put-value-spec : {M : Type 1} → statement M
 put-value-spec =

@@ -31,15 +31,42 @@ next-line-requires : tie.Need-next-line-requires Inv-loop μ-loop
 next-line-requires c κs = search needs
 
 put-value-requires : tie.Need-put-value-requires Inv-loop μ-loop
-put-value-requires c κs = (cell-below (firstLine (drop (c .before .before .before .before .loop .at) (c .before .before .before .before .before .before .before .args .text .now))) (c .before .before .next-line .ensures .0), omega (arith, c .before .before .before .before .loop .inv .0, c .before .before .before .before .loop .inv .1, c .before .before .before .loop-test .taken))
+put-value-requires c κs =
+    let turn = c .before .before .before .before .loop in (
+      cell-below
+          (firstLine (drop (turn .at) (c .before .before .before .before .before .before .before .args .text .now)))
+          (c .before .before .next-line .ensures .0),
+      omega (arith, turn .inv .0, turn .inv .1, c .before .before .before .loop-test .taken),
+    )
 
 loop-less : tie.Need-loop-less Inv-loop μ-loop
-loop-less c = omega (arith, c .before .before .before .before .before .before .next-line .ensures .1, c .before .before .before .before .before .before .before .loop-test .taken)
+loop-less c =
+    omega
+    (arith, c .before .before .before .before .before .before .next-line .ensures .1, c .before .before .before .before .before .before .before .loop-test .taken)
 
 loop-again : tie.Need-loop-again Inv-loop μ-loop
-loop-again c = let kept-first = kept (λ (r : Row). r .0) (c .before .before .before .before .before .before .before .before .loop .cells) _ (c .before .before .before .before .before .before .before .before .loop .row) (c .before .before .before .put-value .result) (c .before .before .before .before .before .before .next-line .result .line) (c .before .before .before .put-value .ensures .1 .0) in
-    let kept-second = kept (λ (r : Row). r .1) (c .before .before .before .before .before .before .before .before .loop .values) _ (c .before .before .before .before .before .before .before .before .loop .row) (c .before .before .before .put-value .result) (c .before .before .before .before .before .before .next-line .result .line) (c .before .before .before .put-value .ensures .1 .1) in
-    (c .before .before .before .before .before .before .next-line .ensures .2, omega (arith, c .before .before .before .put-value .ensures .0, c .before .before .before .before .before .before .before .before .loop .inv .1, c .before .before .before .before .before .before .next-line .ensures .1), kept-first ∙ c .before .before .before .before .before .before .before .before .loop .inv .2, kept-second ∙ c .before .before .before .before .before .before .before .before .loop .inv .3, column-next (headOf words Cells) (c .before .before .before .before .before .before .before .before .before .before .before .args .text .now) (c .before .before .before .before .before .before .before .before .loop .at) (c .before .before .before .before .before .before .next-line .result .after) (c .before .before .before .before .before .before .before .loop-test .taken) (c .before .before .before .before .before .before .next-line .ensures .0) (c .before .before .before .before .before .before .next-line .ensures .1) (λ (r : Row). r .0) (c .before .before .before .before .before .before .before .before .loop .cells) _ (c .before .before .before .before .before .before .before .before .loop .row) (c .before .before .before .put-value .result) (c .before .before .before .put-value .ensures .1 .0) (c .before .before .before .before .before .before .before .before .loop .inv .4), column-next (headOf words Cells) (c .before .before .before .before .before .before .before .before .before .before .before .args .text .now) (c .before .before .before .before .before .before .before .before .loop .at) (c .before .before .before .before .before .before .next-line .result .after) (c .before .before .before .before .before .before .before .loop-test .taken) (c .before .before .before .before .before .before .next-line .ensures .0) (c .before .before .before .before .before .before .next-line .ensures .1) (λ (r : Row). r .1) (c .before .before .before .before .before .before .before .before .loop .values) _ (c .before .before .before .before .before .before .before .before .loop .row) (c .before .before .before .put-value .result) (c .before .before .before .put-value .ensures .1 .1) (c .before .before .before .before .before .before .before .before .loop .inv .5))
+loop-again c =
+    let a = c .before .before .before .before .before .before .before .before .before .before .before .args in
+    let turn = c .before .before .before .before .before .before .before .before .loop in
+    let next-line = c .before .before .before .before .before .before .next-line in
+    let put-value = c .before .before .before .put-value in
+    let kept-first = kept (λ (r : Row). r .0) (turn .cells) _ (turn .row) (put-value .result) (next-line .result .line)
+    (put-value .ensures .1 .0) in
+    let kept-second = kept (λ (r : Row). r .1) (turn .values) _ (turn .row) (put-value .result)
+    (next-line .result .line) (put-value .ensures .1 .1) in (
+      next-line .ensures .2,
+      omega (arith, put-value .ensures .0, turn .inv .1, next-line .ensures .1),
+      kept-first ∙ turn .inv .2,
+      kept-second ∙ turn .inv .3,
+      column-next (headOf words Cells) (a .text .now) (turn .at) (next-line .result .after)
+          (c .before .before .before .before .before .before .before .loop-test .taken) (next-line .ensures .0)
+          (next-line .ensures .1) (λ (r : Row). r .0) (turn .cells) _ (turn .row) (put-value .result)
+          (put-value .ensures .1 .0) (turn .inv .4),
+      column-next (headOf words Cells) (a .text .now) (turn .at) (next-line .result .after)
+          (c .before .before .before .before .before .before .before .loop-test .taken) (next-line .ensures .0)
+          (next-line .ensures .1) (λ (r : Row). r .1) (turn .values) _ (turn .row) (put-value .result)
+          (put-value .ensures .1 .1) (turn .inv .5),
+    )
 
 same-length : tie.Need-same-length Inv-loop μ-loop
 same-length c = c .before .loop .inv .2
@@ -48,7 +75,14 @@ same-length-2 : tie.Need-same-length-2 Inv-loop μ-loop
 same-length-2 c = c .before .loop .inv .3
 
 returns : tie.Need-returns Inv-loop μ-loop
-returns c = (column-end (headOf words Cells) (c .before .before .before .before .args .text .now) (c .before .loop .at) (c .loop-test .left) (λ (r : Row). r .0) (c .before .loop .cells) (c .before .loop .row) (c .before .loop .inv .4), column-end (headOf words Cells) (c .before .before .before .before .args .text .now) (c .before .loop .at) (c .loop-test .left) (λ (r : Row). r .1) (c .before .loop .values) (c .before .loop .row) (c .before .loop .inv .5))
+returns c =
+    let a = c .before .before .before .before .args in
+    let turn = c .before .loop in (
+      column-end (headOf words Cells) (a .text .now) (turn .at) (c .loop-test .left) (λ (r : Row). r .0) (turn .cells)
+          (turn .row) (turn .inv .4),
+      column-end (headOf words Cells) (a .text .now) (turn .at) (c .loop-test .left) (λ (r : Row). r .1) (turn .values)
+          (turn .row) (turn .inv .5),
+    )
 
 pub put-values-spec : {M : Type 1} → statement M
 put-values-spec =
