@@ -1,0 +1,71 @@
+-- The writes counted, from the rows of loops and from a plan: document 01, 'Counts'. Definitions only; assumes
+-- nothing.
+use mathlib.Core.List.{List, [], _∷_}
+use Prim.Native.Nat.{ℕ, _+_, _*_}
+use lib.ListN.{getD}
+use Rattle.meaning.specs.Types.{DataType, cells, arrayLength, element, firstType, secondType, number}
+use Rattle.meaning.specs.Terms.{Term, Plan}
+use Rattle.meaning.specs.Typing.{typeOf}
+use Rattle.meaning.specs.Loops.{Command, seq, loop, new}
+
+-- "Writes: `set` 1, `seq` the sum, loops n × body, `new` its body."
+abbrev pub commandWrites : Command → ℕ
+commandWrites (Command.assignment p v) = 1
+commandWrites (seq c d) = commandWrites c + commandWrites d
+commandWrites (loop kind n b) = n * commandWrites b
+commandWrites (new c b) = commandWrites b
+
+-- "map u(array) + n × w(body)"
+abbrev pub mapWrites : ℕ → ℕ → ℕ → ℕ
+mapWrites ua n wb = ua + n * wb
+
+-- "u(array) + u(start) + t + n × (w(body) + t)"
+abbrev pub reduceWrites : ℕ → ℕ → ℕ → ℕ → ℕ → ℕ
+reduceWrites ua uz t n wb = ua + uz + t + n * (wb + t)
+
+-- "From the plan, w is writes into a place, u on use, c cells of the type, t of the total"
+abbrev mutual
+  -- w
+  pub writesInto : List DataType → List DataType → Term → ℕ
+  writesInto I Γ (Term.input k) = cells (getD I k number)
+  writesInto I Γ (Term.variable d) = cells (getD Γ d number)
+  writesInto I Γ (Term.literal v) = 1
+  writesInto I Γ (Term.negate e) = writesOnUse I Γ e + 1
+  writesInto I Γ (Term.operation o e f) = writesOnUse I Γ e + writesOnUse I Γ f + 1
+  writesInto I Γ (Term.map kind a b) =
+      mapWrites (writesOnUse I Γ a) (arrayLength (typeOf I Γ a)) (writesInto I (element (typeOf I Γ a) ∷ Γ) b)
+  writesInto I Γ (Term.reduce z a b) =
+      reduceWrites (writesOnUse I Γ a) (writesOnUse I Γ z) (cells (typeOf I Γ z)) (arrayLength (typeOf I Γ a))
+      (writesInto I (typeOf I Γ z ∷ element (typeOf I Γ a) ∷ Γ) b)
+      + cells (typeOf I Γ z)
+  writesInto I Γ (Term.zip a b) = writesInto I Γ a + writesInto I Γ b
+  writesInto I Γ (Term.pair a b) = writesInto I Γ a + writesInto I Γ b
+  writesInto I Γ (Term.split n e) = writesInto I Γ e
+  writesInto I Γ (Term.join e) = writesInto I Γ e
+  writesInto I Γ (Term.first e) = writesOnUse I Γ e + cells (firstType (typeOf I Γ e))
+  writesInto I Γ (Term.second e) = writesOnUse I Γ e + cells (secondType (typeOf I Γ e))
+  writesInto I Γ (Term.index k e) = writesOnUse I Γ e + cells (element (typeOf I Γ e))
+
+  -- u
+  pub writesOnUse : List DataType → List DataType → Term → ℕ
+  writesOnUse I Γ (Term.input k) = 0
+  writesOnUse I Γ (Term.variable d) = 0
+  writesOnUse I Γ (Term.literal v) = 0
+  writesOnUse I Γ (Term.negate e) = writesOnUse I Γ e
+  writesOnUse I Γ (Term.operation o e f) = writesOnUse I Γ e + writesOnUse I Γ f
+  writesOnUse I Γ (Term.map kind a b) =
+      mapWrites (writesOnUse I Γ a) (arrayLength (typeOf I Γ a)) (writesInto I (element (typeOf I Γ a) ∷ Γ) b)
+  writesOnUse I Γ (Term.reduce z a b) =
+      reduceWrites (writesOnUse I Γ a) (writesOnUse I Γ z) (cells (typeOf I Γ z)) (arrayLength (typeOf I Γ a))
+      (writesInto I (typeOf I Γ z ∷ element (typeOf I Γ a) ∷ Γ) b)
+  writesOnUse I Γ (Term.zip a b) = writesOnUse I Γ a + writesOnUse I Γ b
+  writesOnUse I Γ (Term.pair a b) = writesOnUse I Γ a + writesOnUse I Γ b
+  writesOnUse I Γ (Term.split n e) = writesOnUse I Γ e
+  writesOnUse I Γ (Term.join e) = writesOnUse I Γ e
+  writesOnUse I Γ (Term.first e) = writesOnUse I Γ e
+  writesOnUse I Γ (Term.second e) = writesOnUse I Γ e
+  writesOnUse I Γ (Term.index k e) = writesOnUse I Γ e
+
+-- "the number counted from a plan is its term's w"
+abbrev pub planWrites : Plan → ℕ
+planWrites P = writesInto (P .inputs) [] (P .term)

@@ -1,0 +1,139 @@
+-- What loops must pass, and the limits of a plan: document 01, questions 3, 5, 6, 8 and 9; and what it is to touch
+-- only cells of the store. Definitions only; assumes nothing.
+use mathlib.Core.List.{List, [], _∷_}
+use Prim.Native.Nat.{ℕ, suc, _+_, _*_, _-_, _/_, _≤_, _<_, min}
+use lib.ListN.{length, getD}
+use Rattle.meaning.specs.Types.{DataType, cells, levels, element, number, array}
+use Rattle.meaning.specs.Terms.{Term, Plan}
+use Rattle.meaning.specs.Typing.{typeOf}
+use Rattle.meaning.specs.Loops.{Offset, Place, Value, Command, Loops, plus, times, over, rest, seq, loop, new}
+use Rattle.meaning.specs.Layout.{firstRoom, secondRoom, roundRoom, regionRoom, bodyRoom}
+use Rattle.meaning.specs.Runs.{offsetAt, entry, Environment, withCounter, withRegion, target}
+use Rattle.meaning.specs.Rows.{planRows}
+
+-- Loops
+
+-- Question 5: "`arr split for par new cells times over rest` 1 to 4,096"
+abbrev pub IsCount : ℕ → Type 0
+IsCount n = (1 ≤ n) × (n ≤ 4096)
+
+-- "Bounds: `lit` v, `ctr` n − 1, `plus` sum, `times` product, `over` quotient, `rest,n` the lesser of the operand's
+-- bound and n − 1." `c` are the counters' bounds.
+abbrev pub bound : (ℕ → ℕ) → Offset → ℕ
+bound c (Offset.literal v) = v
+bound c (Offset.counter d) = c d
+bound c (plus x y) = bound c x + bound c y
+bound c (times n x) = n * bound c x
+bound c (over n x) = bound c x / n
+bound c (rest n x) = min (bound c x) (n - 1)
+
+-- the bounds of the counters of loops with these numbers of rounds, innermost first
+abbrev pub counterBound : List ℕ → ℕ → ℕ
+counterBound ns d = entry ns d - 1
+
+-- Questions 5 and 9 on each row of an offset, k counters being in force: numbers in range, counters "naming one in
+-- force", and "every offset row's bound at most 65,535".
+abbrev pub OffsetPasses : ℕ → (ℕ → ℕ) → Offset → Type 0
+OffsetPasses k c (Offset.literal v) = v ≤ 4095
+OffsetPasses k c (Offset.counter d) = (d < k) × (c d ≤ 65535)
+OffsetPasses k c (plus x y) = OffsetPasses k c x × OffsetPasses k c y × (bound c (plus x y) ≤ 65535)
+OffsetPasses k c (times n x) = OffsetPasses k c x × IsCount n × (bound c (times n x) ≤ 65535)
+OffsetPasses k c (over n x) = OffsetPasses k c x × IsCount n × (bound c (over n x) ≤ 65535)
+OffsetPasses k c (rest n x) = OffsetPasses k c x × IsCount n × (bound c (rest n x) ≤ 65535)
+
+-- "and the whole's below the cells of that input, output or region"
+abbrev pub OffsetFits : ℕ → (ℕ → ℕ) → Offset → ℕ → Type 0
+OffsetFits k c o n = OffsetPasses k c o × (bound c o < n)
+
+-- Questions 5 and 9 on a value and on a place: the inputs' cells, or the output's; k counters with bounds c and r
+-- regions with cells m in force.
+abbrev pub ValuePasses : List ℕ → ℕ → (ℕ → ℕ) → ℕ → (ℕ → ℕ) → Value → Type 0
+ValuePasses ins k c r m (Value.input j o) = (j < length ins) × OffsetFits k c o (entry ins j)
+ValuePasses ins k c r m (Value.region d o) = (d < r) × OffsetFits k c o (m d)
+ValuePasses ins k c r m (Value.literal v) = Unit {0}
+ValuePasses ins k c r m (Value.negate v) = ValuePasses ins k c r m v
+ValuePasses ins k c r m (Value.operation o v w) = ValuePasses ins k c r m v × ValuePasses ins k c r m w
+
+abbrev pub PlacePasses : ℕ → ℕ → (ℕ → ℕ) → ℕ → (ℕ → ℕ) → Place → Type 0
+PlacePasses out k c r m (Place.output o) = OffsetFits k c o out
+PlacePasses out k c r m (Place.region d o) = (d < r) × OffsetFits k c o (m d)
+
+-- Questions 5, 6 and 9 on a command, under loops of ns rounds and regions of rs cells, innermost first. "On a row
+-- that opens names, those in force there and its own together: at most .. (loops: 32 counters, 256 regions)".
+unfoldable pub CommandPasses : List ℕ → ℕ → List ℕ → List ℕ → Command → Type 0
+CommandPasses ins out ns rs (Command.assignment p v) =
+    PlacePasses out (length ns) (counterBound ns) (length rs) (entry rs) p
+    × ValuePasses ins (length ns) (counterBound ns) (length rs) (entry rs) v
+CommandPasses ins out ns rs (seq c d) = CommandPasses ins out ns rs c × CommandPasses ins out ns rs d
+CommandPasses ins out ns rs (loop kind n b) =
+    IsCount n × (suc (length ns) ≤ 32) × CommandPasses ins out (n ∷ ns) rs b
+CommandPasses ins out ns rs (new c b) =
+    IsCount c × (suc (length rs) ≤ 256) × CommandPasses ins out ns (c ∷ rs) b
+
+-- Question 5, "K 0 to 8" and `cells`, and then the command.
+pub record LoopsPass (L : Loops) : Type 0 where
+  pub inputsFew : length (L .inputs) ≤ 8
+  pub inputCells : (k : ℕ) → k < length (L .inputs) → IsCount (entry (L .inputs) k)
+  pub outputCells : IsCount (L .output)
+  pub passes : CommandPasses (L .inputs) (L .output) [] [] (L .command)
+
+-- Plans
+
+-- Question 8, and question 5 on `arr`, of a type and every type in it: "at most 4,096 cells"
+abbrev pub CellsWithin : DataType → Type 0
+CellsWithin number = Unit {0}
+CellsWithin (array n t) = (1 ≤ n) × (n * cells t ≤ 4096) × CellsWithin t
+CellsWithin (DataType.pair s t) = (cells s + cells t ≤ 4096) × CellsWithin s × CellsWithin t
+
+-- "and 8 levels"
+abbrev pub TypeWithin : DataType → Type 0
+TypeWithin t = CellsWithin t × (levels t ≤ 8)
+
+-- Questions 6, "at most 16 variables", and 8 on each row of a term. (The type of a number is within the limits.)
+abbrev pub TermWithin : List DataType → List DataType → Term → Type 0
+TermWithin I Γ (Term.input k) = TypeWithin (typeOf I Γ (Term.input k))
+TermWithin I Γ (Term.variable d) = TypeWithin (typeOf I Γ (Term.variable d))
+TermWithin I Γ (Term.literal v) = Unit {0}
+TermWithin I Γ (Term.negate e) = TermWithin I Γ e
+TermWithin I Γ (Term.operation o e f) = TermWithin I Γ e × TermWithin I Γ f
+TermWithin I Γ (Term.map kind a b) =
+    TypeWithin (typeOf I Γ (Term.map kind a b))
+    × TermWithin I Γ a
+    × TermWithin I (element (typeOf I Γ a) ∷ Γ) b
+    × (suc (length Γ) ≤ 16)
+TermWithin I Γ (Term.reduce z a b) =
+    TypeWithin (typeOf I Γ z)
+    × TermWithin I Γ z
+    × TermWithin I Γ a
+    × TermWithin I (typeOf I Γ z ∷ element (typeOf I Γ a) ∷ Γ) b
+    × (suc (suc (length Γ)) ≤ 16)
+TermWithin I Γ (Term.zip a b) = TypeWithin (typeOf I Γ (Term.zip a b)) × TermWithin I Γ a × TermWithin I Γ b
+TermWithin I Γ (Term.pair a b) = TypeWithin (typeOf I Γ (Term.pair a b)) × TermWithin I Γ a × TermWithin I Γ b
+TermWithin I Γ (Term.split n e) = TypeWithin (typeOf I Γ (Term.split n e)) × TermWithin I Γ e
+TermWithin I Γ (Term.join e) = TypeWithin (typeOf I Γ (Term.join e)) × TermWithin I Γ e
+TermWithin I Γ (Term.first e) = TypeWithin (typeOf I Γ (Term.first e)) × TermWithin I Γ e
+TermWithin I Γ (Term.second e) = TypeWithin (typeOf I Γ (Term.second e)) × TermWithin I Γ e
+TermWithin I Γ (Term.index k e) = TypeWithin (typeOf I Γ (Term.index k e)) × TermWithin I Γ e
+
+-- Questions 3, "At most 256 lines", 5, "K 0 to 8", 6 and 8 on a whole plan.
+pub record PlanWithin (P : Plan) : Type 0 where
+  pub rowsFew : length (planRows P) ≤ 256
+  pub inputsFew : length (P .inputs) ≤ 8
+  pub inputTypes : (k : ℕ) → k < length (P .inputs) → TypeWithin (getD (P .inputs) k number)
+  pub termWithin : TermWithin (P .inputs) [] (P .term)
+
+-- "Loops that pass run safely": every cell that a run reads or writes is below L, in every round of every loop.
+abbrev pub ReadsBelow : ℕ → List ℕ → (ℕ → ℕ) → (ℕ → ℕ) → Value → Type 0
+ReadsBelow L ins c r (Value.input k o) = entry ins k + offsetAt c o < L
+ReadsBelow L ins c r (Value.region d o) = r d + offsetAt c o < L
+ReadsBelow L ins c r (Value.literal v) = Unit {0}
+ReadsBelow L ins c r (Value.negate v) = ReadsBelow L ins c r v
+ReadsBelow L ins c r (Value.operation o v w) = ReadsBelow L ins c r v × ReadsBelow L ins c r w
+
+unfoldable pub TouchesBelow : ℕ → Command → Environment → ℕ → Type 0
+TouchesBelow L (Command.assignment p v) ρ a =
+    (target ρ p < L) × ReadsBelow L (ρ .inputBases) (entry (ρ .counters)) (entry (ρ .regions)) v
+TouchesBelow L (seq c d) ρ a = TouchesBelow L c ρ (firstRoom a c d) × TouchesBelow L d ρ (secondRoom a c d)
+TouchesBelow L (loop kind n b) ρ a =
+    (i : ℕ) → i < n → TouchesBelow L b (withCounter i ρ) (roundRoom a kind n b i)
+TouchesBelow L (new c b) ρ a = TouchesBelow L b (withRegion (regionRoom a c b) ρ) (bodyRoom a c b)

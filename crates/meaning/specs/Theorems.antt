@@ -1,0 +1,140 @@
+-- What is proved, in one place: demand 3, and what goes with it. The proofs are in `Laws`.
+use mathlib.Core.Path.{_≡_, refl, sym, _∙_, subst}
+use mathlib.Core.Logic.{_↔_}
+use mathlib.Core.List.{List, [], List·Permᴰ}
+use mathlib.Core.Option.{some}
+use Prim.Native.Nat.{ℕ, _+_, _≤_}
+use native.Mathlib.Nat.{le-refl, zero-add}
+use lib.ListN.{length, take, drop, replicate, length-replicate}
+use Rattle.meaning.specs.Types.{DataType, cells}
+use Rattle.meaning.specs.Terms.{Term, Plan}
+use Rattle.meaning.specs.Typing.{HasType}
+use Rattle.meaning.specs.Numbers.{NumberDomain, clamped32}
+use Rattle.meaning.specs.Sequence.{upFrom, inTurn}
+use Rattle.meaning.specs.Values.{flatten, noNumber}
+use Rattle.meaning.specs.Loops.{Loops}
+use Rattle.meaning.specs.Layout.{regionsFrom, need}
+use Rattle.meaning.specs.Runs.{Orders, startOf, Store, State, cell, Run, beginning, runLoops, RunOf}
+use Rattle.meaning.specs.Arbiters.{Arbiter, runBy}
+use Rattle.meaning.specs.NamedOrders.{forward, always}
+use Rattle.meaning.specs.Steps.{steps, doStep}
+use Rattle.meaning.specs.Translation.{translation}
+use Rattle.meaning.specs.Counts.{commandWrites, planWrites}
+use Rattle.meaning.specs.Limits.{LoopsPass, PlanWithin, TouchesBelow}
+use Rattle.meaning.specs.Demand3.{datumAt, Outcome, Demand3}
+use Rattle.meaning.specs.Laws.Typing.{well-typed}
+use Rattle.meaning.specs.Laws.Inference.{infer, typed-inferred, inferred-typed}
+use Rattle.meaning.specs.Laws.Orders.{every-order}
+use Rattle.meaning.specs.Laws.Cells.{read-flattened}
+use Rattle.meaning.specs.Laws.Outcomes.{plan-outcome}
+use Rattle.meaning.specs.Laws.Runs.{run-choice, choice-run}
+use Rattle.meaning.specs.Laws.Steps.{run-does-steps, run-writes, run-length}
+use Rattle.meaning.specs.Laws.Safety.{loops-touch-below, beyond-kept}
+use Rattle.meaning.specs.Laws.PassingPlans.{translation-passes}
+
+-- Figure 3's relation and the type check find the same types.
+pub type-check : (I Γ : List DataType) (e : Term) (t : DataType) → HasType I Γ e t ↔ (infer I Γ e ≡ some t)
+type-check I Γ e t = (typed-inferred I Γ e t, inferred-typed I Γ e t)
+
+module _ (𝓝 : NumberDomain) where
+  -- The value that is read from cells, laid into cells, is those cells again.
+  pub value-of-cells : (t : DataType) (s : Store 𝓝) (b : ℕ)
+      → b + cells t ≤ length s → flatten (datumAt 𝓝 t s b) ≡ take (cells t) (drop b s)
+  value-of-cells t s b l = read-flattened 𝓝 t s b l
+
+  -- Each run of loops is a choice of orders, and each choice a run.
+  pub run-is-choice : (L : Loops) (s : Store 𝓝) (st : State 𝓝)
+      → RunOf 𝓝 L s st ↔ ((ch : Orders (L .command)) × (runLoops 𝓝 L ch s ≡ st))
+  unfolding RunOf runLoops
+  run-is-choice L s st = (
+    λ r. run-choice 𝓝 (L .command) (startOf L) (regionsFrom L) (beginning 𝓝 s) st r,
+    λ c.
+        subst (λ (x : State 𝓝). Run 𝓝 (L .command) (startOf L) (regionsFrom L) (beginning 𝓝 s) x)
+        (c .1)
+        (choice-run 𝓝 (L .command) (c .0) (startOf L) (regionsFrom L) (beginning 𝓝 s)),
+  )
+
+  -- No order is left out: whatever permutation is named at every visit of every `par`, some run takes it.
+  pub no-order-left-out : (π : Arbiter)
+      → ((visit : List ℕ) (n : ℕ) → List·Permᴰ (π visit n) (upFrom 0 n))
+      → (L : Loops) (s : Store 𝓝)
+      → RunOf 𝓝 L s (runBy 𝓝 π (L .command) [] (startOf L) (regionsFrom L) (beginning 𝓝 s))
+  unfolding RunOf
+  no-order-left-out π fair L s =
+      let x = every-order 𝓝 π fair (L .command) [] in
+      subst (λ (st : State 𝓝). Run 𝓝 (L .command) (startOf L) (regionsFrom L) (beginning 𝓝 s) st)
+      (x .1 (startOf L) (regionsFrom L) (beginning 𝓝 s))
+      (choice-run 𝓝 (L .command) (x .0) (startOf L) (regionsFrom L) (beginning 𝓝 s))
+
+  -- A run does its steps, which are known before the store is seen.
+  pub run-is-steps : (L : Loops) (ch : Orders (L .command)) (s : Store 𝓝)
+      → runLoops 𝓝 L ch s ≡ inTurn (steps (L .command) ch (startOf L) (regionsFrom L)) (doStep 𝓝) (beginning 𝓝 s)
+  unfolding runLoops
+  run-is-steps L ch s = run-does-steps 𝓝 (L .command) ch (startOf L) (regionsFrom L) (beginning 𝓝 s)
+
+  -- Demand 3, for every choice of orders and so for every run.
+  pub demand-3-choice : (P : Plan) (t : DataType) → HasType (P .inputs) [] (P .term) t
+      → (s : Store 𝓝) → need (translation P) ≤ length s
+      → (ch : Orders (translation P .command)) → Outcome 𝓝 P s (runLoops 𝓝 (translation P) ch s)
+  demand-3-choice P t typed s enough ch = plan-outcome 𝓝 P (well-typed typed .0) s enough ch
+
+  pub demand-3 : Demand3 𝓝
+  demand-3 P t typed s enough = (
+    (
+      runLoops 𝓝 (translation P) (always forward (translation P .command)) s,
+      run-is-choice (translation P) s _ .1 (always forward (translation P .command), refl),
+    ),
+    λ st r.
+        let c = run-is-choice (translation P) s st .0 r in
+        subst (λ (x : State 𝓝). Outcome 𝓝 P s x) (c .1) (demand-3-choice P t typed s enough (c .0)),
+  )
+
+  -- The writes of any run of any loops are those counted from the rows.
+  pub writes-of-run : (L : Loops) (s : Store 𝓝) (st : State 𝓝)
+      → RunOf 𝓝 L s st → st .writes ≡ commandWrites (L .command)
+  unfolding runLoops
+  writes-of-run L s st r =
+      let c = run-is-choice L s st .0 r in
+      subst (λ (x : State 𝓝). x .writes ≡ commandWrites (L .command)) (c .1)
+      (run-writes 𝓝 (L .command) (c .0) (startOf L) (regionsFrom L) (beginning 𝓝 s)
+      ∙ zero-add (commandWrites (L .command)))
+
+  -- Loops that pass leave every cell past the need as it was, whoever wrote them, in every run; and the store its
+  -- length.
+  pub beyond-need : (L : Loops) → LoopsPass L → (s : Store 𝓝) (st : State 𝓝) → RunOf 𝓝 L s st
+      → (length (st .store) ≡ length s) × ((x : ℕ) → need L ≤ x → cell 𝓝 (st .store) x ≡ cell 𝓝 s x)
+  unfolding runLoops
+  beyond-need L h s st r =
+      let c = run-is-choice L s st .0 r in
+      subst
+      (λ (x : State 𝓝).
+      (length (x .store) ≡ length s) × ((y : ℕ) → need L ≤ y → cell 𝓝 (x .store) y ≡ cell 𝓝 s y))
+      (c .1) (
+        run-length 𝓝 (L .command) (c .0) (startOf L) (regionsFrom L) (beginning 𝓝 s),
+        beyond-kept 𝓝 (need L) (L .command) (c .0) (startOf L) (regionsFrom L) (loops-touch-below L h)
+            (beginning 𝓝 s),
+      )
+
+-- Demand 3 on document 01's numbers.
+pub demand-3-on-cells : Demand3 clamped32
+demand-3-on-cells = demand-3 clamped32
+
+-- Loops that pass touch, reading or writing, only cells below the need, whoever wrote them.
+pub safe-loops : (L : Loops) → LoopsPass L → TouchesBelow (need L) (L .command) (startOf L) (regionsFrom L)
+safe-loops L h = loops-touch-below L h
+
+-- The translator's own loops pass questions 5, 6 and 9.
+pub own-loops-pass : (P : Plan) (t : DataType) → HasType (P .inputs) [] (P .term) t → PlanWithin P
+    → LoopsPass (translation P)
+own-loops-pass P t typed within = translation-passes P (well-typed typed .0) within
+
+-- Their writes, counted from the rows, are w.
+pub own-writes : (P : Plan) (t : DataType) → HasType (P .inputs) [] (P .term) t
+    → commandWrites (translation P .command) ≡ planWrites P
+own-writes P t typed =
+    let n : ℕ = need (translation P) in
+    let s : Store clamped32 = replicate n (noNumber clamped32) in
+    let long : n ≤ length s =
+    subst (λ (m : ℕ). n ≤ m) (sym (length-replicate n (noNumber clamped32))) (le-refl n) in
+    let D = demand-3 clamped32 P t typed s long in
+    sym (writes-of-run clamped32 (translation P) s (D .0 .0) (D .0 .1)) ∙ D .1 (D .0 .0) (D .0 .1) .writesCounted

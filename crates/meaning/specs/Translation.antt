@@ -1,0 +1,137 @@
+-- The translation: document 01, 'Translation'; section 4.1 and Figure 4 of the paper. Definitions only; assumes
+-- nothing. "'Write E into P' and 'use E in C' call each other": `writeTerm` and `useTerm`. Both are given the
+-- inputs' types I, the variables' types Γ and expressions Δ (innermost first), and how many counters c and regions
+-- r are in force.
+use mathlib.Core.List.{List, [], _∷_, map}
+use Prim.Native.Nat.{ℕ, suc}
+use lib.ListN.{getD}
+use lib.IntN.{ℤ}
+use Rattle.meaning.specs.Types.{DataType, cells, arrayLength, element, firstType, secondType, number, array}
+use Rattle.meaning.specs.Terms.{LoopKind, Term, Plan}
+use Rattle.meaning.specs.Typing.{typeOf}
+use Rattle.meaning.specs.Loops.{Offset, Command, Loops, seq, loop, new}
+use Rattle.meaning.specs.Expressions.{Expression, Acceptor}
+use Rattle.meaning.specs.Offsets.{readAt, writeAt, valueFromInnermost, placeFromInnermost}
+
+-- "assign by type: number one `set`; array a `par` over elements; pair first, then second"
+unfoldable pub assign : DataType → Expression → Acceptor → ℕ → ℕ → Command
+assign number E P c r =
+    Command.assignment (placeFromInnermost c r (writeAt P [])) (valueFromInnermost c r (readAt E []))
+assign (array n t) E P c r =
+    loop LoopKind.parallel n
+    (assign t (Expression.index E (Offset.counter c)) (Acceptor.index P (Offset.counter c)) (suc c) r)
+assign (DataType.pair s t) E P c r =
+    seq (assign s (Expression.first E) (Acceptor.first P) c r) (assign t (Expression.second E) (Acceptor.second P) c r)
+
+-- How some term is written, and how some term is used: C gets the expression, and the regions then in force.
+abbrev pub Write : Type 0
+Write = List DataType → List Expression → ℕ → ℕ → Acceptor → Command
+
+abbrev pub Use : Type 0
+Use = List DataType → List Expression → ℕ → ℕ → (Expression → ℕ → Command) → Command
+
+-- "Write a map: use the array, then `par` (`mapseq`: `for`), writing the body into the element's place." t is the
+-- array's type.
+unfoldable pub writeMap : LoopKind → DataType → Use → Write → Write
+writeMap kind t useArray writeBody Γ Δ c r P =
+    useArray Γ Δ c r (λ A r′.
+    loop kind (arrayLength t)
+    (writeBody (element t ∷ Γ) (Expression.index A (Offset.counter c) ∷ Δ) (suc c) r′
+    (Acceptor.index P (Offset.counter c))))
+
+-- One round of a reduction, the total being a region of type z and A the array of type t: "`new` next, write the
+-- body into next, assign next to total".
+abbrev pub reduceRound : DataType → DataType → Write → List DataType → List Expression → ℕ → ℕ → Expression → Command
+reduceRound t z writeBody Γ Δ c total A =
+    let next : ℕ = suc total in
+    let r : ℕ = suc (suc total) in
+    new (cells z)
+    (seq
+    (writeBody (z ∷ element t ∷ Γ) (Expression.region total z ∷ Expression.index A (Offset.counter c) ∷ Δ) (suc c) r
+    (Acceptor.region next z))
+    (assign z (Expression.region next z) (Acceptor.region total z) (suc c) r))
+
+-- "use the array, then the start; `new` total; assign the start; `for` over elements" the round; "after the loop"
+-- C. "Three commands in a row are `seq` a, `seq` b c."
+unfoldable pub useReduce : DataType → DataType → Use → Use → Write → Use
+useReduce t z useArray useStart writeBody Γ Δ c r C =
+    useArray Γ Δ c r (λ A r′.
+    useStart Γ Δ c r′ (λ Z total.
+    new (cells z)
+    (seq (assign z Z (Acceptor.region total z) c (suc total))
+    (seq (loop LoopKind.sequential (arrayLength t) (reduceRound t z writeBody Γ Δ c total A))
+    (C (Expression.region total z) (suc total))))))
+
+-- "Use a map: `new` of its type, write it there, then C reads it."
+unfoldable pub useWritten : DataType → Write → Use
+useWritten t writeHere Γ Δ c r C =
+    new (cells t) (seq (writeHere Γ Δ c (suc r) (Acceptor.region r t)) (C (Expression.region r t) (suc r)))
+
+-- what stands for a variable that is not there: of a well-typed term there is none
+abbrev pub noExpression : Expression
+noExpression = Expression.literal (ℤ.pos 0)
+
+module _ (I : List DataType) where
+  unfoldable mutual
+    -- "Write E into P": Figure 4a, clause by clause.
+    pub writeTerm : Term → Write
+    writeTerm (Term.input k) Γ Δ c r P = assign (getD I k number) (Expression.input k (getD I k number)) P c r
+    writeTerm (Term.variable d) Γ Δ c r P = assign (getD Γ d number) (getD Δ d noExpression) P c r
+    writeTerm (Term.literal v) Γ Δ c r P = assign number (Expression.literal v) P c r
+    writeTerm (Term.negate e) Γ Δ c r P =
+        useTerm e Γ Δ c r (λ E r′. assign number (Expression.negate E) P c r′)
+    writeTerm (Term.operation o e f) Γ Δ c r P =
+        useTerm e Γ Δ c r (λ E r′. useTerm f Γ Δ c r′ (λ F r″. assign number (Expression.operation o E F) P c r″))
+    writeTerm (Term.map kind a b) Γ Δ c r P =
+        writeMap kind (typeOf I Γ a) (λ G D d s K. useTerm a G D d s K) (λ G D d s Q. writeTerm b G D d s Q) Γ Δ c r P
+    writeTerm (Term.reduce z a b) Γ Δ c r P =
+        useReduce (typeOf I Γ a) (typeOf I Γ z) (λ G D d s K. useTerm a G D d s K) (λ G D d s K. useTerm z G D d s K)
+        (λ G D d s Q. writeTerm b G D d s Q) Γ Δ c r (λ E r′. assign (typeOf I Γ z) E P c r′)
+    writeTerm (Term.zip a b) Γ Δ c r P =
+        seq (writeTerm a Γ Δ c r (Acceptor.zipFirst P)) (writeTerm b Γ Δ c r (Acceptor.zipSecond P))
+    writeTerm (Term.pair a b) Γ Δ c r P =
+        seq (writeTerm a Γ Δ c r (Acceptor.first P)) (writeTerm b Γ Δ c r (Acceptor.second P))
+    writeTerm (Term.split n e) Γ Δ c r P = writeTerm e Γ Δ c r (Acceptor.split n P)
+    writeTerm (Term.join e) Γ Δ c r P = writeTerm e Γ Δ c r (Acceptor.join (arrayLength (element (typeOf I Γ e))) P)
+    writeTerm (Term.first e) Γ Δ c r P =
+        useTerm e Γ Δ c r (λ E r′. assign (firstType (typeOf I Γ e)) (Expression.first E) P c r′)
+    writeTerm (Term.second e) Γ Δ c r P =
+        useTerm e Γ Δ c r (λ E r′. assign (secondType (typeOf I Γ e)) (Expression.second E) P c r′)
+    writeTerm (Term.index k e) Γ Δ c r P =
+        useTerm e Γ Δ c r (λ E r′. assign (element (typeOf I Γ e)) (Expression.index E (Offset.literal k)) P c r′)
+
+    -- "Use E in C": Figure 4b, clause by clause.
+    pub useTerm : Term → Use
+    useTerm (Term.input k) Γ Δ c r C = C (Expression.input k (getD I k number)) r
+    useTerm (Term.variable d) Γ Δ c r C = C (getD Δ d noExpression) r
+    useTerm (Term.literal v) Γ Δ c r C = C (Expression.literal v) r
+    useTerm (Term.negate e) Γ Δ c r C = useTerm e Γ Δ c r (λ E r′. C (Expression.negate E) r′)
+    useTerm (Term.operation o e f) Γ Δ c r C =
+        useTerm e Γ Δ c r (λ E r′. useTerm f Γ Δ c r′ (λ F r″. C (Expression.operation o E F) r″))
+    useTerm (Term.map kind a b) Γ Δ c r C =
+        useWritten (typeOf I Γ (Term.map kind a b))
+        (writeMap kind (typeOf I Γ a) (λ G D d s K. useTerm a G D d s K) (λ G D d s Q. writeTerm b G D d s Q)) Γ Δ c r C
+    useTerm (Term.reduce z a b) Γ Δ c r C =
+        useReduce (typeOf I Γ a) (typeOf I Γ z) (λ G D d s K. useTerm a G D d s K) (λ G D d s K. useTerm z G D d s K)
+        (λ G D d s Q. writeTerm b G D d s Q) Γ Δ c r C
+    useTerm (Term.zip a b) Γ Δ c r C =
+        useTerm a Γ Δ c r (λ E r′. useTerm b Γ Δ c r′ (λ F r″. C (Expression.zip E F) r″))
+    useTerm (Term.pair a b) Γ Δ c r C =
+        useTerm a Γ Δ c r (λ E r′. useTerm b Γ Δ c r′ (λ F r″. C (Expression.pair E F) r″))
+    useTerm (Term.split n e) Γ Δ c r C = useTerm e Γ Δ c r (λ E r′. C (Expression.split n E) r′)
+    useTerm (Term.join e) Γ Δ c r C =
+        useTerm e Γ Δ c r (λ E r′. C (Expression.join (arrayLength (element (typeOf I Γ e))) E) r′)
+    useTerm (Term.first e) Γ Δ c r C = useTerm e Γ Δ c r (λ E r′. C (Expression.first E) r′)
+    useTerm (Term.second e) Γ Δ c r C = useTerm e Γ Δ c r (λ E r′. C (Expression.second E) r′)
+    useTerm (Term.index k e) Γ Δ c r C = useTerm e Γ Δ c r (λ E r′. C (Expression.index E (Offset.literal k)) r′)
+
+-- A whole plan: its term is written into the output.
+abbrev pub planType : Plan → DataType
+planType P = typeOf (P .inputs) [] (P .term)
+
+unfoldable pub translation : Plan → Loops
+translation P = record {
+  inputs = map cells (P .inputs);
+  output = cells (planType P);
+  command = writeTerm (P .inputs) (P .term) [] [] 0 0 (Acceptor.output (planType P));
+}
