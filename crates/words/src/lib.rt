@@ -1,4 +1,6 @@
 // The words of plans and loops: one table, and looking a word up in it.
+pub mod kinds;
+
 ghost use mathlib.Core.Path.{_≡_};
 ghost use Prim.Native.Nat.{_-_, _≤_, _<_};
 ghost use lib.ListN.{length, getD};

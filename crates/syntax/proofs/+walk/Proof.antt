@@ -1,0 +1,423 @@
+-- `syntax::walk` meets its contract, whatever is due behind. The loop's invariant: the walk from the row on is the walk of the
+-- operands still left, from the rows still left on. The rows fall with each call, for each is made behind at least one row.
+use mathlib.Core.Path.{_≡_, sym, ap, _∙_}
+use mathlib.Core.List.{List, _∷_, _++_}
+use Prim.Native.Nat.{_+_, _≤_, ℕ, _<_}
+use lib.ListN.{drop, getD, length}
+use lib.IntN.{pos}
+use lib.Dec.{eqb}
+use borrow.Author.Needs.{needs}
+use native.Mathlib.Omega.{arith}
+use borrow.Fn.Kinds.{In}
+use borrow.Fn.PlainCycle.{Measures, is, falls, and}
+use Rattle.words.specs.Kinds.{rowsOf}
+use Rattle.syntax.specs.declared.operands.Due.{Due}
+use Rattle.syntax.specs.Operands.{operandsDue}
+use Rattle.syntax.specs.Walk.{walkFrom, passed}
+use Rattle.syntax.proofs.Numbers.{natural-of}
+use Rattle.syntax.proofs.Steps as steps
+use Rattle.syntax.proofs.walk.Reads as walk
+use Rattle.syntax.proofs.walk.Kinds as walk-kinds
+use Rattle.syntax.proofs.+walk.Lts-walk as walk-lts
+use Rattle.syntax.proofs.ask.Reads as ask-reads
+use Rattle.syntax.proofs.ranges.natural.Reads as natural-reads
+use Rattle.syntax.proofs.operands.operand.Reads as operand-reads
+use Rattle.syntax.proofs.+walk.{statement}
+use Rattle.syntax.proofs.+walk.Tie.{close}
+
+abbrev μ-walk : Measures 2 walk-kinds.ps ℕ
+μ-walk κs a = length (a .0 .now)
+
+abbrev walk-at : ℕ → In 2 walk-kinds.ps
+walk-at t = and 2 walk-kinds.ps (is 2 walk-kinds.ps μ-walk t) walk.Pre
+
+abbrev walk-below : ℕ → In 2 walk-kinds.ps
+walk-below t = and 2 walk-kinds.ps (falls 2 walk-kinds.ps _<_ μ-walk t) walk.Pre
+
+abbrev walk-Inv-loop : walk-lts.InvT-loop
+walk-Inv-loop kinds numbers before due line kind number operands rows₀ left₀ rows left =
+    (1 ≤ rows) × (rows ≤ length kinds)
+    × ((ds : List Due) → walkFrom before (due ∷ ds) (rowsOf kinds numbers) ≡ walkFrom (before + rows) (operandsDue due kind number left ++ ds) (drop rows (rowsOf kinds numbers)))
+
+abbrev walk-μ-loop : walk-lts.MeasureT-loop
+walk-μ-loop kinds numbers before due line kind number operands rows₀ left₀ rows left = left
+
+walk-add-line : (t : ℕ) → walk-lts.Need-add-line (
+  natural-reads.Asked,
+  natural-reads.Learnt,
+  ask-reads.Asked,
+  ask-reads.Learnt,
+  operand-reads.Asked,
+  operand-reads.Learnt,
+  walk-below t,
+  walk.Post,
+) (walk-at t) walk.Post walk-Inv-loop walk-μ-loop
+walk-add-line t c = search needs
+
+walk-returns : (t : ℕ) → walk-lts.Need-returns (
+  natural-reads.Asked,
+  natural-reads.Learnt,
+  ask-reads.Asked,
+  ask-reads.Learnt,
+  operand-reads.Asked,
+  operand-reads.Learnt,
+  walk-below t,
+  walk.Post,
+) (walk-at t) walk.Post walk-Inv-loop walk-μ-loop
+walk-returns t c = (omega arith, λ ds. steps.walk-none (c .before .before .args .before) (c .before .before .args .due) (c .before .before .args .kinds .now) (c .before .before .args .numbers .now) (c .if1 .taken) ds)
+
+walk-shared-slice-read-kind : (t : ℕ) → walk-lts.Need-shared-slice-read-kind (
+  natural-reads.Asked,
+  natural-reads.Learnt,
+  ask-reads.Asked,
+  ask-reads.Learnt,
+  operand-reads.Asked,
+  operand-reads.Learnt,
+  walk-below t,
+  walk.Post,
+) (walk-at t) walk.Post walk-Inv-loop walk-μ-loop
+walk-shared-slice-read-kind t c = search needs
+
+walk-shared-slice-copy-out-natural : (t : ℕ) → walk-lts.Need-shared-slice-copy-out-natural (
+  natural-reads.Asked,
+  natural-reads.Learnt,
+  ask-reads.Asked,
+  ask-reads.Learnt,
+  operand-reads.Asked,
+  operand-reads.Learnt,
+  walk-below t,
+  walk.Post,
+) (walk-at t) walk.Post walk-Inv-loop walk-μ-loop
+walk-shared-slice-copy-out-natural t c = search needs
+
+walk-natural-requires : (t : ℕ) → walk-lts.Need-natural-requires (
+  natural-reads.Asked,
+  natural-reads.Learnt,
+  ask-reads.Asked,
+  ask-reads.Learnt,
+  operand-reads.Asked,
+  operand-reads.Learnt,
+  walk-below t,
+  walk.Post,
+) (walk-at t) walk.Post walk-Inv-loop walk-μ-loop
+walk-natural-requires t c κs = search needs
+
+walk-ask-requires : (t : ℕ) → walk-lts.Need-ask-requires (
+  natural-reads.Asked,
+  natural-reads.Learnt,
+  ask-reads.Asked,
+  ask-reads.Learnt,
+  operand-reads.Asked,
+  operand-reads.Learnt,
+  walk-below t,
+  walk.Post,
+) (walk-at t) walk.Post walk-Inv-loop walk-μ-loop
+walk-ask-requires t c κs = search needs
+
+walk-enum-known-asked : (t : ℕ) → walk-lts.Need-enum-known-asked (
+  natural-reads.Asked,
+  natural-reads.Learnt,
+  ask-reads.Asked,
+  ask-reads.Learnt,
+  operand-reads.Asked,
+  operand-reads.Learnt,
+  walk-below t,
+  walk.Post,
+) (walk-at t) walk.Post walk-Inv-loop walk-μ-loop
+walk-enum-known-asked t c = search needs
+
+walk-enum-told : (t : ℕ) → walk-lts.Need-enum-told (
+  natural-reads.Asked,
+  natural-reads.Learnt,
+  ask-reads.Asked,
+  ask-reads.Learnt,
+  operand-reads.Asked,
+  operand-reads.Learnt,
+  walk-below t,
+  walk.Post,
+) (walk-at t) walk.Post walk-Inv-loop walk-μ-loop
+walk-enum-told t c = search needs
+
+walk-returns-2 : (t : ℕ) → walk-lts.Need-returns-2 (
+  natural-reads.Asked,
+  natural-reads.Learnt,
+  ask-reads.Asked,
+  ask-reads.Learnt,
+  operand-reads.Asked,
+  operand-reads.Learnt,
+  walk-below t,
+  walk.Post,
+) (walk-at t) walk.Post walk-Inv-loop walk-μ-loop
+walk-returns-2 t c = (rw (c .enum-told .given .1) (omega arith), λ ds. steps.walk-no (c .before .before .before .before .before .before .before .before .args .before) (c .before .before .before .before .before .before .before .before .args .due) (c .before .before .before .before .before .before .before .before .args .kinds .now) (c .before .before .before .before .before .before .before .before .args .numbers .now) (c .before .before .before .before .before .before .before .before .pre .1 .0) (c .before .before .before .before .before .before .if1 .left) (natural-of (getD (c .before .before .before .before .before .before .before .before .args .numbers .now) 0 (pos 0)) (record { sfits = c .before .before .before .before .natural-arg .given }) (c .before .before .before .natural .ensures .0)) (c .before .before .ask .ensures) _ (c .enum-told .given .1) ds ∙ rw (c .enum-told .given .1))
+
+walk-loop-holds : (t : ℕ) → walk-lts.Need-loop-holds (
+  natural-reads.Asked,
+  natural-reads.Learnt,
+  ask-reads.Asked,
+  ask-reads.Learnt,
+  operand-reads.Asked,
+  operand-reads.Learnt,
+  walk-below t,
+  walk.Post,
+) (walk-at t) walk.Post walk-Inv-loop walk-μ-loop
+walk-loop-holds t c = (omega arith, omega arith, steps.walk-row (c .before .before .before .before .before .before .before .before .before .args .before) (c .before .before .before .before .before .before .before .before .before .args .due) (c .before .before .before .before .before .before .before .before .before .args .kinds .now) (c .before .before .before .before .before .before .before .before .before .args .numbers .now) (c .before .before .before .before .before .before .before .before .before .pre .1 .0) (c .before .before .before .before .before .before .before .if1 .left) (natural-of (getD (c .before .before .before .before .before .before .before .before .before .args .numbers .now) 0 (pos 0)) (record { sfits = c .before .before .before .before .before .natural-arg .given }) (c .before .before .before .before .natural .ensures .0)) (c .before .before .before .ask .ensures) _ (c .before .asked .given .1))
+
+walk-operand-requires : (t : ℕ) → walk-lts.Need-operand-requires (
+  natural-reads.Asked,
+  natural-reads.Learnt,
+  ask-reads.Asked,
+  ask-reads.Learnt,
+  operand-reads.Asked,
+  operand-reads.Learnt,
+  walk-below t,
+  walk.Post,
+) (walk-at t) walk.Post walk-Inv-loop walk-μ-loop
+walk-operand-requires t c κs = search needs
+
+walk-sub-walk : (t : ℕ) → walk-lts.Need-sub-walk (
+  natural-reads.Asked,
+  natural-reads.Learnt,
+  ask-reads.Asked,
+  ask-reads.Learnt,
+  operand-reads.Asked,
+  operand-reads.Learnt,
+  walk-below t,
+  walk.Post,
+) (walk-at t) walk.Post walk-Inv-loop walk-μ-loop
+walk-sub-walk t c = search needs
+
+walk-part-walk-start : (t : ℕ) → walk-lts.Need-part-walk-start (
+  natural-reads.Asked,
+  natural-reads.Learnt,
+  ask-reads.Asked,
+  ask-reads.Learnt,
+  operand-reads.Asked,
+  operand-reads.Learnt,
+  walk-below t,
+  walk.Post,
+) (walk-at t) walk.Post walk-Inv-loop walk-μ-loop
+walk-part-walk-start t c = search needs
+
+walk-part-walk-end : (t : ℕ) → walk-lts.Need-part-walk-end (
+  natural-reads.Asked,
+  natural-reads.Learnt,
+  ask-reads.Asked,
+  ask-reads.Learnt,
+  operand-reads.Asked,
+  operand-reads.Learnt,
+  walk-below t,
+  walk.Post,
+) (walk-at t) walk.Post walk-Inv-loop walk-μ-loop
+walk-part-walk-end t c = search needs
+
+walk-mul-walk : (t : ℕ) → walk-lts.Need-mul-walk (
+  natural-reads.Asked,
+  natural-reads.Learnt,
+  ask-reads.Asked,
+  ask-reads.Learnt,
+  operand-reads.Asked,
+  operand-reads.Learnt,
+  walk-below t,
+  walk.Post,
+) (walk-at t) walk.Post walk-Inv-loop walk-μ-loop
+walk-mul-walk t c = search needs
+
+walk-sub-walk-2 : (t : ℕ) → walk-lts.Need-sub-walk-2 (
+  natural-reads.Asked,
+  natural-reads.Learnt,
+  ask-reads.Asked,
+  ask-reads.Learnt,
+  operand-reads.Asked,
+  operand-reads.Learnt,
+  walk-below t,
+  walk.Post,
+) (walk-at t) walk.Post walk-Inv-loop walk-μ-loop
+walk-sub-walk-2 t c = search needs
+
+walk-part-walk-start-2 : (t : ℕ) → walk-lts.Need-part-walk-start-2 (
+  natural-reads.Asked,
+  natural-reads.Learnt,
+  ask-reads.Asked,
+  ask-reads.Learnt,
+  operand-reads.Asked,
+  operand-reads.Learnt,
+  walk-below t,
+  walk.Post,
+) (walk-at t) walk.Post walk-Inv-loop walk-μ-loop
+walk-part-walk-start-2 t c = search needs
+
+walk-part-walk-end-2 : (t : ℕ) → walk-lts.Need-part-walk-end-2 (
+  natural-reads.Asked,
+  natural-reads.Learnt,
+  ask-reads.Asked,
+  ask-reads.Learnt,
+  operand-reads.Asked,
+  operand-reads.Learnt,
+  walk-below t,
+  walk.Post,
+) (walk-at t) walk.Post walk-Inv-loop walk-μ-loop
+walk-part-walk-end-2 t c = search needs
+
+walk-add-walk : (t : ℕ) → walk-lts.Need-add-walk (
+  natural-reads.Asked,
+  natural-reads.Learnt,
+  ask-reads.Asked,
+  ask-reads.Learnt,
+  operand-reads.Asked,
+  operand-reads.Learnt,
+  walk-below t,
+  walk.Post,
+) (walk-at t) walk.Post walk-Inv-loop walk-μ-loop
+walk-add-walk t c = search needs
+
+walk-walk-requires : (t : ℕ) → walk-lts.Need-walk-requires (
+  natural-reads.Asked,
+  natural-reads.Learnt,
+  ask-reads.Asked,
+  ask-reads.Learnt,
+  operand-reads.Asked,
+  operand-reads.Learnt,
+  walk-below t,
+  walk.Post,
+) (walk-at t) walk.Post walk-Inv-loop walk-μ-loop
+walk-walk-requires t c κs = (omega (arith, c .before .before .before .before .loop .inv .0, c .before .before .before .before .loop .inv .1, c .before .before .before .before .before .before .before .before .before .before .before .before .before .before .pre .0), (omega (arith, c .before .before .before .before .before .before .before .before .before .before .before .before .before .before .pre .1 .0), omega (arith, c .before .before .before .before .before .before .before .before .before .before .before .before .before .before .pre .1 .1, c .before .before .before .before .loop .inv .0, c .before .before .before .before .loop .inv .1), rw (c .before .before .operand .ensures) (steps.operand-bounded (c .before .before .before .before .before .before .before .before .before .before .before .before .before .before .args .due) _ _ (c .before .before .before .before .before .before .before .before .before .before .before .before .before .before .args .before + 1) _ (eqb (c .before .before .before .before .loop .left) 1) (c .before .before .before .before .before .before .before .before .before .before .before .before .before .before .pre .1 .2) (sym (c .before .before .before .before .before .before .before .before .ask .ensures) ∙ c .before .before .before .before .before .before .asked .given .1))))
+
+walk-enum-known-walked : (t : ℕ) → walk-lts.Need-enum-known-walked (
+  natural-reads.Asked,
+  natural-reads.Learnt,
+  ask-reads.Asked,
+  ask-reads.Learnt,
+  operand-reads.Asked,
+  operand-reads.Learnt,
+  walk-below t,
+  walk.Post,
+) (walk-at t) walk.Post walk-Inv-loop walk-μ-loop
+walk-enum-known-walked t c = search needs
+
+walk-enum-told-2 : (t : ℕ) → walk-lts.Need-enum-told-2 (
+  natural-reads.Asked,
+  natural-reads.Learnt,
+  ask-reads.Asked,
+  ask-reads.Learnt,
+  operand-reads.Asked,
+  operand-reads.Learnt,
+  walk-below t,
+  walk.Post,
+) (walk-at t) walk.Post walk-Inv-loop walk-μ-loop
+walk-enum-told-2 t c = search needs
+
+walk-returns-3 : (t : ℕ) → walk-lts.Need-returns-3 (
+  natural-reads.Asked,
+  natural-reads.Learnt,
+  ask-reads.Asked,
+  ask-reads.Learnt,
+  operand-reads.Asked,
+  operand-reads.Learnt,
+  walk-below t,
+  walk.Post,
+) (walk-at t) walk.Post walk-Inv-loop walk-μ-loop
+walk-returns-3 t c = (rw (c .enum-told2 .given .1) (omega arith), λ ds. steps.operand-no (c .before .before .before .before .before .before .before .before .before .before .before .before .before .before .before .before .before .args .before) (c .before .before .before .before .before .before .before .before .before .before .before .before .before .before .before .before .before .args .due) _ _ (rowsOf (c .before .before .before .before .before .before .before .before .before .before .before .before .before .before .before .before .before .args .kinds .now) (c .before .before .before .before .before .before .before .before .before .before .before .before .before .before .before .before .before .args .numbers .now)) (c .before .before .before .before .before .before .before .loop .left) (c .before .before .before .before .before .before .before .loop .rows) (c .before .before .before .before .before .before .before .loop .inv .2) (c .before .before .before .before .before .before .loop-test .taken) (c .before .before .before .before .before .operand .ensures) (c .before .before .walk .result) (λ ds. rw steps.rows-part at (c .before .before .walk .ensures .1 ds)) _ (c .enum-told2 .given .1) ds ∙ rw (c .enum-told2 .given .1))
+
+walk-add-rows : (t : ℕ) → walk-lts.Need-add-rows (
+  natural-reads.Asked,
+  natural-reads.Learnt,
+  ask-reads.Asked,
+  ask-reads.Learnt,
+  operand-reads.Asked,
+  operand-reads.Learnt,
+  walk-below t,
+  walk.Post,
+) (walk-at t) walk.Post walk-Inv-loop walk-μ-loop
+walk-add-rows t c = omega (arith, c .before .before .before .walk .ensures .0, ap passed (c .before .walked .given .1), c .before .before .before .before .before .before .before .before .loop .inv .0, c .before .before .before .before .before .before .before .before .loop .inv .1, c .before .before .before .before .before .before .before .before .before .before .before .before .before .before .before .before .before .before .pre .1 .1)
+
+walk-sub-left : (t : ℕ) → walk-lts.Need-sub-left (
+  natural-reads.Asked,
+  natural-reads.Learnt,
+  ask-reads.Asked,
+  ask-reads.Learnt,
+  operand-reads.Asked,
+  operand-reads.Learnt,
+  walk-below t,
+  walk.Post,
+) (walk-at t) walk.Post walk-Inv-loop walk-μ-loop
+walk-sub-left t c = search needs
+
+walk-loop-less : (t : ℕ) → walk-lts.Need-loop-less (
+  natural-reads.Asked,
+  natural-reads.Learnt,
+  ask-reads.Asked,
+  ask-reads.Learnt,
+  operand-reads.Asked,
+  operand-reads.Learnt,
+  walk-below t,
+  walk.Post,
+) (walk-at t) walk.Post walk-Inv-loop walk-μ-loop
+walk-loop-less t c = search needs
+
+walk-loop-again : (t : ℕ) → walk-lts.Need-loop-again (
+  natural-reads.Asked,
+  natural-reads.Learnt,
+  ask-reads.Asked,
+  ask-reads.Learnt,
+  operand-reads.Asked,
+  operand-reads.Learnt,
+  walk-below t,
+  walk.Post,
+) (walk-at t) walk.Post walk-Inv-loop walk-μ-loop
+walk-loop-again t c = (omega arith, omega (arith, c .before .before .before .walk .ensures .0, ap passed (c .before .walked .given .1)), steps.operand-passed (c .before .before .before .before .before .before .before .before .before .before .before .before .before .before .before .before .before .before .args .before) (c .before .before .before .before .before .before .before .before .before .before .before .before .before .before .before .before .before .before .args .due) _ _ (rowsOf (c .before .before .before .before .before .before .before .before .before .before .before .before .before .before .before .before .before .before .args .kinds .now) (c .before .before .before .before .before .before .before .before .before .before .before .before .before .before .before .before .before .before .args .numbers .now)) (c .before .before .before .before .before .before .before .before .loop .left) (c .before .before .before .before .before .before .before .before .loop .rows) (c .before .before .before .before .before .before .before .before .loop .inv .2) (c .before .before .before .before .before .before .before .loop-test .taken) (c .before .before .before .before .before .before .operand .ensures) (c .before .before .before .walk .result) (λ ds. rw steps.rows-part at (c .before .before .before .walk .ensures .1 ds)) _ (c .before .walked .given .1))
+
+walk-returns-4 : (t : ℕ) → walk-lts.Need-returns-4 (
+  natural-reads.Asked,
+  natural-reads.Learnt,
+  ask-reads.Asked,
+  ask-reads.Learnt,
+  operand-reads.Asked,
+  operand-reads.Learnt,
+  walk-below t,
+  walk.Post,
+) (walk-at t) walk.Post walk-Inv-loop walk-μ-loop
+walk-returns-4 t c = (omega arith, steps.operands-passed (c .before .before .before .before .before .before .before .before .before .before .before .args .before) (c .before .before .before .before .before .before .before .before .before .before .before .args .due) _ _ (rowsOf (c .before .before .before .before .before .before .before .before .before .before .before .args .kinds .now) (c .before .before .before .before .before .before .before .before .before .before .before .args .numbers .now)) (c .before .loop .left) (c .before .loop .rows) (c .before .loop .inv .2) (c .loop-test .left))
+
+pub +walk-spec : {M : Type 1} → statement M
++walk-spec = close μ-walk λ t. walk-lts.spec (
+  natural-reads.Asked,
+  natural-reads.Learnt,
+  ask-reads.Asked,
+  ask-reads.Learnt,
+  operand-reads.Asked,
+  operand-reads.Learnt,
+  walk-below t,
+  walk.Post,
+)
+    (walk-at t)
+    walk.Post
+    walk-Inv-loop
+    walk-μ-loop
+    (walk-add-line t)
+    (walk-returns t)
+    (walk-shared-slice-read-kind t)
+    (walk-shared-slice-copy-out-natural t)
+    (walk-natural-requires t)
+    (walk-ask-requires t)
+    (walk-enum-known-asked t)
+    (walk-enum-told t)
+    (walk-returns-2 t)
+    (walk-loop-holds t)
+    (walk-operand-requires t)
+    (walk-sub-walk t)
+    (walk-part-walk-start t)
+    (walk-part-walk-end t)
+    (walk-mul-walk t)
+    (walk-sub-walk-2 t)
+    (walk-part-walk-start-2 t)
+    (walk-part-walk-end-2 t)
+    (walk-add-walk t)
+    (walk-walk-requires t)
+    (walk-enum-known-walked t)
+    (walk-enum-told-2 t)
+    (walk-returns-3 t)
+    (walk-add-rows t)
+    (walk-sub-left t)
+    (walk-loop-less t)
+    (walk-loop-again t)
+    (walk-returns-4 t)

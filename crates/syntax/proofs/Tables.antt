@@ -1,0 +1,150 @@
+-- A whole table: its rows are as many as the shorter slice has, and each kind is a word's. Assumes nothing.
+use mathlib.Core.Path.{_≡_, refl, sym, ap, _∙_}
+use mathlib.Core.Bool.{Bool, true, false, cond}
+use mathlib.Core.List.{List, [], _∷_}
+use Prim.Native.Nat.{ℕ, zero, suc, _+_, _≤_, _<_, min}
+use native.Mathlib.Omega.{arith}
+use native.Mathlib.Nat.{zero-add}
+use native.Mathlib.Numerals.{add-one}
+use borrow.Author.Tests.{lt-ltb, le-ltb}
+use lib.Dec.{ltb}
+use lib.IntN.{ℤ}
+use lib.ListN.{length, getD, take, drop}
+use lib.Seq.{drop-cons, drop-length, length-take-le}
+use Rattle.refusals.specs.declared.Refusal.{Refusal}
+use Rattle.refusals.specs.declared.Refusal.the-variants.{LineForm, RowDue}
+use Rattle.words.specs.Kinds.{Row, rowsOf, word-rest}
+use Rattle.words.specs.declared.Sort.{Sort}
+use Rattle.syntax.specs.declared.Answer.{Answer}
+use Rattle.syntax.specs.declared.Answer.the-variants.{Passed, Refused}
+use Rattle.syntax.specs.declared.operands.Due.{Due}
+use Rattle.syntax.specs.Names.{noNames}
+use Rattle.syntax.specs.Operands.{due}
+use Rattle.syntax.specs.Walk.{walkFrom, resume, listedFrom, firstUnlisted, walkTable}
+
+-- ---- the loop of question 2
+
+pub unlisted-start : (l : List ℕ) → firstUnlisted l ≡ 0 + firstUnlisted (drop 0 l)
+unfolding firstUnlisted
+unlisted-start [] = refl
+unlisted-start (k ∷ l) = sym (zero-add _)
+
+module _ (l : List ℕ) (i : ℕ) (inv : firstUnlisted l ≡ i + firstUnlisted (drop i l)) where
+  pub unlisted-here : i < length l → word-rest < getD l i 0 → i ≡ firstUnlisted l
+  unfolding firstUnlisted
+  unlisted-here h g =
+      let e : firstUnlisted (drop i l) ≡ 0 = rw (drop-cons l i 0) (simp (lt-ltb word-rest (getD l i 0) g)) in
+      omega (arith, inv, e)
+
+  pub unlisted-next : i < length l → getD l i 0 ≤ word-rest → firstUnlisted l ≡ (i + 1) + firstUnlisted (drop (i + 1) l)
+  unfolding firstUnlisted
+  unlisted-next h g =
+      let e : firstUnlisted (drop i l) ≡ suc (firstUnlisted (drop (i + 1) l)) = rw (add-one, drop-cons l i 0) (simp (le-ltb word-rest (getD l i 0) g)) in
+      omega (arith, inv, e)
+
+  pub unlisted-end : i ≡ length l → i ≡ firstUnlisted l
+  unfolding firstUnlisted
+  unlisted-end h =
+      let e : firstUnlisted (drop i l) ≡ 0 = rw (h, drop-length) in
+      omega (arith, inv, e)
+
+-- ---- question 2 of rows, and of their kinds
+
+listed-no : (ks : List ℕ) (ns : List ℤ) (p : ℕ) (v : Answer) → length ks ≡ length ns → firstUnlisted ks < length ks
+    → listedFrom p (rowsOf ks ns) v ≡ Refused (LineForm (suc (p + firstUnlisted ks)))
+unfolding rowsOf listedFrom firstUnlisted
+listed-no [] ns p v e h = absurd (omega arith)
+listed-no (k ∷ ks) [] p v e h = absurd (omega arith)
+listed-no (k ∷ ks) (n ∷ ns) p v e h = go (ltb word-rest k) (λ g. listed-no ks ns (suc p) v (omega arith) g) h
+  where
+    go : (b : Bool) → (firstUnlisted ks < length ks → listedFrom (suc p) (rowsOf ks ns) v ≡ Refused (LineForm (suc (suc p + firstUnlisted ks))))
+        → cond b 0 (suc (firstUnlisted ks)) < suc (length ks)
+        → cond b (Refused (LineForm (suc p))) (listedFrom (suc p) (rowsOf ks ns) v) ≡ Refused (LineForm (suc (p + cond b 0 (suc (firstUnlisted ks)))))
+    go true f h = ap (λ (l : ℕ). Refused (LineForm l)) (omega arith)
+    go false f h = f (omega arith) ∙ ap (λ (l : ℕ). Refused (LineForm l)) (omega arith)
+
+listed-yes : (ks : List ℕ) (ns : List ℤ) (p : ℕ) (v : Answer) → length ks ≡ length ns → length ks ≤ firstUnlisted ks → listedFrom p (rowsOf ks ns) v ≡ v
+unfolding rowsOf listedFrom firstUnlisted
+listed-yes [] ns p v e h = refl
+listed-yes (k ∷ ks) [] p v e h = absurd (omega arith)
+listed-yes (k ∷ ks) (n ∷ ns) p v e h = go (ltb word-rest k) (λ g. listed-yes ks ns (suc p) v (omega arith) g) h
+  where
+    go : (b : Bool) → (length ks ≤ firstUnlisted ks → listedFrom (suc p) (rowsOf ks ns) v ≡ v) → suc (length ks) ≤ cond b 0 (suc (firstUnlisted ks))
+        → cond b (Refused (LineForm (suc p))) (listedFrom (suc p) (rowsOf ks ns) v) ≡ v
+    go true f h = absurd (omega arith)
+    go false f h = f (omega arith)
+
+-- ---- the end of the walk
+
+rows-length : (ks : List ℕ) (ns : List ℤ) → length ks ≡ length ns → length (rowsOf ks ns) ≡ length ks
+unfolding rowsOf
+rows-length [] ns e = refl
+rows-length (k ∷ ks) [] e = absurd (omega arith)
+rows-length (k ∷ ks) (n ∷ ns) e = ap suc (rows-length ks ns (omega arith))
+
+rows-left : (R : List Row) (r p : ℕ) → r < length R → walkFrom p [] (drop r R) ≡ Refused (RowDue (suc p))
+unfolding walkFrom
+rows-left [] r p h = absurd (omega arith)
+rows-left (x ∷ R) zero p h = refl
+rows-left (x ∷ R) (suc r) p h = rows-left R r p (omega arith)
+
+none-left : (R : List Row) (r p : ℕ) → length R ≤ r → walkFrom p [] (drop r R) ≡ Passed p
+unfolding walkFrom
+none-left [] zero p h = refl
+none-left [] (suc r) p h = refl
+none-left (x ∷ R) zero p h = absurd (omega arith)
+none-left (x ∷ R) (suc r) p h = none-left R r p (omega arith)
+
+-- ---- the table
+
+rows-take : (m : ℕ) (ks : List ℕ) (ns : List ℤ) → m ≡ min (length ks) (length ns) → rowsOf (take m ks) (take m ns) ≡ rowsOf ks ns
+unfolding rowsOf
+rows-take zero [] ns e = refl
+rows-take zero (k ∷ ks) [] e = refl
+rows-take zero (k ∷ ks) (n ∷ ns) e = absurd (omega arith)
+rows-take (suc m) [] ns e = absurd (omega arith)
+rows-take (suc m) (k ∷ ks) [] e = absurd (omega arith)
+rows-take (suc m) (k ∷ ks) (n ∷ ns) e = ap (λ (r : List Row). (k, n) ∷ r) (rows-take m ks ns (omega arith))
+
+module _ (s : Sort) (ks : List ℕ) (ns : List ℤ) {m : ℕ} (em : m ≡ min (length ks) (length ns)) where
+  pub kinds-length : length (take m ks) ≡ m
+  kinds-length = length-take-le m ks (omega arith)
+
+  pub numbers-length : length (take m ns) ≡ m
+  numbers-length = length-take-le m ns (omega arith)
+
+  abbrev R : List Row
+  R = rowsOf (take m ks) (take m ns)
+
+  table-rows : (v : Answer) → v ≡ listedFrom 0 R (walkFrom 0 (due s noNames ∷ []) R) → v ≡ walkTable s (rowsOf ks ns)
+  unfolding walkTable
+  table-rows v e = e ∙ ap (λ (R : List Row). listedFrom 0 R (walkFrom 0 (due s noNames ∷ []) R)) (rows-take m ks ns em)
+
+  module _ {at : ℕ} (ea : at ≡ firstUnlisted (take m ks)) where
+    pub table-unlisted : at < m → Refused (LineForm (at + 1)) ≡ walkTable s (rowsOf ks ns)
+    table-unlisted h =
+        let z : suc (0 + firstUnlisted (take m ks)) ≡ at + 1 = omega arith in
+        table-rows (Refused (LineForm (at + 1)))
+        (sym (listed-no (take m ks) (take m ns) 0 (walkFrom 0 (due s noNames ∷ []) R) (kinds-length ∙ sym numbers-length) (omega (arith, kinds-length)) ∙ rw z))
+
+    module _ (all : m ≤ at) (a : Answer) (h : (ds : List Due) → walkFrom 0 (due s noNames ∷ ds) R ≡ resume a 0 ds R) where
+      table-walked : (v : Answer) → v ≡ resume a 0 [] R → v ≡ walkTable s (rowsOf ks ns)
+      table-walked v e =
+          table-rows v
+          (e ∙ sym (h []) ∙ sym (listed-yes (take m ks) (take m ns) 0 (walkFrom 0 (due s noNames ∷ []) R) (kinds-length ∙ sym numbers-length) (omega (arith, kinds-length))))
+
+      pub table-no : (q : Refusal) → a ≡ Refused q → a ≡ walkTable s (rowsOf ks ns)
+      table-no q e = table-walked a (rw e)
+
+      pub table-more : (end : ℕ) → a ≡ Passed end → end < m → Refused (RowDue (end + 1)) ≡ walkTable s (rowsOf ks ns)
+      table-more end e l =
+          let z : suc (0 + end) ≡ end + 1 = omega arith in
+          let o : walkFrom (0 + end) [] (drop end R) ≡ Refused (RowDue (end + 1)) =
+          rows-left R end (0 + end) (omega (arith, rows-length (take m ks) (take m ns) (kinds-length ∙ sym numbers-length), kinds-length)) ∙ rw z in
+          table-walked (Refused (RowDue (end + 1))) (sym (rw e o))
+
+      pub table-passed : (end : ℕ) → a ≡ Passed end → m ≤ end → Passed end ≡ walkTable s (rowsOf ks ns)
+      table-passed end e l =
+          let o : walkFrom (0 + end) [] (drop end R) ≡ Passed end =
+          none-left R end (0 + end) (omega (arith, rows-length (take m ks) (take m ns) (kinds-length ∙ sym numbers-length), kinds-length)) ∙ rw zero-add in
+          table-walked (Passed end) (sym (rw e o))

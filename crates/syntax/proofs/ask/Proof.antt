@@ -1,0 +1,66 @@
+-- `syntax::ask` meets its contract: each test is the answer to its question, and no word has more than three operands, so the
+-- sum does not wrap.
+use Prim.Native.Nat.{ℕ, _+_}
+use mathlib.Core.Path.{sym, ap, _∙_}
+use native.Mathlib.Omega.{arith}
+use borrow.Author.Needs.{needs}
+use Rattle.syntax.specs.declared.Answer.the-variants.{Passed}
+use Rattle.syntax.specs.Laws.Ask.{ask-due, ask-range, ask-names, ask-passed}
+use Rattle.syntax.specs.Names.{namesFit}
+use Rattle.syntax.proofs.Words.{flag-not, flag-yes}
+use Rattle.syntax.proofs.Steps as steps
+use Rattle.syntax.proofs.ask.Statement.{statement}
+use Rattle.syntax.proofs.ask.Tie as tie
+
+operand-count-requires : tie.Need-operand-count-requires
+operand-count-requires c κs = search needs
+
+enum-known-listed : tie.Need-enum-known-listed
+enum-known-listed c = search needs
+
+enum-told : tie.Need-enum-told
+enum-told c = search needs
+
+returns : tie.Need-returns
+returns c = ask-due (c .before .before .before .before .args .due) (c .before .before .before .before .args .kind) (c .before .before .before .before .args .number) (c .before .before .before .before .args .line) (sym (c .before .before .operand-count .ensures) ∙ c .enum-told .given .1)
+
+in-range-requires : tie.Need-in-range-requires
+in-range-requires c κs = search needs
+
+returns-2 : tie.Need-returns-2
+returns-2 c = ask-range (c .before .before .before .before .before .before .before .args .due) (c .before .before .before .before .before .before .before .args .kind) (c .before .before .before .before .before .before .before .args .number) (c .before .before .before .before .before .before .before .args .line) (sym (c .before .before .before .before .before .operand-count .ensures) ∙ c .before .before .before .listed .given .1) (flag-not _ _ (c .before .in-range .ensures) (c .if1 .taken))
+
+opened-requires : tie.Need-opened-requires
+opened-requires c κs = search needs
+
+names-fit-requires : tie.Need-names-fit-requires
+names-fit-requires c κs = search needs
+
+returns-3 : tie.Need-returns-3
+returns-3 c = ask-names (c .before .before .before .before .before .before .before .before .before .before .args .due) (c .before .before .before .before .before .before .before .before .before .before .args .kind) (c .before .before .before .before .before .before .before .before .before .before .args .number) (c .before .before .before .before .before .before .before .before .before .before .args .line) (sym (c .before .before .before .before .before .before .before .before .operand-count .ensures) ∙ c .before .before .before .before .before .before .listed .given .1) (flag-yes _ _ (c .before .before .before .before .in-range .ensures) (c .before .before .before .if1 .left)) (ap namesFit (sym (c .before .before .opened .ensures)) ∙ flag-not _ _ (c .before .names-fit .ensures) (c .if2 .taken))
+
+inputs-counted-requires : tie.Need-inputs-counted-requires
+inputs-counted-requires c κs = search needs
+
+add-t16 : tie.Need-add-t16
+add-t16 c = omega (arith, c .inputs-counted .ensures .1, c .before .before .before .before .before .before .before .before .before .before .before .pre .0, steps.three-operands (c .before .before .before .before .before .before .before .before .before .before .before .args .kind) (c .before .before .before .before .before .before .before .before .before .before .before .args .due .sort) _ (sym (c .before .before .before .before .before .before .before .before .before .operand-count .ensures) ∙ c .before .before .before .before .before .before .before .listed .given .1))
+
+returns-4 : tie.Need-returns-4
+returns-4 c = ap (λ (i : ℕ). Passed (i + c .before .before .before .before .before .before .before .listed .given .0 .0)) (c .inputs-counted .ensures .0) ∙ ask-passed (c .before .before .before .before .before .before .before .before .before .before .before .args .due) (c .before .before .before .before .before .before .before .before .before .before .before .args .kind) (c .before .before .before .before .before .before .before .before .before .before .before .args .number) (c .before .before .before .before .before .before .before .before .before .before .before .args .line) (sym (c .before .before .before .before .before .before .before .before .before .operand-count .ensures) ∙ c .before .before .before .before .before .before .before .listed .given .1) (flag-yes _ _ (c .before .before .before .before .before .in-range .ensures) (c .before .before .before .before .if1 .left)) (ap namesFit (sym (c .before .before .before .opened .ensures)) ∙ flag-yes _ _ (c .before .before .names-fit .ensures) (c .before .if2 .left))
+
+pub ask-spec : {M : Type 1} → statement M
+ask-spec =
+    tie.close
+    (tie.spec
+    operand-count-requires
+    enum-known-listed
+    enum-told
+    returns
+    in-range-requires
+    returns-2
+    opened-requires
+    names-fit-requires
+    returns-3
+    inputs-counted-requires
+    add-t16
+    returns-4)

@@ -1,0 +1,51 @@
+-- `syntax::listed` meets its contract. The loop's invariant: the first kind that is no word's lies from the present one on.
+use mathlib.Core.Path.{_≡_}
+use Prim.Native.Nat.{_+_, _-_, _≤_}
+use lib.ListN.{drop, length}
+use borrow.Author.Needs.{needs}
+use native.Mathlib.Omega.{arith}
+use Rattle.syntax.specs.Walk.{firstUnlisted}
+use Rattle.syntax.proofs.Tables as tables
+use Rattle.syntax.proofs.listed.Statement.{statement}
+use Rattle.syntax.proofs.listed.Tie as tie
+
+abbrev Inv-loop : tie.InvT-loop
+Inv-loop kinds i₀ i = (i ≤ length kinds) × (firstUnlisted kinds ≡ i + firstUnlisted (drop i kinds))
+
+abbrev μ-loop : tie.MeasureT-loop
+μ-loop kinds i₀ i = length kinds - i
+
+loop-holds : tie.Need-loop-holds Inv-loop μ-loop
+loop-holds c = (omega arith, tables.unlisted-start (c .args .kinds .now))
+
+shared-slice-read-if1 : tie.Need-shared-slice-read-if1 Inv-loop μ-loop
+shared-slice-read-if1 c = search needs
+
+returns : tie.Need-returns Inv-loop μ-loop
+returns c = tables.unlisted-here (c .before .before .before .before .args .kinds .now) (c .before .before .before .loop .i) (c .before .before .before .loop .inv .1) (c .before .before .loop-test .taken) (c .if1 .taken)
+
+add-i : tie.Need-add-i Inv-loop μ-loop
+add-i c = search needs
+
+loop-less : tie.Need-loop-less Inv-loop μ-loop
+loop-less c = search needs
+
+loop-again : tie.Need-loop-again Inv-loop μ-loop
+loop-again c = (omega arith, tables.unlisted-next (c .before .before .before .before .args .kinds .now) (c .before .before .before .loop .i) (c .before .before .before .loop .inv .1) (c .before .before .loop-test .taken) (c .if1 .left))
+
+returns-2 : tie.Need-returns-2 Inv-loop μ-loop
+returns-2 c = tables.unlisted-end (c .before .before .args .kinds .now) (c .before .loop .i) (c .before .loop .inv .1) (omega arith)
+
+pub listed-spec : {M : Type 1} → statement M
+listed-spec =
+    tie.close
+    (tie.spec
+    Inv-loop
+    μ-loop
+    loop-holds
+    shared-slice-read-if1
+    returns
+    add-i
+    loop-less
+    loop-again
+    returns-2)

@@ -1,0 +1,85 @@
+-- `syntax::names::opened` meets its contract: at each word that opens names the definition computes to the same names, and no other word
+-- opens any.
+use mathlib.Core.Path.{_∙_}
+use native.Mathlib.Omega.{arith}
+use borrow.Author.Needs.{needs}
+use Rattle.syntax.specs.Ranges.{oneOf}
+use Rattle.syntax.specs.Names.{openedBy}
+use Rattle.syntax.proofs.Words.{opened-head, opened-map, opened-loop, opened-none}
+use Rattle.syntax.proofs.names.opened.Statement.{statement}
+use Rattle.syntax.proofs.names.opened.Tie as tie
+
+in-force-requires : tie.Need-in-force-requires
+in-force-requires c κs = search needs
+
+add-in-force : tie.Need-add-in-force
+add-in-force c = search needs
+
+in-force-requires-2 : tie.Need-in-force-requires-2
+in-force-requires-2 c κs = search needs
+
+add-in-force-2 : tie.Need-add-in-force-2
+add-in-force-2 c = search needs
+
+in-force-requires-3 : tie.Need-in-force-requires-3
+in-force-requires-3 c κs = search needs
+
+add-in-force-3 : tie.Need-add-in-force-3
+add-in-force-3 c = search needs
+
+in-force-requires-4 : tie.Need-in-force-requires-4
+in-force-requires-4 c κs = search needs
+
+add-in-force-4 : tie.Need-add-in-force-4
+add-in-force-4 c = search needs
+
+in-force-requires-5 : tie.Need-in-force-requires-5
+in-force-requires-5 c κs = search needs
+
+returns : tie.Need-returns
+returns c = c .in-force .ensures ∙ opened-head (c .before .before .args .kind) (c .before .before .args .number) (c .before .before .args .names) (c .before .match .keys1)
+
+returns-2 : tie.Need-returns-2
+unfolding openedBy oneOf
+returns-2 c = c .in-force2 .ensures ∙ rw (c .before .match .keys2)
+
+returns-3 : tie.Need-returns-3
+unfolding openedBy oneOf
+returns-3 c = c .in-force3 .ensures ∙ rw (c .before .match .keys3)
+
+returns-4 : tie.Need-returns-4
+returns-4 c = c .in-force4 .ensures ∙ opened-map (c .before .before .before .before .args .kind) (c .before .before .before .before .args .number) (c .before .before .before .before .args .names) (c .before .before .if1 .left) (c .before .if2 .taken)
+
+returns-5 : tie.Need-returns-5
+returns-5 c = c .in-force5 .ensures ∙ opened-loop (c .before .before .before .before .before .before .args .kind) (c .before .before .before .before .before .before .args .number) (c .before .before .before .before .before .before .args .names) (c .before .before .if3 .left) (c .before .if4 .taken)
+
+returns-6 : tie.Need-returns-6
+returns-6 c = opened-none (c .before .before .args .kind) (c .before .before .args .number) (c .before .before .args .names) (c .before .match .rest .0 .0 .1) (c .before .match .rest .0 .1) (c .before .match .rest .1) (λ a b. omega arith) (λ a b. omega arith)
+
+returns-7 : tie.Need-returns-7
+returns-7 c = opened-none (c .before .before .before .before .args .kind) (c .before .before .before .before .args .number) (c .before .before .before .before .args .names) (c .before .before .before .match .rest .0 .0 .1) (c .before .before .before .match .rest .0 .1) (c .before .before .before .match .rest .1) (λ a b. omega arith) (λ a b. omega arith)
+
+returns-8 : tie.Need-returns-8
+returns-8 c = opened-none (c .before .before .before .before .before .args .kind) (c .before .before .before .before .before .args .number) (c .before .before .before .before .before .args .names) (c .before .before .before .before .match .rest .0 .0 .1) (c .before .before .before .before .match .rest .0 .1) (c .before .before .before .before .match .rest .1) (λ a b. omega arith) (λ a b. omega arith)
+
+pub opened-spec : {M : Type 1} → statement M
+opened-spec =
+    tie.close
+    (tie.spec
+    in-force-requires
+    add-in-force
+    in-force-requires-2
+    add-in-force-2
+    in-force-requires-3
+    add-in-force-3
+    in-force-requires-4
+    add-in-force-4
+    in-force-requires-5
+    returns
+    returns-2
+    returns-3
+    returns-4
+    returns-5
+    returns-6
+    returns-7
+    returns-8)

@@ -1,0 +1,24 @@
+-- `syntax::operands::operand` meets its contract: the sort and the names are its callees'.
+use mathlib.Core.Path.{ap, ap₂, _∙_}
+use borrow.Author.Needs.{needs}
+use Rattle.words.specs.declared.Sort.{Sort}
+use Rattle.syntax.specs.Operands.{due, operandSort, operandOf}
+use Rattle.syntax.proofs.operands.operand.Statement.{statement}
+use Rattle.syntax.proofs.operands.operand.Tie as tie
+
+operand-sort-requires : tie.Need-operand-sort-requires
+operand-sort-requires c κs = search needs
+
+opened-requires : tie.Need-opened-requires
+opened-requires c κs = search needs
+
+returns : tie.Need-returns
+unfolding operandOf
+returns c = rw (c .before .if1 .taken) (ap₂ due (c .before .before .operand-sort .ensures ∙ ap (operandSort (c .before .before .before .before .args .due .sort) (c .before .before .before .before .args .kind)) (c .before .if1 .taken)) (c .opened .ensures))
+
+returns-2 : tie.Need-returns-2
+unfolding operandOf
+returns-2 c = rw (c .if1 .left) (ap (λ (s : Sort). due s (c .before .before .before .args .due .names)) (c .before .operand-sort .ensures ∙ ap (operandSort (c .before .before .before .args .due .sort) (c .before .before .before .args .kind)) (c .if1 .left)))
+
+pub operand-spec : {M : Type 1} → statement M
+operand-spec = tie.close (tie.spec operand-sort-requires opened-requires returns returns-2)

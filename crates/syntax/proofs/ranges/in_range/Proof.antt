@@ -1,0 +1,72 @@
+-- `syntax::ranges::in_range` meets its contract: at each word that it names the definition computes to the same comparison, and at every
+-- other word it asks for 0.
+use mathlib.Core.Path.{_≡_, refl, sym, _∙_}
+use mathlib.Core.List.{[], _∷_}
+use lib.Dec.{leb}
+use borrow.Author.Needs.{needs}
+use Rattle.words.specs.Kinds.{word-plan, word-loops}
+use Rattle.syntax.specs.Ranges.{oneOf, inRange}
+use Rattle.syntax.proofs.Words.{at-one, range-rest}
+use Rattle.syntax.proofs.ranges.in_range.Statement.{statement}
+use Rattle.syntax.proofs.ranges.in_range.Tie as tie
+
+is-size-requires : tie.Need-is-size-requires
+is-size-requires c κs = search needs
+
+between-requires : tie.Need-between-requires
+between-requires c κs = search needs
+
+returns : tie.Need-returns
+unfolding inRange
+returns c = simp (sym (c .before .before .is-size .ensures) ∙ c .before .if1 .taken) (c .between .ensures)
+
+literal-in-range-requires : tie.Need-literal-in-range-requires
+literal-in-range-requires c κs = search needs
+
+returns-2 : tie.Need-returns-2
+unfolding inRange oneOf
+returns-2 c = at-one (λ w. leb (c .before .before .before .args .number) 8 ≡ inRange (c .before .before .before .args .sort) (c .before .before .before .args .names) w (c .before .before .before .args .number)) (c .before .before .before .args .kind) (word-plan ∷ word-loops ∷ []) (c .match .keys1) (refl, (refl, tt))
+
+returns-3 : tie.Need-returns-3
+unfolding inRange oneOf
+returns-3 c = rw (c .match .keys2)
+
+returns-4 : tie.Need-returns-4
+unfolding inRange oneOf
+returns-4 c = rw (c .before .match .keys3)
+
+returns-5 : tie.Need-returns-5
+unfolding inRange oneOf
+returns-5 c = rw (c .before .match .keys4)
+
+returns-6 : tie.Need-returns-6
+unfolding inRange oneOf
+returns-6 c = rw (c .before .match .keys5)
+
+returns-7 : tie.Need-returns-7
+unfolding inRange oneOf
+returns-7 c = rw (c .before .match .keys6)
+
+returns-8 : tie.Need-returns-8
+unfolding inRange oneOf
+returns-8 c = rw (c .before .match .keys7) (c .literal-in-range .ensures)
+
+returns-9 : tie.Need-returns-9
+returns-9 c = let r = c .match .rest in range-rest (c .before .before .before .args .sort) (c .before .before .before .args .names) (c .before .before .before .args .kind) (c .before .before .before .args .number) (sym (c .before .before .is-size .ensures) ∙ c .before .if1 .left) (r .0 .0 .0 .0 .0 .0 .1) (r .0 .0 .0 .0 .0 .1) (r .0 .0 .0 .0 .1) (r .0 .0 .0 .1) (r .0 .0 .1) (r .0 .1) (r .1)
+
+pub in-range-spec : {M : Type 1} → statement M
+in-range-spec =
+    tie.close
+    (tie.spec
+    is-size-requires
+    between-requires
+    returns
+    literal-in-range-requires
+    returns-2
+    returns-3
+    returns-4
+    returns-5
+    returns-6
+    returns-7
+    returns-8
+    returns-9)

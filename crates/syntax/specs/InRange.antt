@@ -1,0 +1,84 @@
+-- Trees whose numbers are in range and whose names are in force: questions 5 and 6 of document 01, put to a tree. Definitions only;
+-- assumes nothing.
+use mathlib.Core.List.{List, [], _∷_}
+use Prim.Native.Nat.{ℕ, _+_, _≤_, _<_}
+use lib.ListN.{length}
+use Rattle.meaning.specs.Types.{DataType, number, array}
+use Rattle.meaning.specs.Terms.{Term, Plan}
+use Rattle.meaning.specs.Loops.{Offset, Place, Value, Command, Loops, plus, times, over, rest, seq, loop, new}
+use Rattle.meaning.specs.Limits.{IsCount}
+
+-- ---- plans
+
+abbrev pub TypeInRange : DataType → Type 0
+TypeInRange number = Unit {0}
+TypeInRange (array n t) = IsCount n × TypeInRange t
+TypeInRange (DataType.pair s t) = TypeInRange s × TypeInRange t
+
+abbrev pub AllTypesInRange : List DataType → Type 0
+AllTypesInRange [] = Unit {0}
+AllTypesInRange (t ∷ ts) = TypeInRange t × AllTypesInRange ts
+
+-- K inputs and v variables are in force. "`in`, `var` .. naming one in force"; "`idx` .. 0 to 4,095"; "those in force there and its
+-- own together: at most 16 variables".
+abbrev pub TermInRange : ℕ → ℕ → Term → Type 0
+TermInRange K v (Term.input k) = k < K
+TermInRange K v (Term.variable d) = d < v
+TermInRange K v (Term.literal z) = Unit {0}
+TermInRange K v (Term.negate e) = TermInRange K v e
+TermInRange K v (Term.operation o e f) = TermInRange K v e × TermInRange K v f
+TermInRange K v (Term.map kind a b) = (v + 1 ≤ 16) × TermInRange K v a × TermInRange K (v + 1) b
+TermInRange K v (Term.reduce z a b) = (v + 2 ≤ 16) × TermInRange K v z × TermInRange K v a × TermInRange K (v + 2) b
+TermInRange K v (Term.zip a b) = TermInRange K v a × TermInRange K v b
+TermInRange K v (Term.pair a b) = TermInRange K v a × TermInRange K v b
+TermInRange K v (Term.split n e) = IsCount n × TermInRange K v e
+TermInRange K v (Term.join e) = TermInRange K v e
+TermInRange K v (Term.first e) = TermInRange K v e
+TermInRange K v (Term.second e) = TermInRange K v e
+TermInRange K v (Term.index k e) = (k ≤ 4095) × TermInRange K v e
+
+pub record PlanInRange (P : Plan) : Type 0 where
+  pub inputsFew : length (P .inputs) ≤ 8
+  pub types : AllTypesInRange (P .inputs)
+  pub term : TermInRange (length (P .inputs)) 0 (P .term)
+
+-- ---- loops
+
+-- k counters are in force. "offset `lit` 0 to 4,095"
+abbrev pub OffsetInRange : ℕ → Offset → Type 0
+OffsetInRange k (Offset.literal v) = v ≤ 4095
+OffsetInRange k (Offset.counter d) = d < k
+OffsetInRange k (plus x y) = OffsetInRange k x × OffsetInRange k y
+OffsetInRange k (times n x) = IsCount n × OffsetInRange k x
+OffsetInRange k (over n x) = IsCount n × OffsetInRange k x
+OffsetInRange k (rest n x) = IsCount n × OffsetInRange k x
+
+-- and r regions
+abbrev pub PlaceInRange : ℕ → ℕ → Place → Type 0
+PlaceInRange k r (Place.output o) = OffsetInRange k o
+PlaceInRange k r (Place.region d o) = (d < r) × OffsetInRange k o
+
+-- and K inputs
+abbrev pub ValueInRange : ℕ → ℕ → ℕ → Value → Type 0
+ValueInRange K k r (Value.input j o) = (j < K) × OffsetInRange k o
+ValueInRange K k r (Value.region d o) = (d < r) × OffsetInRange k o
+ValueInRange K k r (Value.literal z) = Unit {0}
+ValueInRange K k r (Value.negate v) = ValueInRange K k r v
+ValueInRange K k r (Value.operation o v w) = ValueInRange K k r v × ValueInRange K k r w
+
+-- "at most .. (loops: 32 counters, 256 regions)"
+abbrev pub CommandInRange : ℕ → ℕ → ℕ → Command → Type 0
+CommandInRange K k r (Command.assignment p v) = PlaceInRange k r p × ValueInRange K k r v
+CommandInRange K k r (seq c d) = CommandInRange K k r c × CommandInRange K k r d
+CommandInRange K k r (loop kind n b) = IsCount n × (k + 1 ≤ 32) × CommandInRange K (k + 1) r b
+CommandInRange K k r (new n b) = IsCount n × (r + 1 ≤ 256) × CommandInRange K k (r + 1) b
+
+abbrev pub AllCounts : List ℕ → Type 0
+AllCounts [] = Unit {0}
+AllCounts (n ∷ ns) = IsCount n × AllCounts ns
+
+pub record LoopsInRange (L : Loops) : Type 0 where
+  pub inputsFew : length (L .inputs) ≤ 8
+  pub inputCells : AllCounts (L .inputs)
+  pub outputCells : IsCount (L .output)
+  pub command : CommandInRange (length (L .inputs)) 0 0 (L .command)

@@ -1,0 +1,51 @@
+-- Question 5 of document 01: "Number in range ..?" Definitions only; assumes nothing.
+use mathlib.Core.Bool.{Bool, true, false, cond, _&&_}
+use mathlib.Core.List.{List, [], _∷_}
+use Prim.Native.Nat.{ℕ}
+use lib.Dec.{eqb, ltb, leb}
+use lib.IntN.{ℤ, pos, negsuc}
+use Rattle.words.specs.Kinds.{word-plan, word-arr, word-in, word-var, word-lit, word-split, word-idx, word-loops, word-cells, word-for, word-par, word-new, word-loc, word-ctr, word-times, word-over, word-rest}
+use Rattle.words.specs.declared.Sort.{Sort}
+use Rattle.words.specs.declared.Sort.the-variants.{Plan, DataType, Term, Loops, Cells, Command, Place, Value, Offset}
+use Rattle.syntax.specs.declared.names.Names.{Names}
+
+-- a row's number as a natural number: a negative one, which only a literal may have, lies beyond every limit
+abbrev pub asNatural : ℤ → ℕ
+asNatural (pos n) = n
+asNatural (negsuc n) = 2147483648
+
+unfoldable pub oneOf : ℕ → List ℕ → Bool
+oneOf k [] = false
+oneOf k (w ∷ ws) = cond (eqb k w) true (oneOf k ws)
+
+abbrev pub isOffset : Sort → Bool
+isOffset Plan = false
+isOffset DataType = false
+isOffset Term = false
+isOffset Loops = false
+isOffset Cells = false
+isOffset Command = false
+isOffset Place = false
+isOffset Value = false
+isOffset Offset = true
+
+abbrev pub literalInRange : Sort → ℕ → Bool
+literalInRange s n = cond (isOffset s) (leb n 4095) true
+
+abbrev pub sizes : List ℕ
+sizes = word-arr ∷ word-split ∷ word-for ∷ word-par ∷ word-new ∷ word-cells ∷ word-times ∷ word-over ∷ word-rest ∷ []
+
+-- "K 0 to 8; `arr split for par new cells times over rest` 1 to 4,096; `idx` and offset `lit` 0 to 4,095; `in`, `var`, `ctr`,
+-- `loc` naming one in force; value and term `lit` any; else 0": of a row of kind k and number n where a row of sort s is due and
+-- these names are in force
+unfoldable pub inRange : Sort → Names → ℕ → ℕ → Bool
+inRange s names k n =
+    cond (oneOf k sizes) (leb 1 n && leb n 4096)
+    (cond (oneOf k (word-plan ∷ word-loops ∷ [])) (leb n 8)
+    (cond (eqb k word-idx) (leb n 4095)
+    (cond (eqb k word-in) (ltb n (names .inputs))
+    (cond (eqb k word-var) (ltb n (names .variables))
+    (cond (eqb k word-ctr) (ltb n (names .counters))
+    (cond (eqb k word-loc) (ltb n (names .regions))
+    (cond (eqb k word-lit) (literalInRange s n)
+    (eqb n 0))))))))

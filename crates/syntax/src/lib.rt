@@ -1,0 +1,134 @@
+// The walk over rows in prefix order that puts questions 4, 5 and 6 of document 01 to them, row by row from the top. One
+// walk serves plans and loops: what a row is asked depends on what is due.
+mod names;
+mod operands;
+pub mod ranges;
+
+ghost use mathlib.Core.Path.{_≡_};
+ghost use mathlib.Core.List.{List, _∷_};
+ghost use Prim.Native.Nat.{_+_, _≤_, _<_, min};
+ghost use lib.ListN.{length};
+ghost use Rattle.words.specs.Kinds.{rowsOf};
+ghost use Rattle.words.specs.declared.Sort.the-variants.{Plan as PlanSort, Loops as LoopsSort};
+ghost use Rattle.syntax.specs.Names.{Bounded};
+ghost use Rattle.syntax.specs.Walk.{askRow, walkFrom, resume, passed, firstUnlisted, walkTable};
+ghost use Rattle.syntax.specs.declared.operands.Due.{Due};
+use crate::operands::Due;
+use refusals::Refusal;
+use words::Operands;
+use words::Sort;
+use words::kinds::WORD_REST;
+
+// How many rows were passed, or how many operands are due behind a row; or the first "no".
+pub enum Answer {
+    Passed(usize),
+    Refused(Refusal),
+}
+
+// Questions 4, 5 and 6, in this order, put to a row: how many operands it has, or the first "no".
+fn ask(due: Due, kind: u8, number: usize, line: usize) -> Answer
+    requires { ⌜ (number ≤ 2147483648) × Bounded (due .names) ⌝ }
+    ensures { λ r. ⌜ r ≡ askRow due kind number line ⌝ }
+{
+    let sort = due.sort;
+    let names = due.names;
+    let listed = words::operand_count(kind, sort);
+    let Operands::Count(count) = listed else {
+        return Answer::Refused(Refusal::RowDue(line));
+    };
+    if !ranges::in_range(sort, names, kind, number) {
+        return Answer::Refused(Refusal::NumberRange(line));
+    }
+    if !names::names_fit(names::opened(names, kind, number)) {
+        return Answer::Refused(Refusal::NameCount(line));
+    }
+    Answer::Passed(operands::inputs_counted(sort, number) + count)
+}
+
+// The row that is due and its operands: how many rows they are, or the first "no". `before` rows stand before them.
+fn walk(kinds: &[u8], numbers: &[i32], before: usize, due: Due) -> Answer
+    requires { ⌜ (length (now kinds) ≡ length (now numbers)) × (before + length (now kinds) < 18446744073709551615) × Bounded (due .names) ⌝ }
+    ensures bounds { λ r. ⌜ passed r ≤ length (now (kinds .entry)) ⌝ }
+    ensures result { λ r. ⌜ ((ds : List Due) → walkFrom before (due ∷ ds) (rowsOf (now (kinds .entry)) (now (numbers .entry)))
+        ≡ resume r before ds (rowsOf (now (kinds .entry)) (now (numbers .entry)))) ⌝ }
+{
+    let line = before + 1;
+    if kinds.len() == 0 {
+        return Answer::Refused(Refusal::RowDue(line));
+    }
+    let kind = kinds[0];
+    let number = ranges::natural(numbers[0]);
+    let asked = ask(due, kind, number, line);
+    let Answer::Passed(count) = asked else {
+        return asked;
+    };
+    let mut rows = 1;
+    let mut left = count;
+    while 0 < left {
+        let next = operands::operand(due, kind, number, left == 1);
+        let walked = walk(&kinds[rows..], &numbers[rows..], before + rows, next);
+        let Answer::Passed(more) = walked else {
+            return walked;
+        };
+        rows += more;
+        left -= 1;
+    }
+    Answer::Passed(rows)
+}
+
+// How many kinds stand before the first that is no word: question 2, of a table that was not read from a text.
+fn listed(kinds: &[u8]) -> usize
+    ensures { λ r. ⌜ r ≡ firstUnlisted (now (kinds .entry)) ⌝ }
+{
+    let mut i = 0;
+    while i < kinds.len() {
+        if WORD_REST < kinds[i] {
+            return i;
+        }
+        i += 1;
+    }
+    i
+}
+
+fn shorter(a: usize, b: usize) -> usize
+    ensures { λ r. ⌜ r ≡ min a b ⌝ }
+{
+    if a <= b {
+        return a;
+    }
+    b
+}
+
+// The rows of a table, as many as the shorter slice has, of which one row of this sort is due.
+fn walk_table(kinds: &[u8], numbers: &[i32], sort: Sort) -> Answer
+    ensures { λ r. ⌜ r ≡ walkTable sort (rowsOf (now (kinds .entry)) (now (numbers .entry))) ⌝ }
+{
+    let rows = shorter(kinds.len(), numbers.len());
+    let words = listed(&kinds[..rows]);
+    if words < rows {
+        return Answer::Refused(Refusal::LineForm(words + 1));
+    }
+    let names = names::in_force(0, 0, 0, 0);
+    let walked = walk(&kinds[..rows], &numbers[..rows], 0, Due { sort, names });
+    let Answer::Passed(end) = walked else {
+        return walked;
+    };
+    if end < rows {
+        return Answer::Refused(Refusal::RowDue(end + 1));
+    }
+    Answer::Passed(end)
+}
+
+// The rows of a plan's table: how many they are, or the first "no" to questions 2 (of the kinds), 4, 5 and 6.
+pub fn walk_plan(kinds: &[u8], numbers: &[i32]) -> Answer
+    ensures { λ r. ⌜ r ≡ walkTable PlanSort (rowsOf (now (kinds .entry)) (now (numbers .entry))) ⌝ }
+{
+    walk_table(kinds, numbers, Sort::Plan)
+}
+
+// The rows of a loops' table, in the same way.
+pub fn walk_loops(kinds: &[u8], numbers: &[i32]) -> Answer
+    ensures { λ r. ⌜ r ≡ walkTable LoopsSort (rowsOf (now (kinds .entry)) (now (numbers .entry))) ⌝ }
+{
+    walk_table(kinds, numbers, Sort::Loops)
+}

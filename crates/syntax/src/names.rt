@@ -1,0 +1,55 @@
+// Question 6: the names that rows open, and how many may be in force.
+ghost use mathlib.Core.Path.{_≡_};
+ghost use Rattle.syntax.specs.Names.{names as namesOf, openedBy, namesFit, Bounded};
+use words::kinds::*;
+
+// How many names of each kind are in force.
+pub struct Names {
+    pub inputs: usize,
+    pub variables: usize,
+    pub counters: usize,
+    pub regions: usize,
+}
+
+pub fn in_force(inputs: usize, variables: usize, counters: usize, regions: usize) -> Names
+    ensures { λ r. ⌜ r ≡ namesOf inputs variables counters regions ⌝ }
+{
+    Names {
+        inputs,
+        variables,
+        counters,
+        regions,
+    }
+}
+
+// The names in force and those that a row opens for its last operand.
+pub fn opened(names: Names, kind: u8, number: usize) -> Names
+    requires { ⌜ Bounded names ⌝ }
+    ensures { λ r. ⌜ r ≡ openedBy kind number names ⌝ }
+{
+    let inputs = names.inputs;
+    let variables = names.variables;
+    let counters = names.counters;
+    let regions = names.regions;
+    match kind {
+        WORD_PLAN | WORD_LOOPS => in_force(number, variables, counters, regions),
+        WORD_MAPPAR | WORD_MAPSEQ => in_force(inputs, variables + 1, counters, regions),
+        WORD_REDSEQ => in_force(inputs, variables + 2, counters, regions),
+        WORD_FOR | WORD_PAR => in_force(inputs, variables, counters + 1, regions),
+        WORD_NEW => in_force(inputs, variables, counters, regions + 1),
+        _ => names,
+    }
+}
+
+// Question 6: at most 16 variables, 32 counters and 256 regions?
+pub fn names_fit(names: Names) -> bool
+    ensures { λ r. ⌜ r ≡ namesFit names ⌝ }
+{
+    if 16 < names.variables {
+        return false;
+    }
+    if 32 < names.counters {
+        return false;
+    }
+    names.regions <= 256
+}
