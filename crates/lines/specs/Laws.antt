@@ -202,7 +202,7 @@ module _ (head : List ℕ → Found) where
 
 -- ---- what is read prints back, for every table
 
-paired-row : (f : Found) (d : Numeral) (k : ℕ) (z : ℤ) → paired f d ≡ IsRow k z → (f ≡ At k) × (d ≡ Is z)
+pub paired-row : (f : Found) (d : Numeral) (k : ℕ) (z : ℤ) → paired f d ≡ IsRow k z → (f ≡ At k) × (d ≡ Is z)
 paired-row (At j) (Is y) k z e = (cc, cc)
 paired-row (At j) Malformed k z e = let clash : _≡_ {A = ℕ} 0 1 = cc in absurd (omega arith)
 paired-row NotListed d k z e = let clash : _≡_ {A = ℕ} 0 1 = cc in absurd (omega arith)

@@ -1,0 +1,145 @@
+-- The check of a plan on its tree: document 01, questions 7 and 8, "in a plan, type rows included, each row after its operands,
+-- left to right". Definitions only; assumes nothing.
+use mathlib.Core.Bool.{Bool, true, false, cond, _&&_}
+use mathlib.Core.List.{List, [], _∷_}
+use Prim.Native.Nat.{ℕ, suc, _+_, _*_, _/_}
+use lib.Dec.{eqb, ltb, leb}
+use lib.ListN.{length, getD}
+use Rattle.refusals.specs.declared.Refusal.{Refusal}
+use Rattle.refusals.specs.declared.Refusal.the-variants.{TypeMisfit, TypeSize}
+use Rattle.meaning.specs.Types.{DataType, number, array, cells, levels, arrayLength, element, firstType, secondType}
+use Rattle.meaning.specs.Terms.{Term, Plan}
+use Rattle.meaning.specs.Rows.{typeRows, allTypeRows, termRows}
+
+-- the type of what was checked, or the first "no"
+pub data Verdict : Type 0 where
+  typed : DataType → Verdict
+  refused : Refusal → Verdict
+
+-- ---- what is asked about types
+
+abbrev pub isNumber : DataType → Bool
+isNumber number = true
+isNumber (array n t) = false
+isNumber (DataType.pair s t) = false
+
+abbrev pub isArray : DataType → Bool
+isArray number = false
+isArray (array n t) = true
+isArray (DataType.pair s t) = false
+
+abbrev pub isPair : DataType → Bool
+isPair number = false
+isPair (array n t) = false
+isPair (DataType.pair s t) = true
+
+abbrev pub sameType : DataType → DataType → Bool
+sameType number number = true
+sameType number (array n t) = false
+sameType number (DataType.pair s t) = false
+sameType (array m s) number = false
+sameType (array m s) (array n t) = eqb m n && sameType s t
+sameType (array m s) (DataType.pair t u) = false
+sameType (DataType.pair r s) number = false
+sameType (DataType.pair r s) (array n t) = false
+sameType (DataType.pair r s) (DataType.pair t u) = sameType r t && sameType s u
+
+-- "`zip` needs equal lengths."
+abbrev pub zipFits : DataType → DataType → Bool
+zipFits s t = isArray s && isArray t && eqb (arrayLength s) (arrayLength t)
+
+-- "`split,n` makes groups of n, n dividing the length"
+abbrev pub splitFits : ℕ → DataType → Bool
+splitFits n t = isArray t && eqb (arrayLength t / n * n) (arrayLength t)
+
+-- an array of arrays
+abbrev pub joinFits : DataType → Bool
+joinFits t = isArray t && isArray (element t)
+
+-- "`idx,k` needs k below the length."
+abbrev pub indexFits : ℕ → DataType → Bool
+indexFits k t = isArray t && ltb k (arrayLength t)
+
+-- "at most 4,096 cells and 8 levels"
+abbrev pub inLimits : DataType → Bool
+inLimits t = leb (cells t) 4096 && leb (levels t) 8
+
+-- ---- the questions on a row
+
+-- "Has its type .. at most 4,096 cells and 8 levels? 8"
+abbrev pub sized : ℕ → DataType → Verdict
+sized line t = cond (inLimits t) (typed t) (refused (TypeSize line))
+
+-- "Do the types fit? 7", and then 8
+abbrev pub fitted : ℕ → Bool → DataType → Verdict
+fitted line fits t = cond fits (sized line t) (refused (TypeMisfit line))
+
+-- "each row after its operands": an operand's refusal is handed on
+abbrev pub afterOperand : Verdict → (DataType → Verdict) → Verdict
+afterOperand (typed t) next = next t
+afterOperand (refused q) next = refused q
+
+-- the line behind the rows of a type or a term that begins on a line
+abbrev pub behindType : DataType → ℕ → ℕ
+behindType t line = line + length (typeRows t)
+
+abbrev pub behind : Term → ℕ → ℕ
+behind e line = line + length (termRows e)
+
+-- ---- terms
+
+-- The inputs' types, those of the variables in force (innermost first), a term, and the line of its first row. "A map or
+-- `redseq` over no array is refused on its own line before its body is typed." "A `redseq` body has the start's type."
+unfoldable pub check : List DataType → List DataType → Term → ℕ → Verdict
+check I Γ (Term.input k) line = sized line (getD I k number)
+check I Γ (Term.variable d) line = sized line (getD Γ d number)
+check I Γ (Term.literal v) line = sized line number
+check I Γ (Term.negate e) line = afterOperand (check I Γ e (suc line)) λ t. fitted line (isNumber t) number
+check I Γ (Term.operation o e f) line =
+    afterOperand (check I Γ e (suc line)) λ s. afterOperand (check I Γ f (behind e (suc line))) λ t.
+    fitted line (isNumber s && isNumber t) number
+check I Γ (Term.map kind a b) line =
+    afterOperand (check I Γ a (suc line)) λ s. cond (isArray s)
+    (afterOperand (check I (element s ∷ Γ) b (behind a (suc line))) λ t. sized line (array (arrayLength s) t))
+    (refused (TypeMisfit line))
+check I Γ (Term.reduce z a b) line =
+    afterOperand (check I Γ z (suc line)) λ t. afterOperand (check I Γ a (behind z (suc line))) λ s. cond (isArray s)
+    (afterOperand (check I (t ∷ element s ∷ Γ) b (behind a (behind z (suc line)))) λ u. fitted line (sameType u t) t)
+    (refused (TypeMisfit line))
+check I Γ (Term.zip a b) line =
+    afterOperand (check I Γ a (suc line)) λ s. afterOperand (check I Γ b (behind a (suc line))) λ t.
+    fitted line (zipFits s t) (array (arrayLength s) (DataType.pair (element s) (element t)))
+check I Γ (Term.pair a b) line =
+    afterOperand (check I Γ a (suc line)) λ s. afterOperand (check I Γ b (behind a (suc line))) λ t.
+    sized line (DataType.pair s t)
+check I Γ (Term.split n e) line =
+    afterOperand (check I Γ e (suc line)) λ t.
+    fitted line (splitFits n t) (array (arrayLength t / n) (array n (element t)))
+check I Γ (Term.join e) line =
+    afterOperand (check I Γ e (suc line)) λ t.
+    fitted line (joinFits t) (array (arrayLength t * arrayLength (element t)) (element (element t)))
+check I Γ (Term.first e) line = afterOperand (check I Γ e (suc line)) λ t. fitted line (isPair t) (firstType t)
+check I Γ (Term.second e) line = afterOperand (check I Γ e (suc line)) λ t. fitted line (isPair t) (secondType t)
+check I Γ (Term.index k e) line = afterOperand (check I Γ e (suc line)) λ t. fitted line (indexFits k t) (element t)
+
+-- ---- "type rows included"
+
+-- a type row's type is the one it spells
+unfoldable pub checkType : DataType → ℕ → Verdict
+checkType number line = sized line number
+checkType (array n t) line = afterOperand (checkType t (suc line)) λ u. sized line (array n t)
+checkType (DataType.pair s t) line =
+    afterOperand (checkType s (suc line)) λ u. afterOperand (checkType t (behindType s (suc line))) λ v.
+    sized line (DataType.pair s t)
+
+-- the input types from a line on, and what comes behind them
+unfoldable pub checkTypes : List DataType → ℕ → Verdict → Verdict
+checkTypes [] line next = next
+checkTypes (t ∷ I) line next = afterOperand (checkType t line) λ u. checkTypes I (behindType t line) next
+
+-- the line on which a plan's term begins: `plan,K` is line 1, and the input types begin on line 2
+abbrev pub termLine : List DataType → ℕ
+termLine I = 2 + length (allTypeRows I)
+
+unfoldable pub checkPlan : Plan → Verdict
+checkPlan P = checkTypes (P .inputs) 2 (check (P .inputs) [] (P .term) (termLine (P .inputs)))
