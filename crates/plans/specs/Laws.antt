@@ -8,4 +8,3 @@ pub mod Plans
 pub mod Lengths
 pub mod Rows
 pub mod Texts
-pub mod Steps

@@ -10,7 +10,9 @@ pub mod Questions
 pub mod TypeQuestions
 pub mod EntryQuestions
 -- How code meets it
-pub mod Steps
+pub mod Rules
+pub mod Scopes
+pub mod Terms
 -- Laws, and what is proved
 pub mod Laws
 pub mod Theorems

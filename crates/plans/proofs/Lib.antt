@@ -1,0 +1,4 @@
+pub mod Found
+pub mod RuleLaws
+pub mod ScopeLaws
+pub mod TypeLaws

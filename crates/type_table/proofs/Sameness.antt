@@ -1,0 +1,41 @@
+-- When two types are the same, by their parts.
+use mathlib.Core.Path.{_≡_, refl, ap, ap₂, sym, _∙_}
+use mathlib.Core.Bool.{Bool, true, false}
+use Prim.Native.Nat.{ℕ}
+use native.Mathlib.Omega.{arith}
+use Rattle.meaning.specs.Types.{DataType, number, array, arrayLength, element, firstType, secondType}
+
+-- a flag that answers whether Q
+abbrev Answers : Bool → Type 0 → Type 0
+Answers r Q = (r ≡ true → Q) × (r ≡ false → Q → ⊥)
+
+pub answer-no : {Q : Type 0} → (Q → ⊥) → Answers false Q
+answer-no f = ((λ e. absurd (let z : _≡_ {A = ℕ} 0 1 = cc in omega arith)), (λ e. f))
+
+pub answer-as : {P Q : Type 0} (r : Bool) → (P → Q) → (Q → P) → Answers r P → Answers r Q
+answer-as r f g h = ((λ e. f (h .0 e)), (λ e q. h .1 e (g q)))
+
+-- neither array nor pair
+pub neither : (t : DataType) → ((n : ℕ) (s : DataType) → t ≡ array n s → ⊥)
+    → ((r s : DataType) → t ≡ DataType.pair r s → ⊥) → t ≡ number
+neither number f g = refl
+neither (array n s) f g = absurd (f n s refl)
+neither (DataType.pair r s) f g = absurd (g r s refl)
+
+module _ {t u : DataType} where
+  pub arrays-differ : {m n : ℕ} {r s : DataType} → t ≡ array m r → u ≡ array n s → (m ≡ n → ⊥) → t ≡ u → ⊥
+  arrays-differ p q f e = f (ap arrayLength (sym p ∙ e ∙ q))
+
+  pub arrays-same : {m n : ℕ} {r s : DataType} (b : Bool) → t ≡ array m r → u ≡ array n s → m ≡ n
+      → Answers b (r ≡ s) → Answers b (t ≡ u)
+  arrays-same b p q h = answer-as b (λ k. p ∙ ap₂ array h k ∙ sym q) (λ e. ap element (sym p ∙ e ∙ q))
+
+  pub firsts-differ : {r s v w : DataType} → t ≡ DataType.pair r s → u ≡ DataType.pair v w → (r ≡ v → ⊥) → t ≡ u → ⊥
+  firsts-differ p q f e = f (ap firstType (sym p ∙ e ∙ q))
+
+  pub pairs-same : {r s v w : DataType} (b : Bool) → t ≡ DataType.pair r s → u ≡ DataType.pair v w → r ≡ v
+      → Answers b (s ≡ w) → Answers b (t ≡ u)
+  pairs-same b p q h = answer-as b (λ k. p ∙ ap₂ DataType.pair h k ∙ sym q) (λ e. ap secondType (sym p ∙ e ∙ q))
+
+  pub numbers-same : (b : Bool) → t ≡ number → Answers b (u ≡ number) → Answers b (t ≡ u)
+  numbers-same b p = answer-as b (λ q. p ∙ sym q) (λ e. sym e ∙ p)

@@ -1,0 +1,65 @@
+-- What the word of a sound node tells of its type.
+use mathlib.Core.Path.{_≡_, refl, ap, sym, _∙_}
+use mathlib.Core.List.{List}
+use Prim.Native.Nat.{ℕ, zero, suc, _≤_, _<_}
+use native.Mathlib.Omega.{arith}
+use lib.ListN.{getD}
+use Rattle.meaning.specs.Types.{DataType, number, array}
+use Rattle.type_table.specs.Nodes.{kindIn, leftIn, rightIn}
+use Rattle.type_table.specs.Table.{byKind, nodeType, typesOf, typeAt, Sound}
+use Rattle.type_table.specs.Laws.{type-here}
+
+-- kinds and types fit
+number-kind : (k n : ℕ) (s t : DataType) → byKind k n s t ≡ number → k ≡ 0
+number-kind zero n s t e = refl
+number-kind (suc zero) n s t e = absurd (let z : _≡_ {A = ℕ} 0 1 = cc in omega arith)
+number-kind (suc (suc k)) n s t e = absurd (let z : _≡_ {A = ℕ} 0 1 = cc in omega arith)
+
+array-kind : (k n m : ℕ) (s t u : DataType) → byKind k n s t ≡ array m u → k ≡ 1
+array-kind zero n m s t u e = absurd (let z : _≡_ {A = ℕ} 0 1 = cc in omega arith)
+array-kind (suc zero) n m s t u e = refl
+array-kind (suc (suc k)) n m s t u e = absurd (let z : _≡_ {A = ℕ} 0 1 = cc in omega arith)
+
+pair-kind : (k n : ℕ) (s t u v : DataType) → byKind k n s t ≡ DataType.pair u v → 2 ≤ k
+pair-kind zero n s t u v e = absurd (let z : _≡_ {A = ℕ} 0 1 = cc in omega arith)
+pair-kind (suc zero) n s t u v e = absurd (let z : _≡_ {A = ℕ} 0 1 = cc in omega arith)
+pair-kind (suc (suc k)) n s t u v e = omega arith
+
+kind-pair : (k n : ℕ) (s t : DataType) → 2 ≤ k → byKind k n s t ≡ DataType.pair s t
+kind-pair zero n s t h = absurd (omega arith)
+kind-pair (suc zero) n s t h = absurd (omega arith)
+kind-pair (suc (suc k)) n s t h = refl
+
+module _ (T : List ℕ) (i : ℕ) (S : Sound T (suc i)) where
+  is : typeAt T i ≡ nodeType (typesOf T) (getD T i 0)
+  is = type-here T i (omega (arith, S .room)) (S .each i (omega arith) .parts)
+
+  pub its-number : kindIn (getD T i 0) ≡ 0 → typeAt T i ≡ number
+  its-number e =
+      let w = getD T i 0 in
+      is ∙ ap (λ (k : ℕ). byKind k (leftIn w) (typeAt T (leftIn w)) (typeAt T (rightIn w))) e
+
+  pub no-number : (kindIn (getD T i 0) ≡ 0 → ⊥) → typeAt T i ≡ number → ⊥
+  no-number f e = f (number-kind _ _ _ _ (sym is ∙ e))
+
+  pub its-array : kindIn (getD T i 0) ≡ 1
+      → (typeAt T i ≡ array (leftIn (getD T i 0)) (typeAt T (rightIn (getD T i 0)))) × (rightIn (getD T i 0) < i)
+  its-array e =
+      let w = getD T i 0 in (
+        is ∙ ap (λ (k : ℕ). byKind k (leftIn w) (typeAt T (leftIn w)) (typeAt T (rightIn w))) e,
+        S .each i (omega arith) .parts .0 e,
+      )
+
+  pub no-array : (kindIn (getD T i 0) ≡ 1 → ⊥) → (n : ℕ) (t : DataType) → typeAt T i ≡ array n t → ⊥
+  no-array f n t e = f (array-kind _ _ _ _ _ _ (sym is ∙ e))
+
+  pub its-pair : 2 ≤ kindIn (getD T i 0)
+      → (typeAt T i ≡ DataType.pair (typeAt T (leftIn (getD T i 0))) (typeAt T (rightIn (getD T i 0))))
+      × (leftIn (getD T i 0) < i) × (rightIn (getD T i 0) < i)
+  its-pair h =
+      let w = getD T i 0 in
+      let p = S .each i (omega arith) .parts .1 h in
+      (is ∙ kind-pair (kindIn w) (leftIn w) (typeAt T (leftIn w)) (typeAt T (rightIn w)) h, p .0, p .1)
+
+  pub no-pair : kindIn (getD T i 0) < 2 → (s t : DataType) → typeAt T i ≡ DataType.pair s t → ⊥
+  no-pair h s t e = let k : 2 ≤ kindIn (getD T i 0) = pair-kind _ _ _ _ _ _ (sym is ∙ e) in omega arith

@@ -1,0 +1,39 @@
+-- `as_pair` meets its contract: the node's kind says it, and its fields are the two places.
+use native.Mathlib.Omega.{arith}
+use borrow.Author.Needs.{needs}
+use Rattle.type_table.proofs.Shapes.{its-pair, no-pair}
+use Rattle.type_table.proofs.as_pair.Statement.{statement}
+use Rattle.type_table.proofs.as_pair.Tie as tie
+
+mul-node : tie.Need-mul-node
+mul-node c = search needs
+
+shared-slice-read-node : tie.Need-shared-slice-read-node
+shared-slice-read-node c = search needs
+
+kind-in-requires : tie.Need-kind-in-requires
+kind-in-requires c κs = search needs
+
+returns : tie.Need-returns
+returns c = no-pair (c .before .before .before .before .args .nodes .now) (c .before .before .before .before .args .place) (c .before .before .before .before .pre) (omega (arith, c .before .kind-in .ensures, c .if1 .taken))
+
+left-in-requires : tie.Need-left-in-requires
+left-in-requires c κs = search needs
+
+right-in-requires : tie.Need-right-in-requires
+right-in-requires c κs = search needs
+
+returns-2 : tie.Need-returns-2
+returns-2 c = rw (c .before .left-in .ensures, c .right-in .ensures) (its-pair (c .before .before .before .before .before .before .args .nodes .now) (c .before .before .before .before .before .before .args .place) (c .before .before .before .before .before .before .pre) (omega (arith, c .before .before .before .kind-in .ensures, c .before .before .if1 .left)))
+
+pub as-pair-spec : {M : Type 1} → statement M
+as-pair-spec =
+    tie.close
+    (tie.spec
+    mul-node
+    shared-slice-read-node
+    kind-in-requires
+    returns
+    left-in-requires
+    right-in-requires
+    returns-2)

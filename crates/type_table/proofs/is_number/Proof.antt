@@ -1,0 +1,23 @@
+-- `is_number` meets its contract: the node's kind says it.
+use mathlib.Core.Path.{sym, _∙_}
+use borrow.Author.Tests.{eqb-true, eqb-false}
+use borrow.Author.Needs.{needs}
+use Rattle.type_table.proofs.Shapes.{its-number, no-number}
+use Rattle.type_table.proofs.is_number.Statement.{statement}
+use Rattle.type_table.proofs.is_number.Tie as tie
+
+mul-kind-in : tie.Need-mul-kind-in
+mul-kind-in c = search needs
+
+shared-slice-read-kind-in : tie.Need-shared-slice-read-kind-in
+shared-slice-read-kind-in c = search needs
+
+kind-in-requires : tie.Need-kind-in-requires
+kind-in-requires c κs = search needs
+
+returns : tie.Need-returns
+returns c = ((λ e. its-number (c .before .before .before .args .nodes .now) (c .before .before .before .args .place) (c .before .before .before .pre) (sym (c .kind-in .ensures) ∙ eqb-true _ _ e)), (λ e. no-number (c .before .before .before .args .nodes .now) (c .before .before .before .args .place) (c .before .before .before .pre) (λ k. eqb-false _ _ e (c .kind-in .ensures ∙ k))))
+
+pub is-number-spec : {M : Type 1} → statement M
+is-number-spec =
+    tie.close (tie.spec mul-kind-in shared-slice-read-kind-in kind-in-requires returns)

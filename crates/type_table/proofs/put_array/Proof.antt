@@ -1,0 +1,51 @@
+-- `put_array` meets its contract: cells are the length times the element's, levels one more than the element's.
+use native.Mathlib.Omega.{arith}
+use Prim.Native.Nat.{ℕ, _+_, _*_}
+use mathlib.Core.Path.{ap, _∙_}
+use borrow.Author.Needs.{needs}
+use Rattle.type_table.specs.Table.{typeAt}
+use Rattle.type_table.specs.Laws.{sound-below, length-within}
+use Rattle.type_table.proofs.Puts.{array-put}
+use Rattle.type_table.proofs.put_array.Statement.{statement}
+use Rattle.type_table.proofs.put_array.Tie as tie
+
+levels-requires : tie.Need-levels-requires
+levels-requires c κs = sound-below (c .before .before .pre .0) (omega arith)
+
+add-levels : tie.Need-add-levels
+add-levels c = search needs
+
+cells-requires : tie.Need-cells-requires
+cells-requires c κs = sound-below (c .before .before .before .before .pre .0) (omega arith)
+
+array-cells-requires : tie.Need-array-cells-requires
+array-cells-requires c κs = rw (c .cells .ensures) (c .before .before .before .before .before .pre .5)
+
+node-requires : tie.Need-node-requires
+node-requires c κs = (search needs, omega (arith, c .before .before .before .levels .ensures), rw (c .array-cells .ensures, c .before .cells .ensures) (omega (arith, c .before .before .before .before .before .before .pre .5)), omega (arith, c .before .before .before .before .before .before .pre .5, length-within (c .before .before .before .before .before .before .args .count) (typeAt (c .before .before .before .before .before .before .args .nodes .now) (c .before .before .before .before .before .before .args .element)) (c .before .before .before .before .before .before .pre .0 .each (c .before .before .before .before .before .before .args .element) (c .before .before .before .before .before .before .pre .3) .within .0)), omega (arith, (c .before .before .before .before .before .before .pre)))
+
+mul-nodes : tie.Need-mul-nodes
+mul-nodes c = search needs
+
+slice-write-nodes : tie.Need-slice-write-nodes
+slice-write-nodes c = search needs
+
+same-length : tie.Need-same-length
+same-length c = search needs
+
+returns : tie.Need-returns
+returns c = rw (c .node .ensures) (array-put (c .before .before .before .before .before .before .before .args .nodes .now) (c .before .before .before .before .before .before .before .args .len) (c .before .before .before .before .before .before .before .pre .0) (c .before .before .before .before .before .before .before .pre .1) (c .before .before .before .before .before .before .before .pre .2) (c .before .before .before .before .before .before .before .args .count) (c .before .before .before .before .before .before .before .args .element) _ _ (c .before .before .before .before .before .before .before .pre .3) (c .before .before .before .before .before .before .before .pre .4) (c .before .before .before .before .before .before .before .pre .5) (c .before .before .before .before .before .before .before .pre .6) (ap (λ (n : ℕ). 1 + n) (c .before .before .before .before .levels .ensures)) (c .before .array-cells .ensures ∙ ap (λ (n : ℕ). c .before .before .before .before .before .before .before .args .count * n) (c .before .before .cells .ensures)))
+
+pub put-array-spec : {M : Type 1} → statement M
+put-array-spec =
+    tie.close
+    (tie.spec
+    levels-requires
+    add-levels
+    cells-requires
+    array-cells-requires
+    node-requires
+    mul-nodes
+    slice-write-nodes
+    same-length
+    returns)

@@ -1,0 +1,207 @@
+// A table of types in lent words, for the check of a plan and for its translation. A type is named by its place; what it
+// is made of stands before it. Beside each type stand its cells and levels, so that nobody counts them again.
+ghost use mathlib.Core.Path.{_≡_};
+ghost use mathlib.Core.Bool.{true, false};
+ghost use Prim.Native.Nat.{ℕ, suc, _+_, _*_, _≤_, _<_, max};
+ghost use lib.ListN.{length, getD};
+ghost use Rattle.meaning.specs.Types.{DataType, number, array as arrayType, cells as cellsOf, levels as levelsOf};
+ghost use Rattle.type_table.specs.Nodes.{nodeOf, kindIn, levelsIn, cellsIn, leftIn, rightIn};
+ghost use Rattle.type_table.specs.Table.{typeAt, Sound, Put, ArrayTold, PairTold};
+
+// The kinds of nodes.
+const NUMBER: u64 = 0;
+
+const ARRAY: u64 = 1;
+
+const PAIR: u64 = 2;
+
+// The place of the type of numbers, the first of every table.
+pub const NUMBER_TYPE: usize = 0;
+
+// An array's length and the place of its element's type.
+pub enum ArrayShape {
+    Array { length: usize, element: usize },
+    NoArray,
+}
+
+// The places of a pair's two types.
+pub enum PairShape {
+    Pair { first: usize, second: usize },
+    NoPair,
+}
+
+fn node(kind: u64, levels: usize, cells: usize, left: usize, right: usize) -> u64
+    requires { ⌜ (kind < 256) × (levels < 256) × (cells < 65536) × (left < 65536) × (right < 65536) ⌝ }
+    ensures { λ r. ⌜ r ≡ nodeOf kind levels cells left right ⌝ }
+{
+    kind * 72057594037927936
+        + (levels as u64) * 281474976710656
+        + (cells as u64) * 4294967296
+        + (left as u64) * 65536
+        + right as u64
+}
+
+fn kind_in(node: u64) -> u64
+    ensures { λ r. ⌜ r ≡ kindIn node ⌝ }
+{
+    node / 72057594037927936
+}
+
+fn left_in(node: u64) -> usize
+    ensures { λ r. ⌜ r ≡ leftIn node ⌝ }
+{
+    (node / 65536 % 65536) as usize
+}
+
+fn right_in(node: u64) -> usize
+    ensures { λ r. ⌜ r ≡ rightIn node ⌝ }
+{
+    (node % 65536) as usize
+}
+
+// The cells of the type at a place.
+pub fn cells(nodes: &[u64], place: usize) -> usize
+    requires { ⌜ Sound (now nodes) (suc place) ⌝ }
+    ensures { λ r. ⌜ r ≡ cellsOf (typeAt (now (nodes .entry)) place) ⌝ }
+{
+    (nodes[place] / 4294967296 % 65536) as usize
+}
+
+// Its levels.
+pub fn levels(nodes: &[u64], place: usize) -> usize
+    requires { ⌜ Sound (now nodes) (suc place) ⌝ }
+    ensures { λ r. ⌜ r ≡ levelsOf (typeAt (now (nodes .entry)) place) ⌝ }
+{
+    (nodes[place] / 281474976710656 % 256) as usize
+}
+
+// Whether it is the type of numbers.
+pub fn is_number(nodes: &[u64], place: usize) -> bool
+    requires { ⌜ Sound (now nodes) (suc place) ⌝ }
+    ensures yes { λ r. ⌜ (r ≡ true → typeAt (now (nodes .entry)) place ≡ number) ⌝ }
+    ensures not { λ r. ⌜ (r ≡ false → typeAt (now (nodes .entry)) place ≡ number → ⊥) ⌝ }
+{
+    kind_in(nodes[place]) == NUMBER
+}
+
+// Its length and element, where it is an array.
+pub fn as_array(nodes: &[u64], place: usize) -> ArrayShape
+    requires { ⌜ Sound (now nodes) (suc place) ⌝ }
+    ensures { λ r. ⌜ ArrayTold (now (nodes .entry)) place r ⌝ }
+{
+    let node = nodes[place];
+    if kind_in(node) != ARRAY {
+        return ArrayShape::NoArray;
+    }
+    ArrayShape::Array {
+        length: left_in(node),
+        element: right_in(node),
+    }
+}
+
+// Its two types, where it is a pair.
+pub fn as_pair(nodes: &[u64], place: usize) -> PairShape
+    requires { ⌜ Sound (now nodes) (suc place) ⌝ }
+    ensures { λ r. ⌜ PairTold (now (nodes .entry)) place r ⌝ }
+{
+    let node = nodes[place];
+    if kind_in(node) < PAIR {
+        return PairShape::NoPair;
+    }
+    PairShape::Pair {
+        first: left_in(node),
+        second: right_in(node),
+    }
+}
+
+// Whether the types at two places are the same.
+pub fn same(nodes: &[u64], a: usize, b: usize) -> bool
+    requires { ⌜ Sound (now nodes) (suc a) × Sound (now nodes) (suc b) ⌝ }
+    ensures yes { λ r. ⌜ (r ≡ true → typeAt (now (nodes .entry)) a ≡ typeAt (now (nodes .entry)) b) ⌝ }
+    ensures not { λ r. ⌜ (r ≡ false → typeAt (now (nodes .entry)) a ≡ typeAt (now (nodes .entry)) b → ⊥) ⌝ }
+{
+    let arrays = as_array(nodes, a);
+    if let ArrayShape::Array {
+        length: m,
+        element: s,
+    } = arrays {
+        let other = as_array(nodes, b);
+        let ArrayShape::Array {
+            length: n,
+            element: t,
+        } = other
+        else {
+            return false;
+        };
+        if m != n {
+            return false;
+        }
+        return same(nodes, s, t);
+    }
+    let pairs = as_pair(nodes, a);
+    if let PairShape::Pair {
+        first: s,
+        second: t,
+    } = pairs {
+        let other = as_pair(nodes, b);
+        let PairShape::Pair {
+            first: u,
+            second: v,
+        } = other
+        else {
+            return false;
+        };
+        if !same(nodes, s, u) {
+            return false;
+        }
+        return same(nodes, t, v);
+    }
+    is_number(nodes, b)
+}
+
+fn greater(a: usize, b: usize) -> usize
+    ensures { λ r. ⌜ r ≡ max a b ⌝ }
+{
+    if a < b {
+        return b;
+    }
+    a
+}
+
+// Puts the type of numbers at the table's first place.
+pub fn put_number(nodes: &mut [u64])
+    requires { ⌜ 0 < length (now nodes) ⌝ }
+    ensures { λ _. ⌜ Put (now (nodes .entry)) (now (nodes .exit)) 0 number ⌝ }
+{
+    nodes[NUMBER_TYPE] = node(NUMBER, 1, 1, 0, 0);
+}
+
+fn array_cells(count: usize, each: usize) -> usize
+    requires { ⌜ count * each ≤ 4096 ⌝ }
+    ensures { λ r. ⌜ r ≡ count * each ⌝ }
+{
+    count * each
+}
+
+// Puts the type of arrays of this length and element at place `len`, the first that is free.
+pub fn put_array(nodes: &mut [u64], len: usize, count: usize, element: usize)
+    requires { ⌜ Sound (now nodes) len × (len < length (now nodes)) × (len < 65536) × (element < len)
+        × (1 ≤ count) × (count * cellsOf (typeAt (now nodes) element) ≤ 4096) × (levelsOf (typeAt (now nodes) element) < 8) ⌝ }
+    ensures { λ _. ⌜ Put (now (nodes .entry)) (now (nodes .exit)) len (arrayType count (typeAt (now (nodes .entry)) element)) ⌝ }
+{
+    let levels = 1 + levels(nodes, element);
+    let cells = array_cells(count, cells(nodes, element));
+    nodes[len] = node(ARRAY, levels, cells, count, element);
+}
+
+// Puts the type of pairs of these two at place `len`, the first that is free.
+pub fn put_pair(nodes: &mut [u64], len: usize, first: usize, second: usize)
+    requires { ⌜ Sound (now nodes) len × (len < length (now nodes)) × (len < 65536) × (first < len) × (second < len)
+        × (cellsOf (typeAt (now nodes) first) + cellsOf (typeAt (now nodes) second) ≤ 4096)
+        × (max (levelsOf (typeAt (now nodes) first)) (levelsOf (typeAt (now nodes) second)) < 8) ⌝ }
+    ensures { λ _. ⌜ Put (now (nodes .entry)) (now (nodes .exit)) len (DataType.pair (typeAt (now (nodes .entry)) first) (typeAt (now (nodes .entry)) second)) ⌝ }
+{
+    let levels = 1 + greater(levels(nodes, first), levels(nodes, second));
+    let cells = cells(nodes, first) + cells(nodes, second);
+    nodes[len] = node(PAIR, levels, cells, first, second);
+}
