@@ -1,14 +1,19 @@
-// Runs the worked examples of document 01's readings: file NNN.plan or NNN.loops holds the text of example NNN. For each, its
-// answer is printed: the rows read and whether they print back to the same text, or the refusal's number and line.
+// Runs the worked examples of document 01's readings: file NNN.plan, NNN.loops or NNN.need holds the text of example NNN. For
+// each, its answer is printed: of a plan the rows read and whether they print back to the same text, of loops `ok`, of a need
+// `ok` and the cells; or the refusal's number and line.
 use libc::STDOUT_FILENO;
 use lines::Printing;
 use lines::Reading;
+use loops::Checked;
+use loops::Needed;
+use refusals::Refusal;
 
 fn main() {
     let mut example: u8 = 0;
     while example < 210 {
         run_plan(example);
         run_loops(example);
+        run_need(example);
         example += 1;
     }
 }
@@ -43,7 +48,7 @@ fn run_plan(example: u8) {
     show(example, answer, &text[..size], &kinds, &numbers);
 }
 
-// Reads an example of loops, if there is one of this number.
+// Checks an example of loops, if there is one of this number.
 fn run_loops(example: u8) {
     let mut path = *b"000.loops";
     path[0] = digit(example, 0);
@@ -56,10 +61,48 @@ fn run_loops(example: u8) {
     let mut text = [0u8; 65537];
     let size = io::read_full(file, &mut text);
     libc::close(file);
-    let mut kinds = [0u8; 4096];
-    let mut numbers = [0i32; 4096];
-    let answer = lines::read_loops(&text[..size], &mut kinds, &mut numbers);
-    show(example, answer, &text[..size], &kinds, &numbers);
+    let checked = loops::check_text(&text[..size]);
+    io::print_decimal(STDOUT_FILENO, example as u64);
+    match checked {
+        Checked::Passes { writes: _, need: _ } => {
+            io::write_all(STDOUT_FILENO, b" ok\n");
+        }
+        Checked::Refused(refusal) => refuse(refusal),
+    }
+}
+
+// Asks the need of an example of loops, if there is one of this number.
+fn run_need(example: u8) {
+    let mut path = *b"000.need";
+    path[0] = digit(example, 0);
+    path[1] = digit(example, 1);
+    path[2] = digit(example, 2);
+    let file = os::open_read(&path);
+    if file < 0 {
+        return;
+    }
+    let mut text = [0u8; 65537];
+    let size = io::read_full(file, &mut text);
+    libc::close(file);
+    let needed = loops::need_text(&text[..size]);
+    io::print_decimal(STDOUT_FILENO, example as u64);
+    match needed {
+        Needed::Cells(cells) => {
+            io::write_all(STDOUT_FILENO, b" ok ");
+            io::print_decimal(STDOUT_FILENO, cells as u64);
+            io::write_all(STDOUT_FILENO, b"\n");
+        }
+        Needed::Refused(refusal) => refuse(refusal),
+    }
+}
+
+// The rest of a refused example's line.
+fn refuse(refusal: Refusal) {
+    io::write_all(STDOUT_FILENO, b" no,");
+    io::print_decimal(STDOUT_FILENO, refusals::number(refusal) as u64);
+    io::write_all(STDOUT_FILENO, b",");
+    io::print_decimal(STDOUT_FILENO, refusals::line(refusal) as u64);
+    io::write_all(STDOUT_FILENO, b"\n");
 }
 
 // One line: the example, its answer, and for rows whether they print back.
@@ -72,15 +115,10 @@ fn show(example: u8, answer: Reading, text: &[u8], kinds: &[u8], numbers: &[i32]
             if prints_back(rows, text, kinds, numbers) {
                 io::write_all(STDOUT_FILENO, b" and back");
             }
+            io::write_all(STDOUT_FILENO, b"\n");
         }
-        Reading::Refused(refusal) => {
-            io::write_all(STDOUT_FILENO, b" no,");
-            io::print_decimal(STDOUT_FILENO, refusals::number(refusal) as u64);
-            io::write_all(STDOUT_FILENO, b",");
-            io::print_decimal(STDOUT_FILENO, refusals::line(refusal) as u64);
-        }
+        Reading::Refused(refusal) => refuse(refusal),
     }
-    io::write_all(STDOUT_FILENO, b"\n");
 }
 
 // Whether the rows, printed, are the text.

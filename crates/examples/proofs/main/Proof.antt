@@ -19,6 +19,9 @@ run-plan-requires c κs = search needs
 run-loops-requires : tie.Need-run-loops-requires Inv-loop μ-loop
 run-loops-requires c κs = search needs
 
+run-need-requires : tie.Need-run-need-requires Inv-loop μ-loop
+run-need-requires c κs = search needs
+
 add-example : tie.Need-add-example Inv-loop μ-loop
 add-example c = search needs
 
@@ -40,6 +43,7 @@ main-spec =
     loop-holds
     run-plan-requires
     run-loops-requires
+    run-need-requires
     add-example
     loop-less
     loop-again

@@ -1,0 +1,81 @@
+-- `loops::cells::need` meets its contract. The loop's invariant: the sum so far and that of the rows still left are the sum of all.
+use mathlib.Core.Path.{_≡_, ap, _∙_}
+use native.Mathlib.Omega.{arith}
+use Prim.Native.Nat.{ℕ, _+_, _*_, _-_, _≤_}
+use lib.ListN.{length, getD}
+use lib.IntN.{pos}
+use borrow.Author.Needs.{needs}
+use Rattle.words.specs.Kinds as kinds
+use Rattle.words.specs.Kinds.{rowsOf}
+use Rattle.loops.specs.Rows as parts
+use Rattle.loops.proofs.Sums as sums
+use Rattle.loops.proofs.cells.need.Statement.{statement}
+use Rattle.loops.proofs.cells.need.Tie as tie
+
+abbrev Inv-loop : tie.InvT-loop
+Inv-loop kinds numbers sum₀ i₀ sum i = (i ≤ length kinds) × (sum ≤ 2147483648 * i) × (sum + parts.cellsIn (sums.rowsFrom kinds numbers i) ≡ parts.cellsIn (rowsOf kinds numbers))
+
+abbrev μ-loop : tie.MeasureT-loop
+μ-loop kinds numbers sum₀ i₀ sum i = length kinds - i
+
+loop-holds : tie.Need-loop-holds Inv-loop μ-loop
+loop-holds c = (omega arith, omega arith, sums.sum-start (c .before .args .kinds .now) (c .before .args .numbers .now))
+
+shared-slice-read-row-cells : tie.Need-shared-slice-read-row-cells Inv-loop μ-loop
+shared-slice-read-row-cells c = search needs
+
+mul-row-cells : tie.Need-mul-row-cells Inv-loop μ-loop
+mul-row-cells c = search needs
+
+shared-slice-copy-out-row-cells : tie.Need-shared-slice-copy-out-row-cells Inv-loop μ-loop
+shared-slice-copy-out-row-cells c = search needs
+
+row-cells-requires : tie.Need-row-cells-requires Inv-loop μ-loop
+row-cells-requires c κs = search needs
+
+add-sum : tie.Need-add-sum Inv-loop μ-loop
+add-sum c = search needs
+
+add-i : tie.Need-add-i Inv-loop μ-loop
+add-i c = search needs
+
+loop-less : tie.Need-loop-less Inv-loop μ-loop
+loop-less c = search needs
+
+loop-again : tie.Need-loop-again Inv-loop μ-loop
+loop-again c =
+    let a = c .before .before .before .before .before .before .args in
+    let turn = c .before .before .before .before .loop in (
+      omega arith,
+      omega (arith, c .row-cells .ensures .1),
+      ap (λ (x : ℕ). turn .sum + x + parts.cellsIn (sums.rowsFrom (a .kinds .now) (a .numbers .now) (turn .i + 1)))
+          (sums.row-read (getD (a .kinds .now) (turn .i) 0) (getD (a .numbers .now) (turn .i) (pos 0)) (record { sfits = c .before .row-cells-arg .given }) (c .row-cells .ensures .0))
+          ∙ sums.sum-again (a .kinds .now) (a .numbers .now) (turn .i) (turn .sum)
+          (c .before .before .before .loop-test .taken)
+          (omega (arith, c .before .before .before .before .before .before .pre .0, c .before .before .before .loop-test .taken))
+          (turn .inv .2),
+    )
+
+returns : tie.Need-returns Inv-loop μ-loop
+returns c =
+    let a = c .before .before .before .args in
+    let turn = c .before .loop in
+    omega
+    (arith, turn .inv .2, sums.sum-end (a .kinds .now) (a .numbers .now) (turn .i) (omega (arith, turn .inv .0, c .loop-test .left)))
+
+pub need-spec : {M : Type 1} → statement M
+need-spec =
+    tie.close
+    (tie.spec
+    Inv-loop
+    μ-loop
+    loop-holds
+    shared-slice-read-row-cells
+    mul-row-cells
+    shared-slice-copy-out-row-cells
+    row-cells-requires
+    add-sum
+    add-i
+    loop-less
+    loop-again
+    returns)

@@ -1,0 +1,26 @@
+-- `loops::need_text` meets its contract: each case of the check is one of the definition.
+use mathlib.Core.Path.{sym, ap, _∙_}
+use borrow.Author.Needs.{needs}
+use Rattle.loops.specs.Check.{needOf}
+use Rattle.loops.proofs.need_text.Statement.{statement}
+use Rattle.loops.proofs.need_text.Tie as tie
+
+check-text-requires : tie.Need-check-text-requires
+check-text-requires c κs = search needs
+
+enum-known-checked : tie.Need-enum-known-checked
+enum-known-checked c = search needs
+
+enum-known-checked-2 : tie.Need-enum-known-checked-2
+enum-known-checked-2 c = search needs
+
+returns : tie.Need-returns
+returns c = sym (ap needOf (sym (c .before .before .before .check-text .ensures) ∙ c .before .checked .given .1))
+
+returns-2 : tie.Need-returns-2
+returns-2 c = sym (ap needOf (sym (c .before .before .before .check-text .ensures) ∙ c .before .checked2 .given .1))
+
+pub need-text-spec : {M : Type 1} → statement M
+need-text-spec =
+    tie.close
+    (tie.spec check-text-requires enum-known-checked enum-known-checked-2 returns returns-2)

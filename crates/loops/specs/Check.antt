@@ -1,0 +1,66 @@
+-- The check of loops: questions 1 to 6, 9 and 11 of document 01, in this order. Definitions only; assumes nothing.
+use mathlib.Core.Bool.{cond}
+use mathlib.Core.List.{List}
+use mathlib.Core.Option.{Option, none, some}
+use Prim.Native.Nat.{ℕ}
+use lib.Dec.{leb}
+use Rattle.refusals.specs.declared.Refusal.{Refusal}
+use Rattle.refusals.specs.declared.Refusal.the-variants.{WriteCount}
+use Rattle.words.specs.Kinds.{Row}
+use Rattle.words.specs.declared.Sort.the-variants as sort
+use Rattle.lines.specs.Reading.{linesOf, rowsIn, reading, headOf, loopsLimits}
+use Rattle.lines.specs.declared.Heads.the-variants.{Words}
+use Rattle.lines.specs.declared.Reading.{Reading}
+use Rattle.lines.specs.declared.Reading.the-variants as read
+use Rattle.meaning.specs.Loops.{Loops}
+use Rattle.meaning.specs.Layout.{need}
+use Rattle.meaning.specs.Counts.{commandWrites}
+use Rattle.syntax.specs.declared.Answer.{Answer}
+use Rattle.syntax.specs.declared.Answer.the-variants as walk
+use Rattle.syntax.specs.Walk.{walkTable}
+use Rattle.syntax.specs.Reading.{loopsOf}
+use Rattle.loops.specs.declared.Needed.{Needed}
+use Rattle.loops.specs.declared.Needed.the-variants.{Cells, Refused as NoNeed}
+use Rattle.loops.specs.declared.Checked.{Checked}
+use Rattle.loops.specs.declared.Checked.the-variants.{Passes, Refused}
+use Rattle.loops.specs.Bounds.{askBounds}
+
+-- ---- loops as a tree
+
+-- "At most 16,777,216 writes?" The answer for loops that pass is their writes and their need.
+abbrev pub askWrites : Loops → Checked
+askWrites L = cond (leb (commandWrites (L .command)) 16777216) (Passes (commandWrites (L .command)) (need L)) (Refused WriteCount)
+
+-- on with the next question, unless there was a "no"
+abbrev pub unless : Option Refusal → Checked → Checked
+unless none next = next
+unless (some q) next = Refused q
+
+-- Questions 9 and 11.
+unfoldable pub checkLoops : Loops → Checked
+checkLoops L = unless (askBounds L) (askWrites L)
+
+-- "A check, the need": the need of loops that pass.
+abbrev pub needOf : Checked → Needed
+needOf (Passes w n) = Cells n
+needOf (Refused q) = NoNeed q
+
+-- ---- loops as rows
+
+-- Questions 2 (of the kinds) and 4 to 6 by the walk of `syntax`; then 9 and 11 of the loops whose rows these are.
+abbrev pub afterWalk : Answer → Checked → Checked
+afterWalk (walk.Passed m) next = next
+afterWalk (walk.Refused q) next = Refused q
+
+unfoldable pub checkRows : List Row → Checked
+checkRows R = afterWalk (walkTable sort.Loops R) (checkLoops (loopsOf R))
+
+-- ---- loops as a text
+
+-- Questions 1 to 3 by the reading of `lines`; then the rows. ws is the table of words.
+abbrev pub afterReading : Reading → Checked → Checked
+afterReading (read.Rows n) next = next
+afterReading (read.Refused q) next = Refused q
+
+unfoldable pub checkText : List (List ℕ) → List ℕ → Checked
+checkText ws t = afterReading (reading (headOf ws Words) loopsLimits t) (checkRows (rowsIn (headOf ws Words) (linesOf t)))

@@ -1,0 +1,3 @@
+-- The laws of the check of loops. A reader need not believe any of it.
+pub mod Offsets
+pub mod Passing

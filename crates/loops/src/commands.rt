@@ -1,0 +1,166 @@
+// Question 9 on a command, and its writes.
+ghost use mathlib.Core.Bool.{true, false, cond};
+ghost use mathlib.Core.Path.{_≡_};
+ghost use mathlib.Core.List.{_∷_};
+ghost use Prim.Native.Nat.{ℕ, min, _+_, _≤_, _<_};
+ghost use lib.ListN.{length, drop};
+ghost use Rattle.meaning.specs.Loops.{Command};
+ghost use Rattle.meaning.specs.Rows.{commandRows};
+ghost use Rattle.meaning.specs.Counts.{commandWrites};
+ghost use Rattle.syntax.specs.Walk.{passed};
+ghost use Rattle.loops.specs.Bounds.{askCommand};
+ghost use Rattle.loops.specs.Rows.{Begins, cellsOf, HasRoom, isLoop, onceOf, weighing, weighedRows, weighedWrites};
+use crate::bounds;
+use refusals::Refusal;
+use syntax::Answer;
+use syntax::ranges;
+use words::kinds::*;
+
+// A command's rows and its writes, 16,777,217 standing for every number above 16,777,216; or the "no" to question 9.
+pub enum Weighed {
+    Passed { rows: usize, writes: usize },
+    Refused(Refusal),
+}
+
+// 16,777,217 stands for every number of writes above 16,777,216.
+fn capped(writes: usize) -> usize
+    ensures { λ r. ⌜ (r ≡ min writes 16777217) × (r ≤ 16777217) ⌝ }
+{
+    if writes <= 16777216 {
+        return writes;
+    }
+    16777217
+}
+
+fn is_loop(kind: u8) -> bool
+    ensures { λ r. ⌜ r ≡ isLoop kind ⌝ }
+{
+    if kind == WORD_FOR {
+        return true;
+    }
+    kind == WORD_PAR
+}
+
+// How often a row's command is done.
+fn rounds(kind: u8, n: usize) -> usize
+    ensures { λ r. ⌜ r ≡ cond (isLoop kind) n 1 ⌝ }
+{
+    if is_loop(kind) {
+        return n;
+    }
+    1
+}
+
+// The names in force are frame[top..], innermost first. A row that opens one puts its number there: the new top.
+fn push(frame: &mut [usize], top: usize, opens: bool, n: usize) -> usize
+    requires { ⌜ top ≤ length (now frame) ⌝ }
+    ensures bounds { λ r. ⌜ (r ≤ top) × (drop top (now (frame .exit)) ≡ drop top (now (frame .entry))) ⌝ }
+    ensures none { λ r. ⌜ (opens ≡ false → (r ≡ top)) ⌝ }
+    ensures one { λ r. ⌜ (opens ≡ true → 1 ≤ top → (r + 1 ≡ top) × (drop r (now (frame .exit)) ≡ n ∷ drop top (now (frame .entry)))) ⌝ }
+{
+    if opens {
+        if 0 < top {
+            let inner = top - 1;
+            frame[inner] = n;
+            return inner;
+        }
+    }
+    top
+}
+
+// A `set`, whose place and value were asked: one write.
+fn once(asked: Answer) -> Weighed
+    requires { ⌜ passed asked < 18446744073709551615 ⌝ }
+    ensures { λ r. ⌜ r ≡ onceOf asked ⌝ }
+{
+    match asked {
+        Answer::Passed(rows) => Weighed::Passed {
+            rows: 1 + rows,
+            writes: 1,
+        },
+        Answer::Refused(refusal) => Weighed::Refused(refusal),
+    }
+}
+
+// The command whose rows stand in front. counters[c..] has the rounds of the loops around, innermost first, and regions[r..] the
+// cells of the regions in force; `inputs` has the inputs' cells.
+pub fn weigh(
+    kinds: &[u8],
+    numbers: &[i32],
+    counters: &mut [usize],
+    c: usize,
+    regions: &mut [usize],
+    r: usize,
+    inputs: &[i32],
+    output: usize,
+    line: usize,
+) -> Weighed
+    requires { ⌜ (length (now kinds) ≡ length (now numbers)) × (c ≤ length (now counters)) × (r ≤ length (now regions)) × (line + length (now kinds) < 18446744073709551615) ⌝ }
+    ensures bounds { λ w. ⌜ (weighedRows w ≤ length (now (kinds .entry))) × (weighedWrites w ≤ 16777217) ⌝ }
+    ensures kept { λ w. ⌜ (drop c (now (counters .exit)) ≡ drop c (now (counters .entry))) × (drop r (now (regions .exit)) ≡ drop r (now (regions .entry))) ⌝ }
+    ensures result { λ w. ⌜ ((x : Command) → Begins (now (kinds .entry)) (now (numbers .entry)) (commandRows x) → HasRoom c r x
+        → w ≡ weighing (length (commandRows x)) (commandWrites x) (askCommand (cellsOf (now (inputs .entry))) output (drop c (now (counters .entry))) (drop r (now (regions .entry))) line x)) ⌝ }
+{
+    if kinds.len() == 0 {
+        return Weighed::Passed { rows: 0, writes: 0 };
+    }
+    let kind = kinds[0];
+    let n = ranges::natural(numbers[0]);
+    if kind == WORD_SET {
+        let asked = bounds::assignment(
+            &kinds[1..],
+            &numbers[1..],
+            &counters[c..],
+            &regions[r..],
+            inputs,
+            output,
+            line + 1,
+        );
+        return once(asked);
+    }
+    let counter = push(counters, c, is_loop(kind), n);
+    let region = push(regions, r, kind == WORD_NEW, n);
+    let first = weigh(
+        &kinds[1..],
+        &numbers[1..],
+        counters,
+        counter,
+        regions,
+        region,
+        inputs,
+        output,
+        line + 1,
+    );
+    let Weighed::Passed { rows, writes } = first else {
+        return first;
+    };
+    let from = 1 + rows;
+    if kind != WORD_SEQ {
+        return Weighed::Passed {
+            rows: from,
+            writes: capped(rounds(kind, n) * writes),
+        };
+    }
+    let second = weigh(
+        &kinds[from..],
+        &numbers[from..],
+        counters,
+        c,
+        regions,
+        r,
+        inputs,
+        output,
+        line + from,
+    );
+    let Weighed::Passed {
+        rows: more,
+        writes: others,
+    } = second
+    else {
+        return second;
+    };
+    Weighed::Passed {
+        rows: from + more,
+        writes: capped(writes + others),
+    }
+}
