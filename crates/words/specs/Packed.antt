@@ -1,9 +1,9 @@
 -- An entry of the table of words as the code's table holds it, in bytes: letters and blanks, their count, and a column for
--- each sort. What the private function `word_at` answers; no other contract rests on it. Assumes nothing.
+-- each sort. What private functions of the code answer; no public contract rests on it. Assumes nothing.
 use mathlib.Core.List.{List, [], _∷_, _++_, map}
 use Prim.Native.Nat.{ℕ, _+_}
 use lib.ListN.{length, take}
-use Rattle.words.specs.Words.{bytes, Entry, operandsAs}
+use Rattle.words.specs.Words.{bytes, Entry, table, operandsAs}
 use Rattle.words.specs.declared.Sort.{Sort}
 use Rattle.words.specs.declared.Sort.the-variants.{Plan, DataType, Term, Loops, Cells, Command, Place, Value, Offset}
 use Rattle.words.specs.declared.Operands.{Operands}
@@ -20,3 +20,7 @@ unfoldable pub packed : Entry → List ℕ
 packed e =
     take 6 (e .letters ++ bytes "      ")
     ++ (32 ∷ (48 + length (e .letters)) ∷ 32 ∷ map (λ (s : Sort). columnFor (operandsAs s (e .uses))) sorts)
+
+-- all of them
+unfoldable pub packedTable : List (List ℕ)
+packedTable = map packed table

@@ -2,9 +2,9 @@
 pub mod kinds;
 
 ghost use mathlib.Core.Path.{_≡_};
-ghost use Prim.Native.Nat.{_-_, _≤_, _<_};
+ghost use Prim.Native.Nat.{ℕ, _-_, _≤_, _<_};
 ghost use lib.ListN.{length, getD};
-ghost use Rattle.words.specs.Packed.{packed};
+ghost use Rattle.words.specs.Packed.{packed, packedTable};
 ghost use Rattle.words.specs.Words.{words, wordAt, entryAt, sameLetters, lookUp, columnOf, operandsOf};
 
 // The sorts of rows.
@@ -93,15 +93,23 @@ fn column(sort: Sort) -> usize
     }
 }
 
-// The row of the word of this kind; one with no letters where the kind is no word's.
-fn word_at(kind: u8) -> [u8; 18]
+// The row of the word of this kind in the table; one with no letters where the kind is no word's.
+fn row_in(table: &[[u8; 18]; 38], kind: u8) -> [u8; 18]
+    requires { ⌜ now table ≡ packedTable ⌝ }
     ensures { λ r. ⌜ r ≡ packed (entryAt kind) ⌝ }
 {
     let at = kind as usize;
     if 38 <= at {
         return *b"       0 ---------";
     }
-    WORDS[at]
+    table[at]
+}
+
+fn word_at(kind: u8) -> [u8; 18]
+    ensures { λ r. ⌜ r ≡ packed (entryAt kind) ⌝ }
+{
+    let table = WORDS;
+    row_in(&table, kind)
 }
 
 // The number that a digit stands for.
@@ -143,15 +151,15 @@ pub fn letter(kind: u8, i: usize) -> u8
     word[i]
 }
 
-// Whether these are the letters of the word of this kind.
-fn same(letters: &[u8], kind: u8) -> bool
-    ensures { λ r. ⌜ r ≡ sameLetters (now (letters .entry)) (wordAt words kind) ⌝ }
+// Whether these are the letters of the word with this row.
+fn same(letters: &[u8], word: [u8; 18]) -> bool
+    requires { ⌜ ((kind : ℕ) × (word ≡ packed (entryAt kind))) ⌝ }
+    ensures { λ r. ⌜ ((kind : ℕ) → word ≡ packed (entryAt kind) → r ≡ sameLetters (now (letters .entry)) (wordAt words kind)) ⌝ }
 {
-    let n = length(kind);
+    let n = digit(word[7]);
     if letters.len() != n {
         return false;
     }
-    let word = word_at(kind);
     let mut i = 0;
     while i < n {
         if letters[i] != word[i] {
@@ -166,9 +174,11 @@ fn same(letters: &[u8], kind: u8) -> bool
 pub fn look_up(letters: &[u8]) -> Found
     ensures { λ r. ⌜ r ≡ lookUp words (now (letters .entry)) ⌝ }
 {
+    let table = WORDS;
     let mut kind: u8 = 0;
     while kind < 38 {
-        if same(letters, kind) {
+        let word = row_in(&table, kind);
+        if same(letters, word) {
             return Found::At(kind as usize);
         }
         kind += 1;

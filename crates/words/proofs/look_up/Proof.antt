@@ -1,37 +1,42 @@
 -- `words::look_up` meets its contract. The loop's invariant: what is found is what is found from the present word on.
-use mathlib.Core.Path.{_≡_, sym, ap, _∙_}
+use mathlib.Core.Path.{_≡_, refl, sym, ap, _∙_}
 use mathlib.Core.Bool.{Bool, cond}
 use Prim.Native.Nat.{_+_, _-_, _≤_}
 use lib.ListN.{drop}
 use borrow.Author.Needs.{needs}
 use native.Mathlib.Omega.{arith}
-use Rattle.words.specs.Words.{words, lookFrom, lookUp}
+use Rattle.words.specs.Packed.{packed, packedTable}
+use Rattle.words.specs.Words.{table, words, lookFrom, lookUp}
 use Rattle.words.specs.Laws.{look-next, look-end, words-count}
 use Rattle.words.specs.declared.Found.the-variants.{At}
 use Rattle.words.proofs.look_up.Statement.{statement}
 use Rattle.words.proofs.look_up.Tie as tie
 
 abbrev Inv-loop : tie.InvT-loop
-Inv-loop letters kind₀ kind = (kind ≤ 38) × (lookUp words letters ≡ lookFrom kind (drop kind words) letters)
+Inv-loop letters table kind₀ kind = (kind ≤ 38) × (lookUp words letters ≡ lookFrom kind (drop kind words) letters)
 
 abbrev μ-loop : tie.MeasureT-loop
-μ-loop letters kind₀ kind = 38 - kind
+μ-loop letters table kind₀ kind = 38 - kind
 
 loop-holds : tie.Need-loop-holds Inv-loop μ-loop
 loop-holds c = search needs
 
-same-requires : tie.Need-same-requires Inv-loop μ-loop
-same-requires c κs = search needs
+row-in-requires : tie.Need-row-in-requires Inv-loop μ-loop
+unfolding packed packedTable table
+row-in-requires c κs = refl
 
-cast-t5 : tie.Need-cast-t5 Inv-loop μ-loop
-cast-t5 c = search needs
+same-requires : tie.Need-same-requires Inv-loop μ-loop
+same-requires c κs = (c .before .before .before .loop .kind, c .row-in .ensures)
+
+cast-t47 : tie.Need-cast-t47 Inv-loop μ-loop
+cast-t47 c = search needs
 
 returns : tie.Need-returns Inv-loop μ-loop
 returns c =
-    let a = c .before .before .before .before .before .args in
-    let turn = c .before .before .before .loop in
+    let a = c .before .before .before .before .before .before .before .args in
+    let turn = c .before .before .before .before .before .loop in
     sym
-    (turn .inv .1 ∙ look-next words (a .letters .now) (turn .kind) (omega (arith, words-count)) ∙ ap (λ (b : Bool). cond b (At (turn .kind)) (lookFrom (turn .kind + 1) (drop (turn .kind + 1) words) (a .letters .now))) (sym (c .before .same .ensures) ∙ c .if1 .taken))
+    (turn .inv .1 ∙ look-next words (a .letters .now) (turn .kind) (omega (arith, words-count)) ∙ ap (λ (b : Bool). cond b (At (turn .kind)) (lookFrom (turn .kind + 1) (drop (turn .kind + 1) words) (a .letters .now))) (sym (c .before .same .ensures (turn .kind) (c .before .before .row-in .ensures)) ∙ c .if1 .taken))
 
 add-kind : tie.Need-add-kind Inv-loop μ-loop
 add-kind c = search needs
@@ -41,14 +46,14 @@ loop-less c = search needs
 
 loop-again : tie.Need-loop-again Inv-loop μ-loop
 loop-again c =
-    let a = c .before .before .before .before .before .args in
-    let turn = c .before .before .before .loop in (
+    let a = c .before .before .before .before .before .before .before .args in
+    let turn = c .before .before .before .before .before .loop in (
       search needs,
       turn .inv .1
           ∙ look-next words (a .letters .now) (turn .kind) (omega (arith, words-count))
           ∙ ap
           (λ (b : Bool). cond b (At (turn .kind)) (lookFrom (turn .kind + 1) (drop (turn .kind + 1) words) (a .letters .now)))
-          (sym (c .before .same .ensures) ∙ c .if1 .left),
+          (sym (c .before .same .ensures (turn .kind) (c .before .before .row-in .ensures)) ∙ c .if1 .left),
     )
 
 returns-2 : tie.Need-returns-2 Inv-loop μ-loop
@@ -63,8 +68,9 @@ look-up-spec =
     Inv-loop
     μ-loop
     loop-holds
+    row-in-requires
     same-requires
-    cast-t5
+    cast-t47
     returns
     add-kind
     loop-less

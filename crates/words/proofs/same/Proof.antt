@@ -10,24 +10,25 @@ use borrow.Author.Needs.{needs}
 use native.Mathlib.Omega.{arith}
 use Rattle.words.specs.Words.{words, wordAt}
 use Rattle.words.specs.Laws.{same-true, same-false}
-use Rattle.words.proofs.Packed.{word-letter}
+use Rattle.words.proofs.Packed.{word-length, word-letter, word-short}
 use Rattle.words.proofs.same.Statement.{statement}
 use Rattle.words.proofs.same.Tie as tie
 
 abbrev Inv-loop : tie.InvT-loop
-Inv-loop letters kind n word i₀ i = (i ≤ n) × ((k : ℕ) → k < i → getD letters k 0 ≡ getD word k 0)
+Inv-loop letters word n i₀ i = (i ≤ n) × ((k : ℕ) → k < i → getD letters k 0 ≡ getD word k 0)
 
 abbrev μ-loop : tie.MeasureT-loop
-μ-loop letters kind n word i₀ i = n - i
+μ-loop letters word n i₀ i = n - i
 
-length-requires : tie.Need-length-requires Inv-loop μ-loop
-length-requires c κs = search needs
+array-read-digit : tie.Need-array-read-digit Inv-loop μ-loop
+array-read-digit c = search needs
+
+digit-requires : tie.Need-digit-requires Inv-loop μ-loop
+digit-requires c κs = omega (arith, word-length _ _ (c .before .pre .1))
 
 returns : tie.Need-returns Inv-loop μ-loop
-returns c = same-false _ _ (λ e. c .if1 .taken (ap length e ∙ sym (c .before .length .ensures .0)))
-
-word-at-requires : tie.Need-word-at-requires Inv-loop μ-loop
-word-at-requires c κs = search needs
+returns c = λ kind e. same-false _ _
+    (λ q. c .if1 .taken (omega (arith, ap length q, word-length kind _ e, c .before .digit .ensures)))
 
 loop-holds : tie.Need-loop-holds Inv-loop μ-loop
 loop-holds c = search needs
@@ -36,13 +37,15 @@ shared-slice-read-if2 : tie.Need-shared-slice-read-if2 Inv-loop μ-loop
 shared-slice-read-if2 c = search needs
 
 array-read-if2 : tie.Need-array-read-if2 Inv-loop μ-loop
-array-read-if2 c = omega (arith, c .before .before .before .before .before .length .ensures .1)
+array-read-if2 c =
+    let pre = c .before .before .before .before .before .before .pre in
+    omega (arith, word-length _ _ (pre .1), word-short (pre .0), c .before .before .before .before .digit .ensures)
 
 returns-2 : tie.Need-returns-2 Inv-loop μ-loop
-returns-2 c =
+returns-2 c = λ kind e.
     let turn = c .before .before .before .loop in
     same-false _ _
-    (λ e. c .if2 .taken (ap (λ (l : List ℕ). getD l (turn .i) 0) e ∙ sym (word-letter _ _ (c .before .before .before .before .word-at .ensures) (turn .i) (omega (arith, c .before .before .before .before .before .before .length .ensures .0)))))
+    (λ q. c .if2 .taken (ap (λ (l : List ℕ). getD l (turn .i) 0) q ∙ sym (word-letter kind _ e (turn .i) (omega (arith, word-length kind _ e, c .before .before .before .before .before .digit .ensures)))))
 
 add-i : tie.Need-add-i Inv-loop μ-loop
 add-i c = search needs
@@ -54,11 +57,13 @@ loop-again : tie.Need-loop-again Inv-loop μ-loop
 loop-again c = (search needs, below-more _ _ (c .before .before .before .loop .inv .1) (c .if2 .left))
 
 returns-3 : tie.Need-returns-3 Inv-loop μ-loop
-returns-3 c =
-    let a = c .before .before .before .before .before .before .args in
-    let length = c .before .before .before .before .length in
+returns-3 c = λ kind e.
+    let a = c .before .before .before .before .before .args in
+    let n = c .before .before .before .digit .ensures in
+    let size : length (a .letters .now) ≡ length (wordAt words kind) = omega (arith, c .before .before .if1 .left, word-length kind _ e, n) in
     same-true _ _
-    (ext-getD 0 (a .letters .now) (wordAt words (a .kind)) (c .before .before .before .if1 .left ∙ length .ensures .0) (λ k h. c .before .loop .inv .1 k (omega arith) ∙ word-letter _ _ (c .before .before .word-at .ensures) k (omega (arith, length .ensures .0))))
+    (ext-getD 0 (a .letters .now) (wordAt words kind) size
+    (λ k h. c .before .loop .inv .1 k (omega (arith, size, c .before .before .if1 .left)) ∙ word-letter kind _ e k (omega (arith, size))))
 
 pub same-spec : {M : Type 1} → statement M
 same-spec =
@@ -66,9 +71,9 @@ same-spec =
     (tie.spec
     Inv-loop
     μ-loop
-    length-requires
+    array-read-digit
+    digit-requires
     returns
-    word-at-requires
     loop-holds
     shared-slice-read-if2
     array-read-if2

@@ -1,0 +1,29 @@
+-- `words::row_in` meets its contract: the table is the table of words, packed.
+use mathlib.Core.Path.{ap, _∙_}
+use mathlib.Core.List.{List, []}
+use Prim.Native.Nat.{ℕ}
+use lib.ListN.{getD}
+use borrow.Author.Needs.{needs}
+use Rattle.words.specs.Packed.{packed, packedTable}
+use Rattle.words.proofs.Packed.{past-table, in-table}
+use Rattle.words.proofs.row_in.Statement.{statement}
+use Rattle.words.proofs.row_in.Tie as tie
+
+returns : tie.Need-returns
+unfolding packed
+returns c = past-table (c .before .before .before .args .kind) (c .before .before .if1 .taken)
+
+mul-result : tie.Need-mul-result
+mul-result c = search needs
+
+element-copy-out-result : tie.Need-element-copy-out-result
+element-copy-out-result c = search needs
+
+returns-2 : tie.Need-returns-2
+unfolding packedTable
+returns-2 c =
+    let a = c .before .before .args in
+    ap (λ (l : List (List ℕ)). getD l (a .kind) []) (c .before .before .pre) ∙ in-table (a .kind) (c .before .if1 .left)
+
+pub row-in-spec : {M : Type 1} → statement M
+row-in-spec = tie.close (tie.spec returns mul-result element-copy-out-result returns-2)
