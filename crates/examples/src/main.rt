@@ -1,12 +1,10 @@
 // Runs the worked examples of document 01's readings: file NNN.plan, NNN.loops or NNN.need holds the text of example NNN. For
-// each, its answer is printed: of a plan the rows read and whether they print back to the same text, of loops `ok`, of a need
-// `ok` and the cells; or the refusal's number and line.
+// each, its answer is printed: of a plan and of loops `ok`, of a need `ok` and the cells; or the refusal's number and line.
 use libc::STDOUT_FILENO;
-use lines::Printing;
-use lines::Reading;
 use loops::Checked;
 use loops::Needed;
 use refusals::Refusal;
+use syntax::Answer;
 
 fn main() {
     let mut example: u8 = 0;
@@ -29,7 +27,7 @@ fn digit(example: u8, place: u8) -> u8 {
     b'0' + example % 10
 }
 
-// Reads a plan's example, if there is one of this number.
+// Checks a plan's example, if there is one of this number.
 fn run_plan(example: u8) {
     let mut path = *b"000.plan";
     path[0] = digit(example, 0);
@@ -42,10 +40,14 @@ fn run_plan(example: u8) {
     let mut text = [0u8; 4097];
     let size = io::read_full(file, &mut text);
     libc::close(file);
-    let mut kinds = [0u8; 256];
-    let mut numbers = [0i32; 256];
-    let answer = lines::read_plan(&text[..size], &mut kinds, &mut numbers);
-    show(example, answer, &text[..size], &kinds, &numbers);
+    let checked = plans::check_text(&text[..size]);
+    io::print_decimal(STDOUT_FILENO, example as u64);
+    match checked {
+        Answer::Passed(_) => {
+            io::write_all(STDOUT_FILENO, b" ok\n");
+        }
+        Answer::Refused(refusal) => refuse(refusal),
+    }
 }
 
 // Checks an example of loops, if there is one of this number.
@@ -103,44 +105,4 @@ fn refuse(refusal: Refusal) {
     io::write_all(STDOUT_FILENO, b",");
     io::print_decimal(STDOUT_FILENO, refusals::line(refusal) as u64);
     io::write_all(STDOUT_FILENO, b"\n");
-}
-
-// One line: the example, its answer, and for rows whether they print back.
-fn show(example: u8, answer: Reading, text: &[u8], kinds: &[u8], numbers: &[i32]) {
-    io::print_decimal(STDOUT_FILENO, example as u64);
-    match answer {
-        Reading::Rows(rows) => {
-            io::write_all(STDOUT_FILENO, b" rows,");
-            io::print_decimal(STDOUT_FILENO, rows as u64);
-            if prints_back(rows, text, kinds, numbers) {
-                io::write_all(STDOUT_FILENO, b" and back");
-            }
-            io::write_all(STDOUT_FILENO, b"\n");
-        }
-        Reading::Refused(refusal) => refuse(refusal),
-    }
-}
-
-// Whether the rows, printed, are the text.
-fn prints_back(rows: usize, text: &[u8], kinds: &[u8], numbers: &[i32]) -> bool {
-    if kinds.len() < rows {
-        return false;
-    }
-    if numbers.len() < rows {
-        return false;
-    }
-    let mut back = [0u8; 65536];
-    let printed = lines::print(&kinds[..rows], &numbers[..rows], &mut back);
-    let Printing::Bytes(size) = printed else {
-        return false;
-    };
-    begins(&back, size, text)
-}
-
-// Whether the first bytes are the text.
-fn begins(bytes: &[u8], size: usize, text: &[u8]) -> bool {
-    if bytes.len() < size {
-        return false;
-    }
-    check::same(&bytes[..size], text)
 }

@@ -1,11 +1,12 @@
 -- A table that holds the rows of loops: where its parts lie, and what follows from the command's answer. Assumes nothing.
-use mathlib.Core.Bool.{Bool, cond}
+use mathlib.Core.Bool.{Bool, true, false, cond}
 use mathlib.Core.Path.{_≡_, refl, sym, ap, ap₂, _∙_}
 use mathlib.Core.List.{List, [], _∷_, _++_, append-nil, append-assoc, map}
 use mathlib.Core.Option.{Option, none}
 use Prim.Native.Nat.{ℕ, suc, _+_, _-_, _≤_, _<_, min}
 use native.Mathlib.Omega.{arith}
 use borrow.Author.Tests.{le-leb, lt-leb}
+use lib.Dec.{leb}
 use lib.IntN.{ℤ, pos}
 use lib.ListN.{length, getD, drop, take, length-append, length-map}
 use lib.Seq.{getD-append-add, take-at}
@@ -129,48 +130,56 @@ module _ (ks : List ℕ) (ns : List ℤ) (same : length ks ≡ length ns) (L : L
       ∙ sym (append-nil (((word-loops, pos K) ∷ a) ++ b)) in
       table.hind ((word-loops, pos K) ∷ a) b n l (record { behind = []; front = f })
 
-  -- ---- the answer, from the command's
+  -- ---- the command's answer
 
-  module _ (h : LoopsInRange L) (n : ℕ) (j : n ≡ 2 + K) (cs rs ic : List ℕ) (out line : ℕ) (cs-none : cs ≡ []) (rs-none : rs ≡ [])
-      (ic-read : ic ≡ L .inputs) (out-read : out ≡ L .output) (line-read : line ≡ 3 + K)
-      (w : Weighed) (g : Weighs (part n ks) (part n ns) cs 32 rs 256 ic out line w) where
-    weighed : w ≡ weighing (length (commandRows (L .command))) (commandWrites (L .command)) (askBounds L)
-    unfolding askBounds
-    weighed =
-        let f : List ℕ → ℕ → List ℕ → List ℕ → ℕ → Weighed =
-        λ a b c d i. weighing (length (commandRows (L .command))) (commandWrites (L .command)) (askCommand a b c d i (L .command)) in
-        g (L .command) (command-there n j) (room-in-range K 0 0 (L .command) 32 256 refl refl (h .command))
-        ∙ ap (λ (x : List ℕ). f x out cs rs line) ic-read
-        ∙ ap (λ (x : ℕ). f (L .inputs) x cs rs line) out-read
-        ∙ ap (λ (x : List ℕ). f (L .inputs) (L .output) x rs line) cs-none
-        ∙ ap (λ (x : List ℕ). f (L .inputs) (L .output) [] x line) rs-none
-        ∙ ap (λ (x : ℕ). f (L .inputs) (L .output) [] [] x) line-read
+  pub weighed : LoopsInRange L → (n : ℕ) → n ≡ 2 + K → (cs rs ic : List ℕ) (out line : ℕ) → cs ≡ [] → rs ≡ []
+      → ic ≡ L .inputs → out ≡ L .output → line ≡ 3 + K
+      → (w : Weighed) → Weighs (part n ks) (part n ns) cs 32 rs 256 ic out line w
+      → w ≡ weighing (length (commandRows (L .command))) (commandWrites (L .command)) (askBounds L)
+  unfolding askBounds
+  weighed h n j cs rs ic out line cs-none rs-none ic-read out-read line-read w g =
+      let f : List ℕ → ℕ → List ℕ → List ℕ → ℕ → Weighed =
+      λ a b c d i. weighing (length (commandRows (L .command))) (commandWrites (L .command)) (askCommand a b c d i (L .command)) in
+      g (L .command) (command-there n j) (room-in-range K 0 0 (L .command) 32 256 refl refl (h .command))
+      ∙ ap (λ (x : List ℕ). f x out cs rs line) ic-read
+      ∙ ap (λ (x : ℕ). f (L .inputs) x cs rs line) out-read
+      ∙ ap (λ (x : List ℕ). f (L .inputs) (L .output) x rs line) cs-none
+      ∙ ap (λ (x : List ℕ). f (L .inputs) (L .output) [] x line) rs-none
+      ∙ ap (λ (x : ℕ). f (L .inputs) (L .output) [] [] x) line-read
 
-    pub judged-refused : (q : Refusal) → w ≡ Refused q → checked.Refused q ≡ checkLoops L
+-- ---- the loops' answer, from the command's
+
+pub one-case : {A : Type 0} {q : Refusal} {i v : ℕ} → Refused q ≡ Passed i v → A
+one-case e = absurd (let z : _≡_ {A = ℕ} 0 1 = cc in omega arith)
+
+module _ (L : Loops) (w : Weighed) (g : w ≡ weighing (length (commandRows (L .command))) (commandWrites (L .command)) (askBounds L)) where
+  pub judged-refused : (q : Refusal) → w ≡ Refused q → checked.Refused q ≡ checkLoops L
+  unfolding checkLoops
+  judged-refused q f =
+      let a = weighing-refused (length (commandRows (L .command))) (commandWrites (L .command)) (askBounds L) q (sym f ∙ g) in
+      ap (λ (o : Option Refusal). unless o (askWrites L)) (sym a)
+
+  module _ (i v : ℕ) (f : w ≡ Passed i v) where
+    passed : (askBounds L ≡ none) × (i ≡ length (commandRows (L .command))) × (v ≡ min (commandWrites (L .command)) 16777217)
+    passed = weighing-passed i v (length (commandRows (L .command))) (commandWrites (L .command)) (askBounds L) (sym f ∙ g)
+
+    asked : (b : Bool) → leb (commandWrites (L .command)) 16777216 ≡ b
+        → cond b (checked.Passes (commandWrites (L .command)) (need L)) (checked.Refused WriteCount) ≡ checkLoops L
     unfolding checkLoops
-    judged-refused q f =
-        let a = weighing-refused (length (commandRows (L .command))) (commandWrites (L .command)) (askBounds L) q (sym f ∙ weighed) in
-        ap (λ (o : Option Refusal). unless o (askWrites L)) (sym a)
+    asked b e =
+        ap (λ (b : Bool). cond b (checked.Passes (commandWrites (L .command)) (need L)) (checked.Refused WriteCount)) (sym e)
+        ∙ ap (λ (o : Option Refusal). unless o (askWrites L)) (sym (passed .0))
 
-    module _ (i v : ℕ) (f : w ≡ Passed i v) where
-      passed : (askBounds L ≡ none) × (i ≡ length (commandRows (L .command))) × (v ≡ min (commandWrites (L .command)) 16777217)
-      passed = weighing-passed i v (length (commandRows (L .command))) (commandWrites (L .command)) (askBounds L) (sym f ∙ weighed)
+    pub judged-many : 16777216 < v → checked.Refused WriteCount ≡ checkLoops L
+    judged-many l =
+        let m : 16777216 < commandWrites (L .command) = omega (arith, l, passed .2) in
+        asked false (lt-leb (commandWrites (L .command)) 16777216 m)
 
-      pub judged-many : 16777216 < v → checked.Refused WriteCount ≡ checkLoops L
-      unfolding checkLoops
-      judged-many l =
-          let m : 16777216 < commandWrites (L .command) = omega (arith, l, passed .2) in
-          ap (λ (b : Bool). cond b (checked.Passes (commandWrites (L .command)) (need L)) (checked.Refused WriteCount)) (sym (lt-leb (commandWrites (L .command)) 16777216 m))
-          ∙ ap (λ (o : Option Refusal). unless o (askWrites L)) (sym (passed .0))
-
-      pub judged-passes : v ≤ 16777216 → (c : ℕ) → c ≡ cellsIn (rowsOf ks ns) → checked.Passes v c ≡ checkLoops L
-      unfolding checkLoops
-      judged-passes l c q =
-          let m : v ≡ commandWrites (L .command) = omega (arith, l, passed .2) in
-          let k : commandWrites (L .command) ≤ 16777216 = omega (arith, l, m) in
-          ap₂ checked.Passes m (q ∙ ap cellsIn e ∙ loops-cells L)
-          ∙ ap (λ (b : Bool). cond b (checked.Passes (commandWrites (L .command)) (need L)) (checked.Refused WriteCount)) (sym (le-leb (commandWrites (L .command)) 16777216 k))
-          ∙ ap (λ (o : Option Refusal). unless o (askWrites L)) (sym (passed .0))
+    pub judged-passes : v ≤ 16777216 → (R : List Row) → R ≡ loopsRows L → (c : ℕ) → c ≡ cellsIn R → checked.Passes v c ≡ checkLoops L
+    judged-passes l R e c q =
+        let m : v ≡ commandWrites (L .command) = omega (arith, l, passed .2) in
+        ap₂ checked.Passes m (q ∙ ap cellsIn e ∙ loops-cells L)
+        ∙ asked true (le-leb (commandWrites (L .command)) 16777216 (omega (arith, l, m)))
 
 -- ---- a table's answer, from the walk's
 

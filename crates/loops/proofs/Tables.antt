@@ -40,7 +40,7 @@ begins-none (k ∷ ks) ns r rs e b = omega arith
 
 -- the table from a on has the rows from a on
 rows-behind : (a : ℕ) (ks : List ℕ) (ns : List ℤ) (xs rs : List Row) → rowsOf ks ns ≡ xs ++ rs → length xs ≡ a → rowsOf (part a ks) (part a ns) ≡ rs
-rows-behind a ks ns xs rs e l = rw (part-all, part-all) (rows-drop a ks ns ∙ ap (drop a) e ∙ drop-at xs rs a l)
+rows-behind a ks ns xs rs e l = rw (part-all a ks, part-all a ns) (rows-drop a ks ns ∙ ap (drop a) e ∙ drop-at xs rs a l)
 
 -- ---- the first row and its operands
 

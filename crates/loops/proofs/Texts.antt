@@ -1,16 +1,16 @@
 -- A text that was read: the table that was lent holds its rows. Assumes nothing.
-use mathlib.Core.Bool.{Bool, true, false, cond}
+use mathlib.Core.Bool.{Bool, true, false, cond, _&&_}
 use mathlib.Core.Path.{_≡_, refl, sym, ap, ap₂, _∙_}
 use mathlib.Core.List.{List, [], _∷_}
-use Prim.Native.Nat.{ℕ, _≤_}
+use Prim.Native.Nat.{ℕ, _≤_, _<_}
 use native.Mathlib.Omega.{arith}
-use borrow.Author.Tests.{leb-true, le-leb}
+use borrow.Author.Tests.{leb-true, le-leb, lt-leb}
 use lib.Dec.{leb}
 use lib.IntN.{ℤ}
 use lib.ListN.{length, take, length-map}
 use lib.Seq.{take-at}
 use Rattle.refusals.specs.declared.Refusal.{Refusal}
-use Rattle.refusals.specs.declared.Refusal.the-variants.{LineCount, TextForm}
+use Rattle.refusals.specs.declared.Refusal.the-variants.{LineCount, TextForm, LentSize}
 use Rattle.words.specs.Kinds.{Row, rowsOf}
 use Rattle.words.specs.declared.Found.{Found}
 use Rattle.lines.specs.Reading.{closed, linesOf, formed, limited, reading, rowsIn, kindsOf, numbersOf, filled, roomFor, headOf, loopsLimits, ReadInto}
@@ -22,6 +22,7 @@ use Rattle.lines.specs.declared.Reading.the-variants.{Rows, Refused}
 use Rattle.loops.specs.declared.Checked.{Checked}
 use Rattle.loops.specs.declared.Checked.the-variants as checked
 use Rattle.loops.specs.Check.{afterReading, checkRows, checkText}
+use Rattle.loops.specs.Reading.{askRoom, afterCheck, readText, LoopsInto}
 
 limited-few : (limit n : ℕ) (r : Reading) → limited limit r ≡ Rows n → n ≤ limit
 limited-few limit n (Refused q) e = absurd (let z : _≡_ {A = ℕ} 0 1 = cc in omega arith)
@@ -39,10 +40,28 @@ rows-few head limits t n e = go (closed (limits .bytes) t) e
     go true e = limited-few (limits .lines) n (formed head 0 (linesOf t)) e
     go false e = absurd (let z : _≡_ {A = ℕ} 0 1 = cc in omega arith)
 
+no-pass : {A : Type 0} {q : Refusal} {w n : ℕ} → checked.Refused q ≡ checked.Passes w n → A
+no-pass e = absurd (let z : _≡_ {A = ℕ} 0 1 = cc in omega arith)
+
 rows-again : (R : List Row) → rowsOf (kindsOf R) (numbersOf R) ≡ R
 unfolding rowsOf
 rows-again [] = refl
 rows-again (r ∷ R) = ap (λ (x : List Row). r ∷ x) (rows-again R)
+
+-- room for n rows in slices of k and of m
+module _ (n k m : ℕ) where
+  pub short-kinds : k < n → (leb n k && leb n m) ≡ false
+  short-kinds h = simp (lt-leb n k h)
+
+  pub short-numbers : m < n → (leb n k && leb n m) ≡ false
+  short-numbers h = go (leb n k)
+    where
+      go : (b : Bool) → (b && leb n m) ≡ false
+      go true = lt-leb n m h
+      go false = refl
+
+  pub room-for : n ≤ k → n ≤ m → (leb n k && leb n m) ≡ true
+  room-for h g = simp (le-leb n k h, le-leb n m g)
 
 module _ (ws : List (List ℕ)) (t : List ℕ) where
   abbrev head : List ℕ → Found
@@ -77,3 +96,47 @@ module _ (ws : List (List ℕ)) (t : List ℕ) where
         let x = held (roomFor r (length ks) (length ns)) (kindsOf R) ks ks′ b (length-map R (λ (z : Row). z .0) ∙ rows-count) (i .kinds-left) in
         let y = held (roomFor r (length ks) (length ns)) (numbersOf R) ns ns′ b (length-map R (λ (z : Row). z .1) ∙ rows-count) (i .numbers-left) in
         q ∙ ap checkRows (ap₂ rowsOf x y ∙ rows-again R) ∙ ap (λ (x : Reading). afterReading x (checkRows R)) (sym f ∙ e)
+
+  -- ---- reading into a lent table
+
+  module _ (c : Checked) (ec : c ≡ checkText ws t) where
+    asked : (x : Checked) (kinds numbers : ℕ) → c ≡ x → afterCheck x (askRoom (length R) kinds numbers) ≡ readText ws t kinds numbers
+    unfolding readText
+    asked x kinds numbers e = ap (λ (y : Checked). afterCheck y (askRoom (length R) kinds numbers)) (sym e ∙ ec)
+
+    pub put-none : (q : Refusal) → c ≡ checked.Refused q → (ks : List ℕ) (ns : List ℤ) → LoopsInto ws t ks ns (Refused q) ks ns
+    put-none q e ks ns = record { answer = asked (checked.Refused q) (length ks) (length ns) e; kinds-left = refl; numbers-left = refl }
+
+    module _ (w n : ℕ) (passes : c ≡ checked.Passes w n) (ks ks′ : List ℕ) (ns ns′ : List ℤ) (r : Reading) (i : ReadInto head loopsLimits t ks ns r ks′ ns′) where
+      pub read-again : {A : Type 0} (q : Refusal) → r ≡ Refused q → A
+      unfolding checkText
+      read-again q e = no-pass (sym (ap (λ (x : Reading). afterReading x (checkRows R)) (sym (i .answer) ∙ e)) ∙ sym ec ∙ passes)
+
+      module _ (m : ℕ) (is : r ≡ Rows m) where
+        abbrev fits : Bool
+        fits = leb m (length ks) && leb m (length ns)
+
+        answered : (b : Bool) → fits ≡ b → cond b (Rows m) (Refused LentSize) ≡ readText ws t (length ks) (length ns)
+        answered b e =
+            ap (λ (x : Bool). cond x (Rows m) (Refused LentSize)) (sym e)
+            ∙ ap (λ (k : ℕ). askRoom k (length ks) (length ns)) (sym (rows-read head loopsLimits t m (sym (i .answer) ∙ is)))
+            ∙ asked (checked.Passes w n) (length ks) (length ns) passes
+
+        left : {A : Type 0} (b : Bool) → fits ≡ b → (column lent : List A) {then : List A}
+            → then ≡ filled (roomFor r (length ks) (length ns)) column lent → then ≡ filled b column lent
+        left b e column lent q =
+            q ∙ ap (λ (x : Reading). filled (roomFor x (length ks) (length ns)) column lent) is ∙ ap (λ (x : Bool). filled x column lent) e
+
+        pub put-short : fits ≡ false → LoopsInto ws t ks ns (Refused LentSize) ks′ ns′
+        put-short e = record {
+          answer = answered false e;
+          kinds-left = left false e (kindsOf R) ks (i .kinds-left);
+          numbers-left = left false e (numbersOf R) ns (i .numbers-left);
+        }
+
+        pub put-all : fits ≡ true → LoopsInto ws t ks ns (Rows m) ks′ ns′
+        put-all e = record {
+          answer = answered true e;
+          kinds-left = left true e (kindsOf R) ks (i .kinds-left);
+          numbers-left = left true e (numbersOf R) ns (i .numbers-left);
+        }

@@ -24,7 +24,7 @@ use Rattle.loops.specs.declared.commands.Weighed.{Weighed}
 use Rattle.loops.specs.declared.commands.Weighed.the-variants.{Passed, Refused}
 use Rattle.loops.specs.Bounds.{firstNo, askSet, askCommand}
 use Rattle.loops.specs.Rows.{Begins, counted, weighing, weighedRows, weighedWrites, onceOf, isLoop, HasRoom}
-use Rattle.loops.proofs.Readings.{Sets}
+use Rattle.loops.proofs.Sets.{Sets}
 use Rattle.loops.proofs.Tables as table
 use Rattle.loops.proofs.Tables.{part}
 

@@ -4,8 +4,9 @@ use mathlib.Core.List.{List}
 use mathlib.Core.Option.{Option, none, some}
 use Prim.Native.Nat.{ℕ}
 use lib.Dec.{leb}
+use lib.ListN.{length}
 use Rattle.refusals.specs.declared.Refusal.{Refusal}
-use Rattle.refusals.specs.declared.Refusal.the-variants.{WriteCount}
+use Rattle.refusals.specs.declared.Refusal.the-variants.{LineCount, WriteCount}
 use Rattle.words.specs.Kinds.{Row}
 use Rattle.words.specs.declared.Sort.the-variants as sort
 use Rattle.lines.specs.Reading.{linesOf, rowsIn, reading, headOf, loopsLimits}
@@ -17,7 +18,7 @@ use Rattle.meaning.specs.Layout.{need}
 use Rattle.meaning.specs.Counts.{commandWrites}
 use Rattle.syntax.specs.declared.Answer.{Answer}
 use Rattle.syntax.specs.declared.Answer.the-variants as walk
-use Rattle.syntax.specs.Walk.{walkTable}
+use Rattle.syntax.specs.Walk.{listedFrom, walkTable}
 use Rattle.syntax.specs.Reading.{loopsOf}
 use Rattle.loops.specs.declared.Needed.{Needed}
 use Rattle.loops.specs.declared.Needed.the-variants.{Cells, Refused as NoNeed}
@@ -54,6 +55,13 @@ afterWalk (walk.Refused q) next = Refused q
 
 unfoldable pub checkRows : List Row → Checked
 checkRows R = afterWalk (walkTable sort.Loops R) (checkLoops (loopsOf R))
+
+-- ---- loops as a table that was not read from a text
+
+-- Question 2 of the kinds; then "At most 256 lines (loops 4,096)?" of the rows; then what its rows are asked.
+unfoldable pub checkTable : List Row → Checked
+checkTable R =
+    afterWalk (listedFrom 0 R (walk.Passed (length R))) (cond (leb (length R) 4096) (checkRows R) (Refused LineCount))
 
 -- ---- loops as a text
 

@@ -4,13 +4,15 @@ ghost use mathlib.Core.Path.{_≡_};
 ghost use mathlib.Core.List.{_∷_};
 ghost use Prim.Native.Nat.{ℕ, min, _+_, _≤_, _<_};
 ghost use lib.ListN.{length, drop};
-ghost use Rattle.meaning.specs.Loops.{Command};
-ghost use Rattle.meaning.specs.Rows.{commandRows};
+ghost use Rattle.words.specs.Kinds.{rowsOf};
+ghost use Rattle.meaning.specs.Loops.{Command, Loops};
+ghost use Rattle.meaning.specs.Rows.{commandRows, loopsRows};
 ghost use Rattle.meaning.specs.Counts.{commandWrites};
 ghost use Rattle.syntax.specs.Walk.{passed};
-ghost use Rattle.loops.specs.Bounds.{askCommand};
+ghost use Rattle.syntax.specs.InRange.{LoopsInRange};
+ghost use Rattle.loops.specs.Bounds.{askCommand, askBounds};
 ghost use Rattle.loops.specs.Rows.{Begins, cellsOf, HasRoom, isLoop, onceOf, weighing, weighedRows, weighedWrites};
-use crate::bounds;
+use crate::assignments;
 use refusals::Refusal;
 use syntax::Answer;
 use syntax::ranges;
@@ -73,12 +75,15 @@ fn once(asked: Answer) -> Weighed
     requires { ⌜ passed asked < 18446744073709551615 ⌝ }
     ensures { λ r. ⌜ r ≡ onceOf asked ⌝ }
 {
-    match asked {
-        Answer::Passed(rows) => Weighed::Passed {
-            rows: 1 + rows,
-            writes: 1,
-        },
-        Answer::Refused(refusal) => Weighed::Refused(refusal),
+    let Answer::Passed(rows) = asked else {
+        let Answer::Refused(refusal) = asked else {
+            return Weighed::Passed { rows: 0, writes: 0 };
+        };
+        return Weighed::Refused(refusal);
+    };
+    Weighed::Passed {
+        rows: 1 + rows,
+        writes: 1,
     }
 }
 
@@ -107,7 +112,7 @@ pub fn weigh(
     let kind = kinds[0];
     let n = ranges::natural(numbers[0]);
     if kind == WORD_SET {
-        let asked = bounds::assignment(
+        let asked = assignments::assignment(
             &kinds[1..],
             &numbers[1..],
             &counters[c..],
@@ -163,4 +168,35 @@ pub fn weigh(
         rows: from + more,
         writes: capped(writes + others),
     }
+}
+
+// The command of the loops whose rows fill a table: `loops`, the `cells` rows of the inputs and of the output, and the command.
+pub fn weigh_loops(kinds: &[u8], numbers: &[i32]) -> Weighed
+    requires { ⌜ (length (now kinds) ≡ length (now numbers)) × (length (now kinds) ≤ 4096) ⌝ }
+    ensures { λ w. ⌜ ((L : Loops) → rowsOf (now (kinds .entry)) (now (numbers .entry)) ≡ loopsRows L → LoopsInRange L
+        → w ≡ weighing (length (commandRows (L .command))) (commandWrites (L .command)) (askBounds L)) ⌝ }
+{
+    if numbers.len() == 0 {
+        return Weighed::Refused(Refusal::RowDue(1));
+    }
+    let inputs = ranges::natural(numbers[0]);
+    if numbers.len() < inputs + 2 {
+        return Weighed::Refused(Refusal::RowDue(1));
+    }
+    let end = 1 + inputs;
+    let output = ranges::natural(numbers[end]);
+    let first = 2 + inputs;
+    let mut counters = [0usize; 32];
+    let mut regions = [0usize; 256];
+    weigh(
+        &kinds[first..],
+        &numbers[first..],
+        &mut counters,
+        32,
+        &mut regions,
+        256,
+        &numbers[1..end],
+        output,
+        first + 1,
+    )
 }

@@ -1,19 +1,20 @@
-// The check of loops, whoever wrote them: questions 1 to 6, 9 and 11 of document 01, and the need.
+// The check of loops, whoever wrote them: questions 1 to 6, 9 and 11 of document 01; the need; and reading loops into a lent table.
 ghost use mathlib.Core.Path.{_≡_};
-ghost use Prim.Native.Nat.{ℕ, _+_, _≤_, _<_};
+ghost use Prim.Native.Nat.{_≤_};
 ghost use lib.ListN.{length};
 ghost use Rattle.words.specs.Kinds.{rowsOf};
 ghost use Rattle.words.specs.Words.{words};
 ghost use Rattle.meaning.specs.Loops.{Loops};
 ghost use Rattle.meaning.specs.Rows.{loopsRows};
 ghost use Rattle.syntax.specs.InRange.{LoopsInRange};
-ghost use Rattle.loops.specs.Check.{checkLoops, checkRows, checkText, needOf};
+ghost use Rattle.loops.specs.Check.{checkLoops, checkRows, checkTable, checkText, needOf};
+ghost use Rattle.loops.specs.Reading.{LoopsInto};
 use commands::Weighed;
 use lines::Reading;
 use refusals::Refusal;
 use syntax::Answer;
-use syntax::ranges;
 
+mod assignments;
 mod bounds;
 mod cells;
 mod commands;
@@ -24,45 +25,30 @@ pub enum Checked {
     Refused(Refusal),
 }
 
+// The cells that loops need; or the first "no".
+pub enum Needed {
+    Cells(usize),
+    Refused(Refusal),
+}
+
 // Questions 9 and 11 of a table that walks well.
 fn judge(kinds: &[u8], numbers: &[i32]) -> Checked
     requires { ⌜ (length (now kinds) ≡ length (now numbers)) × (length (now kinds) ≤ 4096) ⌝ }
     ensures { λ r. ⌜ ((L : Loops) → rowsOf (now (kinds .entry)) (now (numbers .entry)) ≡ loopsRows L → LoopsInRange L → r ≡ checkLoops L) ⌝ }
 {
-    if numbers.len() == 0 {
-        return Checked::Refused(Refusal::RowDue(1));
+    let weighed = commands::weigh_loops(kinds, numbers);
+    let Weighed::Passed { rows: _, writes } = weighed else {
+        let Weighed::Refused(refusal) = weighed else {
+            return Checked::Refused(Refusal::WriteCount);
+        };
+        return Checked::Refused(refusal);
+    };
+    if 16777216 < writes {
+        return Checked::Refused(Refusal::WriteCount);
     }
-    let inputs = ranges::natural(numbers[0]);
-    if numbers.len() < inputs + 2 {
-        return Checked::Refused(Refusal::RowDue(1));
-    }
-    let end = 1 + inputs;
-    let output = ranges::natural(numbers[end]);
-    let first = 2 + inputs;
-    let mut counters = [0usize; 32];
-    let mut regions = [0usize; 256];
-    let weighed = commands::weigh(
-        &kinds[first..],
-        &numbers[first..],
-        &mut counters,
-        32,
-        &mut regions,
-        256,
-        &numbers[1..end],
-        output,
-        first + 1,
-    );
-    match weighed {
-        Weighed::Refused(refusal) => Checked::Refused(refusal),
-        Weighed::Passed { rows: _, writes } => {
-            if 16777216 < writes {
-                return Checked::Refused(Refusal::WriteCount);
-            }
-            Checked::Passes {
-                writes,
-                need: cells::need(kinds, numbers),
-            }
-        }
+    Checked::Passes {
+        writes,
+        need: cells::need(kinds, numbers),
     }
 }
 
@@ -72,10 +58,30 @@ fn check_rows(kinds: &[u8], numbers: &[i32]) -> Checked
     ensures { λ r. ⌜ r ≡ checkRows (rowsOf (now (kinds .entry)) (now (numbers .entry))) ⌝ }
 {
     let walked = syntax::walk_loops(kinds, numbers);
-    match walked {
-        Answer::Refused(refusal) => Checked::Refused(refusal),
-        Answer::Passed(_) => judge(kinds, numbers),
+    let Answer::Passed(_) = walked else {
+        let Answer::Refused(refusal) = walked else {
+            return Checked::Refused(Refusal::RowDue(1));
+        };
+        return Checked::Refused(refusal);
+    };
+    judge(kinds, numbers)
+}
+
+// The check of a lent table, whose rows are as many as the shorter slice has: questions 2 (of the kinds), 3 to 6, 9 and 11.
+pub fn check_table(kinds: &[u8], numbers: &[i32]) -> Checked
+    ensures { λ r. ⌜ r ≡ checkTable (rowsOf (now (kinds .entry)) (now (numbers .entry))) ⌝ }
+{
+    let listed = syntax::listed_rows(kinds, numbers);
+    let Answer::Passed(rows) = listed else {
+        let Answer::Refused(refusal) = listed else {
+            return Checked::Refused(Refusal::LineCount);
+        };
+        return Checked::Refused(refusal);
+    };
+    if 4096 < rows {
+        return Checked::Refused(Refusal::LineCount);
     }
+    check_rows(&kinds[..rows], &numbers[..rows])
 }
 
 // The check of a loops text: questions 1 to 6, 9 and 11.
@@ -85,21 +91,13 @@ pub fn check_text(text: &[u8]) -> Checked
     let mut kinds = [0u8; 4096];
     let mut numbers = [0i32; 4096];
     let read = lines::read_loops(text, &mut kinds, &mut numbers);
-    match read {
-        Reading::Refused(refusal) => Checked::Refused(refusal),
-        Reading::Rows(rows) => {
-            if 4096 < rows {
-                return Checked::Refused(Refusal::LineCount);
-            }
-            check_rows(&kinds[..rows], &numbers[..rows])
-        }
-    }
-}
-
-// The cells that loops need; or the first "no".
-pub enum Needed {
-    Cells(usize),
-    Refused(Refusal),
+    let Reading::Rows(rows) = read else {
+        let Reading::Refused(refusal) = read else {
+            return Checked::Refused(Refusal::TextForm);
+        };
+        return Checked::Refused(refusal);
+    };
+    check_rows(&kinds[..rows], &numbers[..rows])
 }
 
 // The need of a loops text, under the same questions.
@@ -107,8 +105,36 @@ pub fn need_text(text: &[u8]) -> Needed
     ensures { λ r. ⌜ r ≡ needOf (checkText words (now (text .entry))) ⌝ }
 {
     let checked = check_text(text);
-    match checked {
-        Checked::Refused(refusal) => Needed::Refused(refusal),
-        Checked::Passes { writes: _, need } => Needed::Cells(need),
+    let Checked::Passes { writes: _, need } = checked else {
+        let Checked::Refused(refusal) = checked else {
+            return Needed::Refused(Refusal::TextForm);
+        };
+        return Needed::Refused(refusal);
+    };
+    Needed::Cells(need)
+}
+
+// Reads a loops text into a lent table: the same questions, then 12. How many rows were put in front of both slices; or the first "no",
+// and both are as they were.
+pub fn read_text(text: &[u8], kinds: &mut [u8], numbers: &mut [i32]) -> Reading
+    ensures { λ r. ⌜ LoopsInto words (now (text .entry)) (now (kinds .entry)) (now (numbers .entry)) r (now (kinds .exit)) (now (numbers .exit)) ⌝ }
+{
+    let checked = check_text(text);
+    let Checked::Passes { writes: _, need: _ } = checked else {
+        let Checked::Refused(refusal) = checked else {
+            return Reading::Refused(Refusal::TextForm);
+        };
+        return Reading::Refused(refusal);
+    };
+    let read = lines::read_loops(text, kinds, numbers);
+    let Reading::Rows(rows) = read else {
+        return read;
+    };
+    if kinds.len() < rows {
+        return Reading::Refused(Refusal::LentSize);
     }
+    if numbers.len() < rows {
+        return Reading::Refused(Refusal::LentSize);
+    }
+    read
 }

@@ -8,11 +8,12 @@ use lib.ListN.{length, getD, set, length-set}
 use lib.Seq.{getD-set-same, getD-set-other}
 use Rattle.meaning.specs.Types.{DataType, number, array}
 use Rattle.type_table.specs.Table.{typeAt}
+use Rattle.type_table.specs.Columns.{Names}
 use Rattle.plans.specs.declared.scope.Scope.{Scope}
 use Rattle.plans.specs.Check.{isArray}
 use Rattle.plans.specs.Rules.{isMap, opensSecond, secondScope}
 use Rattle.plans.proofs.RuleLaws.{no-array}
-use Rattle.plans.specs.Scopes.{Names, InForce}
+use Rattle.plans.specs.Scopes.{InForce}
 
 module _ (T : List ℕ) (m : ℕ) (s : Scope) (I Γ : List DataType) (p : ℕ) (F : InForce T m s I Γ) (h : p < m) (room : s .count < 16) where
   innermost : getD (set (s .variables) (s .count) p) (s .count + 1 - (0 + 1)) 0 ≡ p
@@ -37,6 +38,7 @@ module _ (T : List ℕ) (m : ℕ) (s : Scope) (I Γ : List DataType) (p : ℕ) (
     variables = named;
     count = omega (arith, F .count);
     few = F .few;
+    deep = omega (arith, room);
     long = length-set (s .variables) (s .count) p ∙ F .long;
   }
 

@@ -5,14 +5,16 @@ use Prim.Native.Nat.{ℕ, suc, _+_, _-_, _≤_, _<_}
 use native.Mathlib.Omega.{arith}
 use native.Mathlib.Numerals.{add-one}
 use lib.IntN.{ℤ, pos}
-use lib.ListN.{length, getD, take, drop, length-append, length-drop}
+use lib.ListN.{length, getD, drop, length-append}
 use lib.Seq.{drop-at}
 use Rattle.refusals.specs.declared.Refusal.{Refusal}
-use Rattle.words.specs.Kinds.{Row, rowsOf}
+use Rattle.words.specs.Kinds.{Row, rowsOf, word-num, word-arr, word-two}
+use Rattle.words.specs.Laws.{rows-length}
 use Rattle.meaning.specs.Types.{DataType, number, array}
 use Rattle.meaning.specs.Rows.{typeRows}
 use Rattle.syntax.specs.Ranges.{asNatural}
-use Rattle.syntax.proofs.Steps.{part-all, rows-part}
+use Rattle.syntax.proofs.Steps.{rows-part}
+use Rattle.syntax.proofs.Standing.{part, part-length, head-row}
 use Rattle.type_table.specs.Table.{typeAt}
 use Rattle.plans.specs.Check.{Verdict, typed, refused, sized, checkType, afterOperand}
 use Rattle.plans.specs.Rules.{Grown, Found, Room}
@@ -21,13 +23,10 @@ use Rattle.plans.specs.declared.Typing.{Typing}
 use Rattle.plans.specs.declared.Typing.the-variants.{Typed, Refused}
 use Rattle.plans.proofs.Found.{found-type, found-on, was-typed, was-refused, sized-typed, grown-on}
 
-abbrev pub part : {A : Type 0} → ℕ → List A → List A
-part a l = take (length l - a) (drop a l)
-
 abbrev typeKind : DataType → ℕ
-typeKind number = 1
-typeKind (array n t) = 2
-typeKind (DataType.pair s t) = 3
+typeKind number = word-num
+typeKind (array n t) = word-arr
+typeKind (DataType.pair s t) = word-two
 
 abbrev typeNumber : DataType → ℕ
 typeNumber number = 0
@@ -45,25 +44,10 @@ type-head number = refl
 type-head (array n t) = refl
 type-head (DataType.pair s t) = refl
 
-rows-length : (ks : List ℕ) (ns : List ℤ) → length ks ≡ length ns → length (rowsOf ks ns) ≡ length ks
-unfolding rowsOf
-rows-length [] ns e = refl
-rows-length (k ∷ ks) [] e = absurd (omega arith)
-rows-length (k ∷ ks) (n ∷ ns) e = ap suc (rows-length ks ns (omega arith))
-
-head-row : (ks : List ℕ) (ns : List ℤ) (r : Row) (R : List Row) → rowsOf ks ns ≡ r ∷ R → (getD ks 0 0 ≡ r .0) × (getD ns 0 (pos 0) ≡ r .1)
-unfolding rowsOf
-head-row [] ns r R e = absurd (let z : _≡_ {A = ℕ} 0 1 = cc in omega arith)
-head-row (k ∷ ks) [] r R e = absurd (let z : _≡_ {A = ℕ} 0 1 = cc in omega arith)
-head-row (k ∷ ks) (n ∷ ns) r R e = let h : _≡_ {A = Row} (k, n) r = cc in (ap (λ (x : Row). x .0) h, ap (λ (x : Row). x .1) h)
-
-pub part-length : {A : Type 0} (a : ℕ) (l : List A) → length (part a l) ≡ length l - a
-part-length a l = rw (part-all l a) (length-drop a l)
-
 module _ (ks : List ℕ) (ns : List ℤ) where
   pub rows-within : (t : DataType) → TypeStands ks ns t → length (typeRows t) ≤ length ks
   rows-within t S =
-      omega (arith, rows-length ks ns (S .sizes), ap length (S .rows), length-append (typeRows t) (S .rest))
+      omega (arith, rows-length ks ns, S .sizes, ap length (S .rows), length-append (typeRows t) (S .rest))
 
   pub some-row : (t : DataType) → TypeStands ks ns t → 1 ≤ length ks
   some-row t S = let h = rows-within t S in omega (arith, ap length (type-head t), h)
@@ -131,7 +115,7 @@ next-line t line = ap (checkType t) (sym (add-one line))
 -- ---- the ways out of the recursion
 
 module _ (ks : List ℕ) (ns : List ℤ) (T : List ℕ) (m line : ℕ) where
-  pub number-row : (t : DataType) → TypeStands ks ns t → getD ks 0 0 ≡ 1 → Room T m (length ks) → 1 ≤ m → typeAt T 0 ≡ number
+  pub number-row : (t : DataType) → TypeStands ks ns t → getD ks 0 0 ≡ word-num → Room T m (length ks) → 1 ≤ m → typeAt T 0 ≡ number
       → Found T m T (m + length (typeRows t)) (length (typeRows t)) (checkType t line) (Typed 0 1 m)
   unfolding typeRows checkType
   number-row number S e R h f =
@@ -139,7 +123,7 @@ module _ (ks : List ℕ) (ns : List ℤ) (T : List ℕ) (m line : ℕ) where
   number-row (array n t) S e R h f = absurd (omega (arith, its-kind ks ns (array n t) S))
   number-row (DataType.pair s t) S e R h f = absurd (omega (arith, its-kind ks ns (DataType.pair s t) S))
 
-  pub first-some : (t : DataType) → TypeStands ks ns t → (getD ks 0 0 ≡ 1 → ⊥) → (u : DataType) × TypeStands (part 1 ks) (part 1 ns) u
+  pub first-some : (t : DataType) → TypeStands ks ns t → (getD ks 0 0 ≡ word-num → ⊥) → (u : DataType) × TypeStands (part 1 ks) (part 1 ns) u
   first-some number S f = absurd (f (its-kind ks ns number S))
   first-some (array n t) S f = (t, element-stands ks ns n t S)
   first-some (DataType.pair s t) S f = (s, first-stands ks ns s t S)
@@ -151,7 +135,7 @@ module _ (ks : List ℕ) (ns : List ℤ) (T : List ℕ) (m line : ℕ) where
     first-no u q S e =
         next-line u line ∙ was-refused T m U (m + length (typeRows u)) (length (typeRows u)) (checkType u (line + 1)) e (F u S)
 
-    pub refused-first : (t : DataType) (q : Refusal) → TypeStands ks ns t → (getD ks 0 0 ≡ 1 → ⊥) → r ≡ Refused q → checkType t line ≡ refused q
+    pub refused-first : (t : DataType) (q : Refusal) → TypeStands ks ns t → (getD ks 0 0 ≡ word-num → ⊥) → r ≡ Refused q → checkType t line ≡ refused q
     unfolding checkType
     refused-first number q S f e = absurd (f (its-kind ks ns number S))
     refused-first (array n t) q S f e =
@@ -167,7 +151,7 @@ module _ (ks : List ℕ) (ns : List ℤ) (T : List ℕ) (m line : ℕ) where
           let w = was-typed T m U (m + length (typeRows u)) (length (typeRows u)) (checkType u (line + 1)) e (F u S) in
           (spelt u (line + 1) (typeAt U p) (w .0), next-line u line ∙ w .0, w .1, w .2, w .3, w .4)
 
-      pub first-facts : (t : DataType) → TypeStands ks ns t → (getD ks 0 0 ≡ 1 → ⊥)
+      pub first-facts : (t : DataType) → TypeStands ks ns t → (getD ks 0 0 ≡ word-num → ⊥)
           → (1 + a ≤ length ks) × (p < l) × (l ≤ m + a) × Grown T m U l
       first-facts t S f =
           let h = first-some t S f in
@@ -175,14 +159,14 @@ module _ (ks : List ℕ) (ns : List ℤ) (T : List ℕ) (m line : ℕ) where
           let k = rows-within (part 1 ks) (part 1 ns) (h .0) (h .1) in
           (omega (arith, w .2, k, part-length 1 ks, some-row ks ns t S), w .3, omega (arith, w .2, w .4), w .5)
 
-      pub count-bounds : (t : DataType) (n : ℕ) → TypeStands ks ns t → getD ks 0 0 ≡ 2 → n ≡ asNatural (getD ns 0 (pos 0)) → (1 ≤ n) × (n ≤ 16777216)
+      pub count-bounds : (t : DataType) (n : ℕ) → TypeStands ks ns t → getD ks 0 0 ≡ word-arr → n ≡ asNatural (getD ns 0 (pos 0)) → (1 ≤ n) × (n ≤ 16777216)
       count-bounds number n S h g = absurd (omega (arith, its-kind ks ns number S))
       count-bounds (array k u) n S h g =
           let q : n ≡ k = g ∙ ap asNatural (heads ks ns (array k u) S .1) in
           (omega (arith, S .inRange .0 .0), omega (arith, S .inRange .0 .1))
       count-bounds (DataType.pair s u) n S h g = absurd (omega (arith, its-kind ks ns (DataType.pair s u) S))
 
-      pub array-row : (t : DataType) (n : ℕ) (X : List ℕ) (r′ : Typing) → TypeStands ks ns t → getD ks 0 0 ≡ 2 → n ≡ asNatural (getD ns 0 (pos 0))
+      pub array-row : (t : DataType) (n : ℕ) (X : List ℕ) (r′ : Typing) → TypeStands ks ns t → getD ks 0 0 ≡ word-arr → n ≡ asNatural (getD ns 0 (pos 0))
           → Found U l X (l + 1) (1 + a) (sized line (array n (typeAt U p))) r′
           → Found T m X (m + length (typeRows t)) (length (typeRows t)) (checkType t line) r′
       unfolding typeRows checkType
@@ -197,7 +181,7 @@ module _ (ks : List ℕ) (ns : List ℤ) (T : List ℕ) (m line : ℕ) where
           F′)
       array-row (DataType.pair s u) n X r′ S h g F′ = absurd (omega (arith, its-kind ks ns (DataType.pair s u) S))
 
-      pub second-some : (t : DataType) → TypeStands ks ns t → (getD ks 0 0 ≡ 1 → ⊥) → (getD ks 0 0 ≡ 2 → ⊥)
+      pub second-some : (t : DataType) → TypeStands ks ns t → (getD ks 0 0 ≡ word-num → ⊥) → (getD ks 0 0 ≡ word-arr → ⊥)
           → (u : DataType) × TypeStands (part (1 + a) ks) (part (1 + a) ns) u
       second-some number S f g = absurd (f (its-kind ks ns number S))
       second-some (array n t) S f g = absurd (g (its-kind ks ns (array n t) S))
@@ -208,7 +192,7 @@ module _ (ks : List ℕ) (ns : List ℤ) (T : List ℕ) (m line : ℕ) where
       module _ (X : List ℕ) (r′ : Typing) (line′ : ℕ) (at : line′ ≡ suc line + a)
           (G : (u : DataType) → TypeStands (part (1 + a) ks) (part (1 + a) ns) u
           → Found U l X (l + length (typeRows u)) (length (typeRows u)) (checkType u line′) r′) where
-        pub refused-second : (t : DataType) (q : Refusal) → TypeStands ks ns t → (getD ks 0 0 ≡ 1 → ⊥) → (getD ks 0 0 ≡ 2 → ⊥) → r′ ≡ Refused q
+        pub refused-second : (t : DataType) (q : Refusal) → TypeStands ks ns t → (getD ks 0 0 ≡ word-num → ⊥) → (getD ks 0 0 ≡ word-arr → ⊥) → r′ ≡ Refused q
             → checkType t line ≡ refused q
         unfolding checkType
         refused-second number q S f g h = absurd (f (its-kind ks ns number S))
@@ -228,7 +212,7 @@ module _ (ks : List ℕ) (ns : List ℤ) (T : List ℕ) (m line : ℕ) where
               let w = was-typed U l X (l + length (typeRows u)) (length (typeRows u)) (checkType u line′) h (G u S) in
               (spelt u line′ (typeAt X p′) (w .0), w .0, w .1, w .2, w .3, w .4)
 
-          pub second-facts : (t : DataType) → TypeStands ks ns t → (getD ks 0 0 ≡ 1 → ⊥) → (getD ks 0 0 ≡ 2 → ⊥)
+          pub second-facts : (t : DataType) → TypeStands ks ns t → (getD ks 0 0 ≡ word-num → ⊥) → (getD ks 0 0 ≡ word-arr → ⊥)
               → (1 + a + b ≤ length ks) × (p < l′) × (p′ < l′) × (l′ ≤ m + (a + b)) × Grown T m X l′
           second-facts t S f g =
               let c = first-facts t S f in
@@ -237,7 +221,7 @@ module _ (ks : List ℕ) (ns : List ℤ) (T : List ℕ) (m line : ℕ) where
               let k = rows-within (part (1 + a) ks) (part (1 + a) ns) (o .0) (o .1) in
               (omega (arith, w .2, k, part-length (1 + a) ks, c .0), omega (arith, c .1, w .5 .more), w .3, omega (arith, w .2, w .4, c .2), grown-on (c .3) (w .5))
 
-          pub pair-row : (t : DataType) (Y : List ℕ) (r″ : Typing) → TypeStands ks ns t → (getD ks 0 0 ≡ 1 → ⊥) → (getD ks 0 0 ≡ 2 → ⊥)
+          pub pair-row : (t : DataType) (Y : List ℕ) (r″ : Typing) → TypeStands ks ns t → (getD ks 0 0 ≡ word-num → ⊥) → (getD ks 0 0 ≡ word-arr → ⊥)
               → Found X l′ Y (l′ + 1) (1 + a + b) (sized line (DataType.pair (typeAt X p) (typeAt X p′))) r″
               → Found T m Y (m + length (typeRows t)) (length (typeRows t)) (checkType t line) r″
           unfolding typeRows checkType

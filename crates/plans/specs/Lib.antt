@@ -13,6 +13,8 @@ pub mod EntryQuestions
 pub mod Rules
 pub mod Scopes
 pub mod Terms
+pub mod Typed
+pub mod Reading
 -- Laws, and what is proved
 pub mod Laws
 pub mod Theorems

@@ -4,7 +4,7 @@ use mathlib.Core.Path.{_≡_}
 use mathlib.Core.Bool.{Bool, true, cond, _&&_}
 use mathlib.Core.List.{List, _∷_}
 use Prim.Native.Nat.{ℕ, _+_, _*_, _/_, _≤_, _<_}
-use lib.Dec.{eqb}
+use lib.Dec.{eqb, ltb}
 use lib.ListN.{length}
 use Rattle.words.specs.Kinds.{word-neg, word-mappar, word-mapseq, word-zip, word-pair, word-split, word-join, word-fst, word-snd}
 use Rattle.meaning.specs.Types.{DataType, number, array, arrayLength, element, firstType, secondType}
@@ -32,6 +32,10 @@ indexRule k line t = fitted line (indexFits k t) (element t)
 
 unfoldable pub negateRule : ℕ → DataType → Verdict
 negateRule line t = fitted line (isNumber t) number
+
+-- whether a term's row has one operand, where it has some
+abbrev pub oneOperand : ℕ → Bool
+oneOperand k = cond (eqb k word-neg) true (ltb word-pair k)
 
 -- a row of one operand
 unfoldable pub unaryRule : ℕ → ℕ → ℕ → DataType → Verdict

@@ -5,12 +5,8 @@ use mathlib.Core.List.{List}
 use Prim.Native.Nat.{ℕ, _+_, _-_, _≤_, _<_}
 use lib.ListN.{length, getD}
 use Rattle.meaning.specs.Types.{DataType, number}
-use Rattle.type_table.specs.Table.{typeAt}
+use Rattle.type_table.specs.Columns.{Names}
 use Rattle.plans.specs.declared.scope.Scope.{Scope}
-
--- the place p, one of the first m, has the type t
-abbrev pub Names : List ℕ → ℕ → ℕ → DataType → Type 0
-Names T m p t = (p < m) × (typeAt T p ≡ t)
 
 -- I are the types of the inputs, Γ those of the variables, innermost first
 pub record InForce (T : List ℕ) (m : ℕ) (s : Scope) (I Γ : List DataType) : Type 0 where
@@ -18,4 +14,5 @@ pub record InForce (T : List ℕ) (m : ℕ) (s : Scope) (I Γ : List DataType) :
   pub variables : (d : ℕ) → d < length Γ → Names T m (getD (s .variables) (s .count - (d + 1)) 0) (getD Γ d number)
   pub count : s .count ≡ length Γ
   pub few : length I ≤ 8
+  pub deep : s .count ≤ 16
   pub long : length (s .variables) ≡ 16

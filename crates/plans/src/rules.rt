@@ -16,7 +16,8 @@ use type_table::ArrayShape;
 use type_table::PairShape;
 use words::kinds::*;
 
-fn misfit(line: usize) -> Typing
+// The "no" to question 7.
+pub fn misfit(line: usize) -> Typing
     ensures { λ r. ⌜ r ≡ Refused (TypeMisfit line) ⌝ }
 {
     Typing::Refused(Refusal::TypeMisfit(line))

@@ -2,3 +2,5 @@ pub mod Words
 pub mod Numbers
 pub mod Steps
 pub mod Tables
+pub mod TermRows
+pub mod Standing

@@ -14,6 +14,7 @@ use lib.Seq.{drop-cons, drop-length, length-take-le}
 use Rattle.refusals.specs.declared.Refusal.{Refusal}
 use Rattle.refusals.specs.declared.Refusal.the-variants.{LineForm, RowDue}
 use Rattle.words.specs.Kinds.{Row, rowsOf, word-rest}
+use Rattle.words.specs.Laws.{rows-length}
 use Rattle.words.specs.declared.Sort.{Sort}
 use Rattle.syntax.specs.declared.Answer.{Answer}
 use Rattle.syntax.specs.declared.Answer.the-variants.{Passed, Refused}
@@ -21,6 +22,7 @@ use Rattle.syntax.specs.declared.operands.Due.{Due}
 use Rattle.syntax.specs.Names.{noNames}
 use Rattle.syntax.specs.Operands.{due}
 use Rattle.syntax.specs.Walk.{walkFrom, resume, listedFrom, firstUnlisted, walkTable}
+use Rattle.syntax.specs.Laws.Listed.{listed-walk, all-listed, one-unlisted}
 
 -- ---- the loop of question 2
 
@@ -76,12 +78,6 @@ listed-yes (k ∷ ks) (n ∷ ns) p v e h = go (ltb word-rest k) (λ g. listed-ye
 
 -- ---- the end of the walk
 
-rows-length : (ks : List ℕ) (ns : List ℤ) → length ks ≡ length ns → length (rowsOf ks ns) ≡ length ks
-unfolding rowsOf
-rows-length [] ns e = refl
-rows-length (k ∷ ks) [] e = absurd (omega arith)
-rows-length (k ∷ ks) (n ∷ ns) e = ap suc (rows-length ks ns (omega arith))
-
 rows-left : (R : List Row) (r p : ℕ) → r < length R → walkFrom p [] (drop r R) ≡ Refused (RowDue (suc p))
 unfolding walkFrom
 rows-left [] r p h = absurd (omega arith)
@@ -97,7 +93,7 @@ none-left (x ∷ R) (suc r) p h = none-left R r p (omega arith)
 
 -- ---- the table
 
-rows-take : (m : ℕ) (ks : List ℕ) (ns : List ℤ) → m ≡ min (length ks) (length ns) → rowsOf (take m ks) (take m ns) ≡ rowsOf ks ns
+pub rows-take : (m : ℕ) (ks : List ℕ) (ns : List ℤ) → m ≡ min (length ks) (length ns) → rowsOf (take m ks) (take m ns) ≡ rowsOf ks ns
 unfolding rowsOf
 rows-take zero [] ns e = refl
 rows-take zero (k ∷ ks) [] e = refl
@@ -106,7 +102,7 @@ rows-take (suc m) [] ns e = absurd (omega arith)
 rows-take (suc m) (k ∷ ks) [] e = absurd (omega arith)
 rows-take (suc m) (k ∷ ks) (n ∷ ns) e = ap (λ (r : List Row). (k, n) ∷ r) (rows-take m ks ns (omega arith))
 
-module _ (s : Sort) (ks : List ℕ) (ns : List ℤ) {m : ℕ} (em : m ≡ min (length ks) (length ns)) where
+module _ (ks : List ℕ) (ns : List ℤ) {m : ℕ} (em : m ≡ min (length ks) (length ns)) where
   pub kinds-length : length (take m ks) ≡ m
   kinds-length = length-take-le m ks (omega arith)
 
@@ -116,22 +112,50 @@ module _ (s : Sort) (ks : List ℕ) (ns : List ℤ) {m : ℕ} (em : m ≡ min (l
   abbrev R : List Row
   R = rowsOf (take m ks) (take m ns)
 
-  table-rows : (v : Answer) → v ≡ listedFrom 0 R (walkFrom 0 (due s noNames ∷ []) R) → v ≡ walkTable s (rowsOf ks ns)
-  unfolding walkTable
-  table-rows v e = e ∙ ap (λ (R : List Row). listedFrom 0 R (walkFrom 0 (due s noNames ∷ []) R)) (rows-take m ks ns em)
+  asked-part : (v w : Answer) → v ≡ listedFrom 0 R w → v ≡ listedFrom 0 (rowsOf ks ns) w
+  asked-part v w e = e ∙ ap (λ (R : List Row). listedFrom 0 R w) (rows-take m ks ns em)
 
   module _ {at : ℕ} (ea : at ≡ firstUnlisted (take m ks)) where
-    pub table-unlisted : at < m → Refused (LineForm (at + 1)) ≡ walkTable s (rowsOf ks ns)
-    table-unlisted h =
-        let z : suc (0 + firstUnlisted (take m ks)) ≡ at + 1 = omega arith in
-        table-rows (Refused (LineForm (at + 1)))
-        (sym (listed-no (take m ks) (take m ns) 0 (walkFrom 0 (due s noNames ∷ []) R) (kinds-length ∙ sym numbers-length) (omega (arith, kinds-length)) ∙ rw z))
+    abbrev asked : Answer
+    asked = listedFrom 0 (rowsOf ks ns) (Passed (length (rowsOf ks ns)))
 
-    module _ (all : m ≤ at) (a : Answer) (h : (ds : List Due) → walkFrom 0 (due s noNames ∷ ds) R ≡ resume a 0 ds R) where
-      table-walked : (v : Answer) → v ≡ resume a 0 [] R → v ≡ walkTable s (rowsOf ks ns)
+    pub rows-unlisted : at < m → Refused (LineForm (at + 1)) ≡ asked
+    rows-unlisted h =
+        let z : suc (0 + firstUnlisted (take m ks)) ≡ at + 1 = omega arith in
+        asked-part (Refused (LineForm (at + 1))) (Passed (length (rowsOf ks ns)))
+        (sym (listed-no (take m ks) (take m ns) 0 (Passed (length (rowsOf ks ns))) (kinds-length ∙ sym numbers-length) (omega (arith, kinds-length)) ∙ rw z))
+
+    pub rows-listed : m ≤ at → Passed m ≡ asked
+    rows-listed h =
+        ap Passed (em ∙ sym (rows-length ks ns))
+        ∙ asked-part (Passed (length (rowsOf ks ns))) (Passed (length (rowsOf ks ns)))
+        (sym (listed-yes (take m ks) (take m ns) 0 (Passed (length (rowsOf ks ns))) (kinds-length ∙ sym numbers-length) (omega (arith, kinds-length))))
+
+module _ (ks : List ℕ) (ns : List ℤ) {l : Answer} (el : l ≡ listedFrom 0 (rowsOf ks ns) (Passed (length (rowsOf ks ns)))) where
+  pub table-unlisted : (s : Sort) (q : Refusal) → l ≡ Refused q → l ≡ walkTable s (rowsOf ks ns)
+  unfolding walkTable
+  table-unlisted s q e = e ∙ sym (one-unlisted (rowsOf ks ns) 0 (length (rowsOf ks ns)) q _ (sym el ∙ e))
+
+  module _ (m : ℕ) (is : l ≡ Passed m) where
+    pub rows-shorter : m ≡ min (length ks) (length ns)
+    rows-shorter =
+        let e : Passed (length (rowsOf ks ns)) ≡ Passed m = listed-walk (rowsOf ks ns) 0 m _ (sym el ∙ is) in
+        let n : length (rowsOf ks ns) ≡ m = cc in
+        sym n ∙ rows-length ks ns
+
+    abbrev S : List Row
+    S = rowsOf (take m ks) (take m ns)
+
+    part-length : length S ≡ m
+    part-length = rows-length (take m ks) (take m ns) ∙ omega (arith, kinds-length ks ns rows-shorter, numbers-length ks ns rows-shorter)
+
+    module _ (s : Sort) (a : Answer) (h : (ds : List Due) → walkFrom 0 (due s noNames ∷ ds) S ≡ resume a 0 ds S) where
+      table-walked : (v : Answer) → v ≡ resume a 0 [] S → v ≡ walkTable s (rowsOf ks ns)
+      unfolding walkTable
       table-walked v e =
-          table-rows v
-          (e ∙ sym (h []) ∙ sym (listed-yes (take m ks) (take m ns) 0 (walkFrom 0 (due s noNames ∷ []) R) (kinds-length ∙ sym numbers-length) (omega (arith, kinds-length))))
+          e ∙ sym (h [])
+          ∙ ap (walkFrom 0 (due s noNames ∷ [])) (rows-take m ks ns rows-shorter)
+          ∙ sym (all-listed (rowsOf ks ns) 0 m _ _ (sym el ∙ is))
 
       pub table-no : (q : Refusal) → a ≡ Refused q → a ≡ walkTable s (rowsOf ks ns)
       table-no q e = table-walked a (rw e)
@@ -139,12 +163,10 @@ module _ (s : Sort) (ks : List ℕ) (ns : List ℤ) {m : ℕ} (em : m ≡ min (l
       pub table-more : (end : ℕ) → a ≡ Passed end → end < m → Refused (RowDue (end + 1)) ≡ walkTable s (rowsOf ks ns)
       table-more end e l =
           let z : suc (0 + end) ≡ end + 1 = omega arith in
-          let o : walkFrom (0 + end) [] (drop end R) ≡ Refused (RowDue (end + 1)) =
-          rows-left R end (0 + end) (omega (arith, rows-length (take m ks) (take m ns) (kinds-length ∙ sym numbers-length), kinds-length)) ∙ rw z in
+          let o : walkFrom (0 + end) [] (drop end S) ≡ Refused (RowDue (end + 1)) = rows-left S end (0 + end) (omega (arith, part-length)) ∙ rw z in
           table-walked (Refused (RowDue (end + 1))) (sym (rw e o))
 
       pub table-passed : (end : ℕ) → a ≡ Passed end → m ≤ end → Passed end ≡ walkTable s (rowsOf ks ns)
       table-passed end e l =
-          let o : walkFrom (0 + end) [] (drop end R) ≡ Passed end =
-          none-left R end (0 + end) (omega (arith, rows-length (take m ks) (take m ns) (kinds-length ∙ sym numbers-length), kinds-length)) ∙ rw zero-add in
+          let o : walkFrom (0 + end) [] (drop end S) ≡ Passed end = none-left S end (0 + end) (omega (arith, part-length)) ∙ rw zero-add in
           table-walked (Passed end) (sym (rw e o))

@@ -4,5 +4,6 @@ pub mod Operands
 pub mod Walk
 pub mod InRange
 pub mod Reading
+pub mod Standing
 pub mod Theorems
 pub mod Laws

@@ -11,7 +11,8 @@ ghost use lib.ListN.{length};
 ghost use Rattle.words.specs.Kinds.{rowsOf};
 ghost use Rattle.words.specs.declared.Sort.the-variants.{Plan as PlanSort, Loops as LoopsSort};
 ghost use Rattle.syntax.specs.Names.{Bounded};
-ghost use Rattle.syntax.specs.Walk.{askRow, walkFrom, resume, passed, firstUnlisted, walkTable};
+ghost use Rattle.syntax.specs.Walk.{askRow, walkFrom, resume, passed, firstUnlisted, listedFrom, walkTable};
+ghost use Rattle.syntax.specs.declared.Answer.the-variants.{Passed};
 ghost use Rattle.syntax.specs.declared.operands.Due.{Due};
 use crate::operands::Due;
 use refusals::Refusal;
@@ -76,7 +77,7 @@ fn walk(kinds: &[u8], numbers: &[i32], before: usize, due: Due) -> Answer
     Answer::Passed(rows)
 }
 
-// How many kinds stand before the first that is no word: question 2, of a table that was not read from a text.
+// How many kinds stand before the first that is no word.
 fn listed(kinds: &[u8]) -> usize
     ensures { λ r. ⌜ r ≡ firstUnlisted (now (kinds .entry)) ⌝ }
 {
@@ -99,15 +100,28 @@ fn shorter(a: usize, b: usize) -> usize
     b
 }
 
-// The rows of a table, as many as the shorter slice has, of which one row of this sort is due.
-fn walk_table(kinds: &[u8], numbers: &[i32], sort: Sort) -> Answer
-    ensures { λ r. ⌜ r ≡ walkTable sort (rowsOf (now (kinds .entry)) (now (numbers .entry))) ⌝ }
+// Question 2 of a table that was not read from a text: how many rows it has, as many as the shorter slice; or its first kind that is
+// no word.
+pub fn listed_rows(kinds: &[u8], numbers: &[i32]) -> Answer
+    ensures bounds { λ r. ⌜ (passed r ≤ length (now (kinds .entry))) × (passed r ≤ length (now (numbers .entry))) ⌝ }
+    ensures result { λ r. ⌜ r ≡ listedFrom 0 (rowsOf (now (kinds .entry)) (now (numbers .entry))) (Passed (length (rowsOf (now (kinds .entry)) (now (numbers .entry))))) ⌝ }
 {
     let rows = shorter(kinds.len(), numbers.len());
     let words = listed(&kinds[..rows]);
     if words < rows {
         return Answer::Refused(Refusal::LineForm(words + 1));
     }
+    Answer::Passed(rows)
+}
+
+// A table of which one row of this sort is due.
+fn walk_table(kinds: &[u8], numbers: &[i32], sort: Sort) -> Answer
+    ensures { λ r. ⌜ r ≡ walkTable sort (rowsOf (now (kinds .entry)) (now (numbers .entry))) ⌝ }
+{
+    let listed = listed_rows(kinds, numbers);
+    let Answer::Passed(rows) = listed else {
+        return listed;
+    };
     let names = names::in_force(0, 0, 0, 0);
     let walked = walk(&kinds[..rows], &numbers[..rows], 0, Due { sort, names });
     let Answer::Passed(end) = walked else {

@@ -9,28 +9,48 @@ use Rattle.loops.proofs.check_rows.Tie as tie
 walk-loops-requires : tie.Need-walk-loops-requires
 walk-loops-requires c κs = search needs
 
+enum-told : tie.Need-enum-told
+enum-told c = search needs
+
 enum-known-walked : tie.Need-enum-known-walked
 enum-known-walked c = search needs
 
-enum-told : tie.Need-enum-told
-enum-told c = search needs
+enum-known-walked-2 : tie.Need-enum-known-walked-2
+enum-known-walked-2 c = search needs
+
+enum-told-2 : tie.Need-enum-told-2
+enum-told-2 c = search needs
+
+returns : tie.Need-returns
+returns c = search needs
+
+returns-2 : tie.Need-returns-2
+returns-2 c =
+    let a = c .before .before .before .before .before .before .before .before .args in
+    let walk-loops = c .before .before .before .before .before .before .walk-loops in
+    let walked = c .before .before .before .before .walked in
+    judged.rows-refused (rowsOf (a .kinds .now) (a .numbers .now)) _ (sym (walk-loops .ensures) ∙ walked .given .1 ∙ c .before .walked2 .given .1)
 
 judge-requires : tie.Need-judge-requires
 judge-requires c κs = search needs
 
-returns : tie.Need-returns
-returns c =
+returns-3 : tie.Need-returns-3
+returns-3 c =
     let a = c .before .before .before .before .before .args in
-    judged.rows-refused (rowsOf (a .kinds .now) (a .numbers .now)) _
-    (sym (c .before .before .before .walk-loops .ensures) ∙ c .before .walked .given .1)
-
-returns-2 : tie.Need-returns-2
-returns-2 c =
-    let a = c .before .before .before .before .before .args in
+    let walk-loops = c .before .before .before .walk-loops in
     judged.rows-judged (rowsOf (a .kinds .now) (a .numbers .now)) _ (c .judge .result)
-    (sym (c .before .before .before .walk-loops .ensures) ∙ c .before .enum-told .given .1) (c .judge .ensures)
+    (sym (walk-loops .ensures) ∙ c .before .enum-told .given .1) (c .judge .ensures)
 
 pub check-rows-spec : {M : Type 1} → statement M
 check-rows-spec =
     tie.close
-    (tie.spec walk-loops-requires enum-known-walked enum-told judge-requires returns returns-2)
+    (tie.spec
+    walk-loops-requires
+    enum-told
+    enum-known-walked
+    enum-known-walked-2
+    enum-told-2
+    returns
+    returns-2
+    judge-requires
+    returns-3)

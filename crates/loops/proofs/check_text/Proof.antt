@@ -24,63 +24,70 @@ enum-known-read c = search needs
 enum-known-read-2 : tie.Need-enum-known-read-2
 enum-known-read-2 c = search needs
 
+enum-known-read-3 : tie.Need-enum-known-read-3
+enum-known-read-3 c = search needs
+
+enum-told : tie.Need-enum-told
+enum-told c = search needs
+
 returns : tie.Need-returns
-returns c =
-    let read-loops = c .before .before .before .before .before .before .read-loops in
-    let read2 = c .before .before .read2 in
-    absurd
-    (omega (arith, texts.text-few words (c .before .before .before .before .before .before .before .before .before .before .args .text .now) (read-loops .result) (read2 .given .0 .0) (read-loops .ensures .answer) (read2 .given .1), c .if1 .taken))
-
-array-share-prefix-kinds : tie.Need-array-share-prefix-kinds
-array-share-prefix-kinds c = search needs
-
-slice-aggregate-check-rows : tie.Need-slice-aggregate-check-rows
-slice-aggregate-check-rows c =
-    let read-loops = c .before .before .before .before .before .before .before .read-loops in
-    let k : length (c .before .before .before .before .before .before .before .read-loops .last .1 .0) ≡ 4096 =
-    read-loops .kept .1 .0 in
-    sym
-    (length-take-le (c .before .before .before .read2 .given .0 .0) (read-loops .last .1 .0) (omega (arith, c .before .if1 .left)))
-
-array-share-prefix-numbers : tie.Need-array-share-prefix-numbers
-array-share-prefix-numbers c = search needs
-
-slice-aggregate-check-rows-2 : tie.Need-slice-aggregate-check-rows-2
-slice-aggregate-check-rows-2 c =
-    let read-loops = c .before .before .before .before .before .before .before .before .read-loops in
-    let k : length (c .before .before .before .before .before .before .before .before .read-loops .last .1 .1 .0) ≡ 4096
-    = read-loops .kept .1 .1 .0 in
-    sym
-    (length-take-le (c .before .before .before .before .read2 .given .0 .0) (read-loops .last .1 .1 .0) (omega (arith, c .before .before .if1 .left)))
-
-check-rows-requires : tie.Need-check-rows-requires
-check-rows-requires c κs =
-    let read-loops = c .before .before .before .before .before .before .before .before .read-loops in
-    let read2 = c .before .before .before .before .read2 in
-    let k : length (c .before .before .before .before .before .before .before .before .read-loops .last .1 .0) ≡ 4096 =
-    read-loops .kept .1 .0 in
-    let l : length (c .before .before .before .before .before .before .before .before .read-loops .last .1 .1 .0) ≡ 4096
-    = read-loops .kept .1 .1 .0 in
-    let x = length-take-le (read2 .given .0 .0) (read-loops .last .1 .0) (omega (arith, c .before .before .if1 .left))
-    in
-    let y = length-take-le (read2 .given .0 .0) (read-loops .last .1 .1 .0)
-    (omega (arith, c .before .before .if1 .left)) in
-    (x ∙ sym y, omega (arith, x, c .before .before .if1 .left))
+returns c = search needs
 
 returns-2 : tie.Need-returns-2
 returns-2 c =
+    let a = c .before .before .before .before .before .before .before .before .before .before .before .before .args in
+    let read-loops = c .before .before .before .before .before .before .before .before .read-loops in
+    let read2 = c .before .before .before .before .read2 in
+    texts.text-refused words (a .text .now) (read-loops .result) _ (read-loops .ensures .answer) (read2 .given .1 ∙ c .before .read3 .given .1)
+
+array-share-prefix-kinds : tie.Need-array-share-prefix-kinds
+array-share-prefix-kinds c =
+    let a = c .before .before .before .before .before .before .before .before .before .args in
     let read-loops = c .before .before .before .before .before .read-loops in
-    texts.text-refused words
-    (c .before .before .before .before .before .before .before .before .before .args .text .now) (read-loops .result) _
-    (read-loops .ensures .answer) (c .before .read .given .1)
+    omega (arith, texts.text-few words (a .text .now) (read-loops .result) _ (read-loops .ensures .answer) (c .before .read .given .1))
+
+slice-aggregate-check-rows : tie.Need-slice-aggregate-check-rows
+slice-aggregate-check-rows c =
+    let a = c .before .before .before .before .before .before .before .before .before .before .args in
+    let read-loops = c .before .before .before .before .before .before .read-loops in
+    let read = c .before .before .read in
+    let few = texts.text-few words (a .text .now) (read-loops .result) _ (read-loops .ensures .answer) (read .given .1) in
+    let k : length (read-loops .last .1 .0) ≡ 4096 = read-loops .kept .1 .0 in
+    sym (length-take-le (read .given .0 .0) (read-loops .last .1 .0) (omega (arith, few, k)))
+
+array-share-prefix-numbers : tie.Need-array-share-prefix-numbers
+array-share-prefix-numbers c =
+    let a = c .before .before .before .before .before .before .before .before .before .before .args in
+    let read-loops = c .before .before .before .before .before .before .read-loops in
+    omega (arith, texts.text-few words (a .text .now) (read-loops .result) _ (read-loops .ensures .answer) (c .before .before .read .given .1))
+
+slice-aggregate-check-rows-2 : tie.Need-slice-aggregate-check-rows-2
+slice-aggregate-check-rows-2 c =
+    let a = c .before .before .before .before .before .before .before .before .before .before .before .args in
+    let read-loops = c .before .before .before .before .before .before .before .read-loops in
+    let read = c .before .before .before .read in
+    let few = texts.text-few words (a .text .now) (read-loops .result) _ (read-loops .ensures .answer) (read .given .1) in
+    let k : length (read-loops .last .1 .1 .0) ≡ 4096 = read-loops .kept .1 .1 .0 in
+    sym (length-take-le (read .given .0 .0) (read-loops .last .1 .1 .0) (omega (arith, few, k)))
+
+check-rows-requires : tie.Need-check-rows-requires
+check-rows-requires c κs =
+    let a = c .before .before .before .before .before .before .before .before .before .before .before .args in
+    let read-loops = c .before .before .before .before .before .before .before .read-loops in
+    let read = c .before .before .before .read in
+    let few = texts.text-few words (a .text .now) (read-loops .result) _ (read-loops .ensures .answer) (read .given .1) in
+    let k : length (read-loops .last .1 .0) ≡ 4096 = read-loops .kept .1 .0 in
+    let l : length (read-loops .last .1 .1 .0) ≡ 4096 = read-loops .kept .1 .1 .0 in
+    let x = length-take-le (read .given .0 .0) (read-loops .last .1 .0) (omega (arith, few, k)) in
+    let y = length-take-le (read .given .0 .0) (read-loops .last .1 .1 .0) (omega (arith, few, l)) in
+    (x ∙ sym y, omega (arith, x, few))
 
 returns-3 : tie.Need-returns-3
 returns-3 c =
-    let read-loops = c .before .before .before .before .before .before .before .before .before .read-loops in
-    let read2 = c .before .before .before .before .before .read2 in
-    texts.text-checked words
-    (c .before .before .before .before .before .before .before .before .before .before .before .before .before .args .text .now)
-    (read-loops .result) (read2 .given .0 .0) (read-loops .ensures .answer) (read2 .given .1) _ _ _ _
+    let a = c .before .before .before .before .before .before .before .before .before .before .before .before .args in
+    let read-loops = c .before .before .before .before .before .before .before .before .read-loops in
+    let read = c .before .before .before .before .read in
+    texts.text-checked words (a .text .now) (read-loops .result) (read .given .0 .0) (read-loops .ensures .answer) (read .given .1) _ _ _ _
     (c .check-rows .result) refl refl (read-loops .ensures) (c .check-rows .ensures)
 
 pub check-text-spec : {M : Type 1} → statement M
@@ -92,11 +99,13 @@ check-text-spec =
     read-loops-requires
     enum-known-read
     enum-known-read-2
+    enum-known-read-3
+    enum-told
     returns
+    returns-2
     array-share-prefix-kinds
     slice-aggregate-check-rows
     array-share-prefix-numbers
     slice-aggregate-check-rows-2
     check-rows-requires
-    returns-2
     returns-3)

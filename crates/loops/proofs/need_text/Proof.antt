@@ -14,13 +14,35 @@ enum-known-checked c = search needs
 enum-known-checked-2 : tie.Need-enum-known-checked-2
 enum-known-checked-2 c = search needs
 
+enum-known-checked-3 : tie.Need-enum-known-checked-3
+enum-known-checked-3 c = search needs
+
+enum-told : tie.Need-enum-told
+enum-told c = search needs
+
 returns : tie.Need-returns
-returns c = sym (ap needOf (sym (c .before .before .before .check-text .ensures) ∙ c .before .checked .given .1))
+returns c = search needs
 
 returns-2 : tie.Need-returns-2
-returns-2 c = sym (ap needOf (sym (c .before .before .before .check-text .ensures) ∙ c .before .checked2 .given .1))
+returns-2 c =
+    let check-text = c .before .before .before .before .before .before .check-text in
+    let checked2 = c .before .before .before .before .checked2 in
+    sym (ap needOf (sym (check-text .ensures) ∙ checked2 .given .1 ∙ c .before .checked3 .given .1))
+
+returns-3 : tie.Need-returns-3
+returns-3 c =
+    let check-text = c .before .before .before .check-text in
+    sym (ap needOf (sym (check-text .ensures) ∙ c .before .checked .given .1))
 
 pub need-text-spec : {M : Type 1} → statement M
 need-text-spec =
     tie.close
-    (tie.spec check-text-requires enum-known-checked enum-known-checked-2 returns returns-2)
+    (tie.spec
+    check-text-requires
+    enum-known-checked
+    enum-known-checked-2
+    enum-known-checked-3
+    enum-told
+    returns
+    returns-2
+    returns-3)

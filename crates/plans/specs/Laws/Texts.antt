@@ -41,7 +41,7 @@ use Rattle.plans.specs.Laws.Rows.{passed-rows, accepted-rows, admitted-r
 -- ---- rows that are read
 
 -- a text that is read has at most 4,096 bytes and 256 lines
-read-within : (head : List ℕ → Found) (t : List ℕ) (n : ℕ) → reading head planLimits t ≡ read.Rows n → (length t ≤ 4096) × (n ≤ 256)
+pub read-within : (head : List ℕ → Found) (t : List ℕ) (n : ℕ) → reading head planLimits t ≡ read.Rows n → (length t ≤ 4096) × (n ≤ 256)
 unfolding readQuestions
 read-within head t n e =
     let a = end-asked read.Refused (readQuestions head t) (read.Rows (length (linesOf t))) (read.Rows n)

@@ -7,6 +7,7 @@ use native.Mathlib.Omega.{arith}
 use borrow.Author.Tests.{ltb-true}
 use lib.Dec.{ltb}
 use lib.ListN.{length, List·getD-eq-default}
+use Rattle.refusals.specs.declared.Refusal.{Refusal}
 use Rattle.refusals.specs.declared.Refusal.the-variants.{LineForm}
 use Rattle.words.specs.Kinds.{Row, word-rest}
 use Rattle.words.specs.Words.{entry, table, operandsAs, operandsOf}
@@ -56,13 +57,36 @@ walk-listed (r ∷ rs) p m (d ∷ ds) e q v =
     let a = asked d (r .0) (asNatural (r .1)) (suc p) (w .0) (w .1) in
     rw (word-listed (r .0) (d .sort) (a .count) (a .of)) (walk-listed rs (suc p) m (operandsDue d (r .0) (asNatural (r .1)) (w .0) ++ ds) (w .2) (suc q) v)
 
-listed-walk : (R : List Row) (q m : ℕ) (v : Answer) → listedFrom q R v ≡ Passed m → v ≡ Passed m
+pub listed-walk : (R : List Row) (q m : ℕ) (v : Answer) → listedFrom q R v ≡ Passed m → v ≡ Passed m
 unfolding listedFrom
 listed-walk [] q m v e = e
 listed-walk (r ∷ rs) q m v e = go (ltb word-rest (r .0)) (listed-walk rs (suc q) m v) e
   where
     go : (b : Bool) → (listedFrom (suc q) rs v ≡ Passed m → v ≡ Passed m) → cond b (Refused (LineForm (suc q))) (listedFrom (suc q) rs v) ≡ Passed m → v ≡ Passed m
     go true f e = absurd (let y : _≡_ {A = ℕ} 0 1 = cc in omega arith)
+    go false f e = f e
+
+-- ---- question 2 of the kinds does not depend on what is asked behind it
+
+pub all-listed : (R : List Row) (p m : ℕ) (v w : Answer) → listedFrom p R v ≡ Passed m → listedFrom p R w ≡ w
+unfolding listedFrom
+all-listed [] p m v w e = refl
+all-listed (r ∷ rs) p m v w e = go (ltb word-rest (r .0)) (all-listed rs (suc p) m v w) e
+  where
+    go : (b : Bool) → (listedFrom (suc p) rs v ≡ Passed m → listedFrom (suc p) rs w ≡ w)
+        → cond b (Refused (LineForm (suc p))) (listedFrom (suc p) rs v) ≡ Passed m → cond b (Refused (LineForm (suc p))) (listedFrom (suc p) rs w) ≡ w
+    go true f e = absurd (let y : _≡_ {A = ℕ} 0 1 = cc in omega arith)
+    go false f e = f e
+
+pub one-unlisted : (R : List Row) (p m : ℕ) (q : Refusal) (w : Answer) → listedFrom p R (Passed m) ≡ Refused q → listedFrom p R w ≡ Refused q
+unfolding listedFrom
+one-unlisted [] p m q w e = absurd (let y : _≡_ {A = ℕ} 0 1 = cc in omega arith)
+one-unlisted (r ∷ rs) p m q w e = go (ltb word-rest (r .0)) (one-unlisted rs (suc p) m q w) e
+  where
+    go : (b : Bool) → (listedFrom (suc p) rs (Passed m) ≡ Refused q → listedFrom (suc p) rs w ≡ Refused q)
+        → cond b (Refused (LineForm (suc p))) (listedFrom (suc p) rs (Passed m)) ≡ Refused q
+        → cond b (Refused (LineForm (suc p))) (listedFrom (suc p) rs w) ≡ Refused q
+    go true f e = e
     go false f e = f e
 
 -- ---- a whole table

@@ -567,7 +567,7 @@ largest-returns-5 t c =
       offsets.large (a .kinds .now) (a .numbers .now) (counterBound (a .counters .now)) _ (largest .result .value)
           (largest .result .rows) refl (c .before .before .before .before .before .before .before .before .if2 .left)
           (c .before .before .before .before .before .before .before .if3 .left) (c .before .before .if4 .left)
-          (largest .ensures .1) (c .if5 .taken),
+          (largest .ensures .1) (omega (arith, c .if5 .taken)),
     )
 
 largest-scaled-requires : (t : ℕ) → largest-lts.Need-scaled-requires (
@@ -627,7 +627,7 @@ largest-returns-6 t c =
           (c .before .before .before .before .before .before .before .before .before .before .if2 .left)
           (c .before .before .before .before .before .before .before .before .before .if3 .left)
           (c .before .before .before .before .if4 .left) (largest .ensures .1) (c .capped4 .result) (scaled .result)
-          (natural .result) (c .before .before .if5 .left)
+          (natural .result) (omega (arith, c .before .before .if5 .left))
           (natural-of (getD (a .numbers .now) 0 (pos 0)) (record { sfits = c .before .before .before .before .before .before .before .before .before .before .before .before .natural-arg .given }) (natural .ensures .0))
           (scaled .ensures .0) (scaled .ensures .1 .0) (scaled .ensures .1 .1) (c .capped4 .ensures .0),
     )

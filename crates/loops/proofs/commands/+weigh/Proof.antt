@@ -22,7 +22,7 @@ use Rattle.loops.proofs.commands.weigh.Kinds as weigh-kinds
 use Rattle.loops.proofs.commands.+weigh.Lts-weigh as weigh-lts
 use Rattle.loops.proofs.commands.+weigh.{statement}
 use Rattle.loops.proofs.commands.+weigh.Tie.{close}
-use Rattle.loops.proofs.bounds.assignment.Reads as assignment-reads
+use Rattle.loops.proofs.assignments.assignment.Reads as assignment-reads
 use Rattle.loops.proofs.commands.capped.Reads as capped-reads
 use Rattle.loops.proofs.commands.is_loop.Reads as is-loop-reads
 use Rattle.loops.proofs.commands.once.Reads as once-reads

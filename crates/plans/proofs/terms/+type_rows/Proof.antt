@@ -7,9 +7,10 @@ use mathlib.Core.Path.{_∙_}
 use Prim.Native.Nat.{ℕ, _<_, _+_}
 use borrow.Fn.Kinds.{In}
 use borrow.Fn.PlainCycle.{Measures, is, falls, and}
-use Rattle.plans.proofs.TypeLaws.{some-row, part-length, number-row, first-some, refused-first, first-facts, count-bounds, array-row, second-some, refused-second, second-facts, pair-row}
+use Rattle.plans.proofs.TypeLaws.{some-row, number-row, first-some, refused-first, first-facts, count-bounds, array-row, second-some, refused-second, second-facts, pair-row}
 use Rattle.plans.proofs.Found.{found-no, room-less, room-grown}
 use Rattle.syntax.proofs.Numbers.{natural-of}
+use Rattle.syntax.proofs.Standing.{part-length}
 use Rattle.plans.proofs.terms.type_rows.Reads as type-rows
 use Rattle.plans.proofs.terms.type_rows.Kinds as type-rows-kinds
 use Rattle.plans.proofs.terms.+type_rows.Lts-type_rows as type-rows-lts

@@ -1,0 +1,509 @@
+-- `put_assign` meets its contract: by the type; the nodes that a step needs are put behind those in use.
+use native.Mathlib.Omega.{arith}
+use borrow.Author.Needs.{needs}
+use Prim.Native.Nat.{ℕ, _<_, _+_}
+use borrow.Fn.Kinds.{In}
+use borrow.Fn.PlainCycle.{Measures, is, falls, and}
+use Rattle.emission.specs.Laws.Assign.{both-grown, array-levels, pair-levels, few-elements, assign-number, assign-array, assign-pair, pair-grown}
+use Rattle.emission.specs.Laws.Offsets.{is-number}
+use Rattle.emission.specs.Laws.Growth.{grown-none, grown-more}
+use Rattle.emission.specs.Laws.Table.{put-none-past}
+use Rattle.type_table.specs.Laws.{sound-below, told-array, told-no-array, told-pair, told-no-pair}
+use Rattle.emission.proofs.assign.put_assign.Reads as put-assign
+use Rattle.emission.proofs.assign.put_assign.Kinds as put-assign-kinds
+use Rattle.emission.proofs.assign.+put_assign.Lts-put_assign as put-assign-lts
+use Rattle.emission.proofs.assign.push_both.Reads as push-both-reads
+use Rattle.emission.proofs.assign.put_set.Reads as put-set-reads
+use Rattle.emission.proofs.rows.put_count.Reads as put-count-reads
+use Rattle.type_table.proofs.as_array.Reads as as-array-reads
+use Rattle.type_table.proofs.as_pair.Reads as as-pair-reads
+use Rattle.emission.proofs.assign.+put_assign.{statement}
+use Rattle.emission.proofs.assign.+put_assign.Tie.{close}
+
+abbrev μ-put-assign : Measures 5 put-assign-kinds.ps ℕ
+μ-put-assign κs a = a .1 .1 .1 .1 .1 .0
+
+abbrev put-assign-at : ℕ → In 5 put-assign-kinds.ps
+put-assign-at t =
+    and 5 put-assign-kinds.ps (is 5 put-assign-kinds.ps μ-put-assign t) put-assign.Pre
+
+abbrev put-assign-below : ℕ → In 5 put-assign-kinds.ps
+put-assign-below t =
+    and 5 put-assign-kinds.ps (falls 5 put-assign-kinds.ps _<_ μ-put-assign t) put-assign.Pre
+
+put-assign-returns : (t : ℕ) → put-assign-lts.Need-returns (
+  as-array-reads.Asked,
+  as-array-reads.Learnt,
+  put-count-reads.Asked,
+  put-count-reads.Learnt,
+  push-both-reads.Asked,
+  push-both-reads.Learnt,
+  put-assign-below t,
+  put-assign.Post,
+  as-pair-reads.Asked,
+  as-pair-reads.Learnt,
+  put-set-reads.Asked,
+  put-set-reads.Learnt,
+) (put-assign-at t) put-assign.Post
+put-assign-returns t c = (put-none-past _ _ _ _ (omega arith), grown-none _ _ (c .before .before .pre .1 .6))
+
+put-assign-as-array-requires : (t : ℕ) → put-assign-lts.Need-as-array-requires (
+  as-array-reads.Asked,
+  as-array-reads.Learnt,
+  put-count-reads.Asked,
+  put-count-reads.Learnt,
+  push-both-reads.Asked,
+  push-both-reads.Learnt,
+  put-assign-below t,
+  put-assign.Post,
+  as-pair-reads.Asked,
+  as-pair-reads.Learnt,
+  put-set-reads.Asked,
+  put-set-reads.Learnt,
+) (put-assign-at t) put-assign.Post
+put-assign-as-array-requires t c κs = sound-below (c .before .before .pre .1 .0) (omega (arith, c .before .before .pre .1 .1))
+
+put-assign-enum-known-array : (t : ℕ) → put-assign-lts.Need-enum-known-array (
+  as-array-reads.Asked,
+  as-array-reads.Learnt,
+  put-count-reads.Asked,
+  put-count-reads.Learnt,
+  push-both-reads.Asked,
+  push-both-reads.Learnt,
+  put-assign-below t,
+  put-assign.Post,
+  as-pair-reads.Asked,
+  as-pair-reads.Learnt,
+  put-set-reads.Asked,
+  put-set-reads.Learnt,
+) (put-assign-at t) put-assign.Post
+put-assign-enum-known-array t c = search needs
+
+put-assign-cast-put-count : (t : ℕ) → put-assign-lts.Need-cast-put-count (
+  as-array-reads.Asked,
+  as-array-reads.Learnt,
+  put-count-reads.Asked,
+  put-count-reads.Learnt,
+  push-both-reads.Asked,
+  push-both-reads.Learnt,
+  put-assign-below t,
+  put-assign.Post,
+  as-pair-reads.Asked,
+  as-pair-reads.Learnt,
+  put-set-reads.Asked,
+  put-set-reads.Learnt,
+) (put-assign-at t) put-assign.Post
+put-assign-cast-put-count t c = let told = told-array (c .before .before .before .before .before .before .before .before .args .types .now) (c .before .before .before .before .before .before .before .before .args .place) (c .before .before .before .array .given .1) (c .before .before .before .before .before .as-array .ensures) in omega (arith, few-elements (c .before .before .before .before .before .before .before .before .args .types .now) (c .before .before .before .before .before .before .before .before .args .place) _ _ (sound-below (c .before .before .before .before .before .before .before .before .pre .1 .0) (omega (arith, c .before .before .before .before .before .before .before .before .pre .1 .1))) (told .0))
+
+put-assign-put-count-requires : (t : ℕ) → put-assign-lts.Need-put-count-requires (
+  as-array-reads.Asked,
+  as-array-reads.Learnt,
+  put-count-reads.Asked,
+  put-count-reads.Learnt,
+  push-both-reads.Asked,
+  push-both-reads.Learnt,
+  put-assign-below t,
+  put-assign.Post,
+  as-pair-reads.Asked,
+  as-pair-reads.Learnt,
+  put-set-reads.Asked,
+  put-set-reads.Learnt,
+) (put-assign-at t) put-assign.Post
+put-assign-put-count-requires t c κs = search needs
+
+put-assign-push-both-requires : (t : ℕ) → put-assign-lts.Need-push-both-requires (
+  as-array-reads.Asked,
+  as-array-reads.Learnt,
+  put-count-reads.Asked,
+  put-count-reads.Learnt,
+  push-both-reads.Asked,
+  push-both-reads.Learnt,
+  put-assign-below t,
+  put-assign.Post,
+  as-pair-reads.Asked,
+  as-pair-reads.Learnt,
+  put-set-reads.Asked,
+  put-set-reads.Learnt,
+) (put-assign-at t) put-assign.Post
+put-assign-push-both-requires t c κs = let told = told-array (c .before .before .before .before .before .before .before .before .before .before .args .types .now) (c .before .before .before .before .before .before .before .before .before .before .args .place) (c .before .before .before .before .before .array .given .1) (c .before .before .before .before .before .before .before .as-array .ensures) in let l = array-levels _ _ _ (told .0) in (omega (arith, l, c .before .before .before .before .before .before .before .before .before .before .pre .1 .4), c .before .before .before .before .before .before .before .before .before .before .pre .1 .2, c .before .before .before .before .before .before .before .before .before .before .pre .1 .3, c .before .before .before .before .before .before .before .before .before .before .pre .1 .6)
+
+put-assign-add-put-assign : (t : ℕ) → put-assign-lts.Need-add-put-assign (
+  as-array-reads.Asked,
+  as-array-reads.Learnt,
+  put-count-reads.Asked,
+  put-count-reads.Learnt,
+  push-both-reads.Asked,
+  push-both-reads.Learnt,
+  put-assign-below t,
+  put-assign.Post,
+  as-pair-reads.Asked,
+  as-pair-reads.Learnt,
+  put-set-reads.Asked,
+  put-set-reads.Learnt,
+) (put-assign-at t) put-assign.Post
+put-assign-add-put-assign t c = let told = told-array (c .before .before .before .before .before .before .before .before .before .before .before .before .before .before .args .types .now) (c .before .before .before .before .before .before .before .before .before .before .before .before .before .before .args .place) (c .before .before .before .before .before .before .before .before .before .array .given .1) (c .before .before .before .before .before .before .before .before .before .before .before .as-array .ensures) in let l = array-levels _ _ _ (told .0) in omega (arith, l, c .before .before .before .before .before .before .before .before .before .before .before .before .before .before .pre .1 .4, c .before .before .before .before .before .before .before .before .before .before .before .before .before .before .pre .1 .5)
+
+put-assign-add-put-assign-2 : (t : ℕ) → put-assign-lts.Need-add-put-assign-2 (
+  as-array-reads.Asked,
+  as-array-reads.Learnt,
+  put-count-reads.Asked,
+  put-count-reads.Learnt,
+  push-both-reads.Asked,
+  push-both-reads.Learnt,
+  put-assign-below t,
+  put-assign.Post,
+  as-pair-reads.Asked,
+  as-pair-reads.Learnt,
+  put-set-reads.Asked,
+  put-set-reads.Learnt,
+) (put-assign-at t) put-assign.Post
+put-assign-add-put-assign-2 t c = let told = told-array (c .before .before .before .before .before .before .before .before .before .before .before .before .before .before .args .types .now) (c .before .before .before .before .before .before .before .before .before .before .before .before .before .before .args .place) (c .before .before .before .before .before .before .before .before .before .array .given .1) (c .before .before .before .before .before .before .before .before .before .before .before .as-array .ensures) in let l = array-levels _ _ _ (told .0) in omega (arith, l, c .before .before .before .before .before .before .before .before .before .before .before .before .before .before .pre .1 .4, c .before .before .before .before .before .before .before .before .before .before .before .before .before .before .pre .1 .5)
+
+put-assign-add-put-assign-3 : (t : ℕ) → put-assign-lts.Need-add-put-assign-3 (
+  as-array-reads.Asked,
+  as-array-reads.Learnt,
+  put-count-reads.Asked,
+  put-count-reads.Learnt,
+  push-both-reads.Asked,
+  push-both-reads.Learnt,
+  put-assign-below t,
+  put-assign.Post,
+  as-pair-reads.Asked,
+  as-pair-reads.Learnt,
+  put-set-reads.Asked,
+  put-set-reads.Learnt,
+) (put-assign-at t) put-assign.Post
+put-assign-add-put-assign-3 t c = let told = told-array (c .before .before .before .before .before .before .before .before .before .before .before .before .before .before .args .types .now) (c .before .before .before .before .before .before .before .before .before .before .before .before .before .before .args .place) (c .before .before .before .before .before .before .before .before .before .array .given .1) (c .before .before .before .before .before .before .before .before .before .before .before .as-array .ensures) in let l = array-levels _ _ _ (told .0) in omega (arith, l, c .before .before .before .before .before .before .before .before .before .before .before .before .before .before .pre .1 .4, c .before .before .before .before .before .before .before .before .before .before .before .before .before .before .pre .1 .5)
+
+put-assign-put-assign-requires : (t : ℕ) → put-assign-lts.Need-put-assign-requires (
+  as-array-reads.Asked,
+  as-array-reads.Learnt,
+  put-count-reads.Asked,
+  put-count-reads.Learnt,
+  push-both-reads.Asked,
+  push-both-reads.Learnt,
+  put-assign-below t,
+  put-assign.Post,
+  as-pair-reads.Asked,
+  as-pair-reads.Learnt,
+  put-set-reads.Asked,
+  put-set-reads.Learnt,
+) (put-assign-at t) put-assign.Post
+put-assign-put-assign-requires t c κs = let told = told-array (c .before .before .before .before .before .before .before .before .before .before .before .before .before .before .args .types .now) (c .before .before .before .before .before .before .before .before .before .before .before .before .before .before .args .place) (c .before .before .before .before .before .before .before .before .before .array .given .1) (c .before .before .before .before .before .before .before .before .before .before .before .as-array .ensures) in let l = array-levels _ _ _ (told .0) in (omega (arith, told .1, c .before .before .before .before .before .before .before .before .before .before .before .before .before .before .pre .0), (c .before .before .before .before .before .before .before .before .before .before .before .before .before .before .pre .1 .0, omega (arith, told .1, c .before .before .before .before .before .before .before .before .before .before .before .before .before .before .pre .1 .1), omega arith, omega arith, omega (arith, l, c .before .before .before .before .before .before .before .before .before .before .before .before .before .before .pre .1 .4), omega (arith, l, c .before .before .before .before .before .before .before .before .before .before .before .before .before .before .pre .1 .5), both-grown _ _ _ _ _ _ _ (c .before .before .before .push-both .ensures) .size))
+
+put-assign-returns-2 : (t : ℕ) → put-assign-lts.Need-returns-2 (
+  as-array-reads.Asked,
+  as-array-reads.Learnt,
+  put-count-reads.Asked,
+  put-count-reads.Learnt,
+  push-both-reads.Asked,
+  push-both-reads.Learnt,
+  put-assign-below t,
+  put-assign.Post,
+  as-pair-reads.Asked,
+  as-pair-reads.Learnt,
+  put-set-reads.Asked,
+  put-set-reads.Learnt,
+) (put-assign-at t) put-assign.Post
+put-assign-returns-2 t c = let told = told-array (c .before .before .before .before .before .before .before .before .before .before .before .before .before .before .before .args .types .now) (c .before .before .before .before .before .before .before .before .before .before .before .before .before .before .before .args .place) (c .before .before .before .before .before .before .before .before .before .before .array .given .1) (c .before .before .before .before .before .before .before .before .before .before .before .before .as-array .ensures) in let l = array-levels _ _ _ (told .0) in (assign-array (c .before .before .before .before .before .before .before .before .before .before .before .before .before .before .before .args .types .now) (c .before .before .before .before .before .before .before .before .before .before .before .before .before .before .before .args .plan .now) (c .before .before .before .before .before .before .before .before .before .before .before .before .before .before .before .args .references .now) (c .before .before .before .before .before .before .before .before .before .before .before .before .before .before .before .args .place) (c .before .before .before .before .before .before .before .before .before .before .before .before .before .before .before .args .value) (c .before .before .before .before .before .before .before .before .before .before .before .before .before .before .before .args .target) (c .before .before .before .before .before .before .before .before .before .before .before .before .before .before .before .args .counters) (c .before .before .before .before .before .before .before .before .before .before .before .before .before .before .before .args .regions) _ _ (c .before .before .before .before .before .before .before .before .before .before .before .before .before .before .before .args .len) (omega (arith, l, c .before .before .before .before .before .before .before .before .before .before .before .before .before .before .before .pre .1 .4)) (c .before .before .before .before .before .before .before .before .before .before .before .before .before .before .before .pre .1 .2) (c .before .before .before .before .before .before .before .before .before .before .before .before .before .before .before .pre .1 .3) _ _ _ _ (omega (arith, c .before .before .before .before .before .before .before .before .before .before .before .before .before .before .before .pre .1 .5)) (told .0) (c .before .before .before .before .before .before .put-count .ensures) (c .before .before .before .before .push-both .ensures) (c .put-assign .ensures .0), grown-more _ _ _ (c .before .before .before .before .before .before .before .before .before .before .before .before .before .before .before .args .len) ((c .before .before .before .before .before .before .before .before .before .before .before .before .before .before .before .args .len) + 2) (omega arith) (both-grown _ _ _ _ _ _ _ (c .before .before .before .before .push-both .ensures)) (c .put-assign .ensures .1))
+
+put-assign-enum-told : (t : ℕ) → put-assign-lts.Need-enum-told (
+  as-array-reads.Asked,
+  as-array-reads.Learnt,
+  put-count-reads.Asked,
+  put-count-reads.Learnt,
+  push-both-reads.Asked,
+  push-both-reads.Learnt,
+  put-assign-below t,
+  put-assign.Post,
+  as-pair-reads.Asked,
+  as-pair-reads.Learnt,
+  put-set-reads.Asked,
+  put-set-reads.Learnt,
+) (put-assign-at t) put-assign.Post
+put-assign-enum-told t c = search needs
+
+put-assign-as-pair-requires : (t : ℕ) → put-assign-lts.Need-as-pair-requires (
+  as-array-reads.Asked,
+  as-array-reads.Learnt,
+  put-count-reads.Asked,
+  put-count-reads.Learnt,
+  push-both-reads.Asked,
+  push-both-reads.Learnt,
+  put-assign-below t,
+  put-assign.Post,
+  as-pair-reads.Asked,
+  as-pair-reads.Learnt,
+  put-set-reads.Asked,
+  put-set-reads.Learnt,
+) (put-assign-at t) put-assign.Post
+put-assign-as-pair-requires t c κs = sound-below (c .before .before .before .before .before .pre .1 .0) (omega (arith, c .before .before .before .before .before .pre .1 .1))
+
+put-assign-enum-known-pair : (t : ℕ) → put-assign-lts.Need-enum-known-pair (
+  as-array-reads.Asked,
+  as-array-reads.Learnt,
+  put-count-reads.Asked,
+  put-count-reads.Learnt,
+  push-both-reads.Asked,
+  push-both-reads.Learnt,
+  put-assign-below t,
+  put-assign.Post,
+  as-pair-reads.Asked,
+  as-pair-reads.Learnt,
+  put-set-reads.Asked,
+  put-set-reads.Learnt,
+) (put-assign-at t) put-assign.Post
+put-assign-enum-known-pair t c = search needs
+
+put-assign-enum-told-2 : (t : ℕ) → put-assign-lts.Need-enum-told-2 (
+  as-array-reads.Asked,
+  as-array-reads.Learnt,
+  put-count-reads.Asked,
+  put-count-reads.Learnt,
+  push-both-reads.Asked,
+  push-both-reads.Learnt,
+  put-assign-below t,
+  put-assign.Post,
+  as-pair-reads.Asked,
+  as-pair-reads.Learnt,
+  put-set-reads.Asked,
+  put-set-reads.Learnt,
+) (put-assign-at t) put-assign.Post
+put-assign-enum-told-2 t c = search needs
+
+put-assign-put-set-requires : (t : ℕ) → put-assign-lts.Need-put-set-requires (
+  as-array-reads.Asked,
+  as-array-reads.Learnt,
+  put-count-reads.Asked,
+  put-count-reads.Learnt,
+  push-both-reads.Asked,
+  push-both-reads.Learnt,
+  put-assign-below t,
+  put-assign.Post,
+  as-pair-reads.Asked,
+  as-pair-reads.Learnt,
+  put-set-reads.Asked,
+  put-set-reads.Learnt,
+) (put-assign-at t) put-assign.Post
+put-assign-put-set-requires t c κs = (c .before .before .before .before .before .before .before .before .before .before .before .pre .1 .0, omega (arith, c .before .before .before .before .before .before .before .before .before .before .before .pre .1 .2, c .before .before .before .before .before .before .before .before .before .before .before .pre .1 .4), omega (arith, c .before .before .before .before .before .before .before .before .before .before .before .pre .1 .3, c .before .before .before .before .before .before .before .before .before .before .before .pre .1 .4))
+
+put-assign-returns-3 : (t : ℕ) → put-assign-lts.Need-returns-3 (
+  as-array-reads.Asked,
+  as-array-reads.Learnt,
+  put-count-reads.Asked,
+  put-count-reads.Learnt,
+  push-both-reads.Asked,
+  push-both-reads.Learnt,
+  put-assign-below t,
+  put-assign.Post,
+  as-pair-reads.Asked,
+  as-pair-reads.Learnt,
+  put-set-reads.Asked,
+  put-set-reads.Learnt,
+) (put-assign-at t) put-assign.Post
+put-assign-returns-3 t c = (assign-number (c .before .before .before .before .before .before .before .before .before .before .before .before .args .types .now) (c .before .before .before .before .before .before .before .before .before .before .before .before .args .plan .now) (c .before .before .before .before .before .before .before .before .before .before .before .before .args .references .now) (c .before .before .before .before .before .before .before .before .before .before .before .before .args .place) (c .before .before .before .before .before .before .before .before .before .before .before .before .args .value) (c .before .before .before .before .before .before .before .before .before .before .before .before .args .target) (c .before .before .before .before .before .before .before .before .before .before .before .before .args .counters) (c .before .before .before .before .before .before .before .before .before .before .before .before .args .regions) _ _ (is-number _ (told-no-array (c .before .before .before .before .before .before .before .before .before .before .before .before .args .types .now) (c .before .before .before .before .before .before .before .before .before .before .before .before .args .place) (c .before .before .before .before .before .before .before .enum-told .given .1) (c .before .before .before .before .before .before .before .before .before .as-array .ensures)) (told-no-pair (c .before .before .before .before .before .before .before .before .before .before .before .before .args .types .now) (c .before .before .before .before .before .before .before .before .before .before .before .before .args .place) (c .before .before .before .before .enum-told2 .given .1) (c .before .before .before .before .before .before .as-pair .ensures))) (c .put-set .ensures), grown-none _ _ (c .before .before .before .before .before .before .before .before .before .before .before .before .pre .1 .6))
+
+put-assign-put-count-requires-2 : (t : ℕ) → put-assign-lts.Need-put-count-requires-2 (
+  as-array-reads.Asked,
+  as-array-reads.Learnt,
+  put-count-reads.Asked,
+  put-count-reads.Learnt,
+  push-both-reads.Asked,
+  push-both-reads.Learnt,
+  put-assign-below t,
+  put-assign.Post,
+  as-pair-reads.Asked,
+  as-pair-reads.Learnt,
+  put-set-reads.Asked,
+  put-set-reads.Learnt,
+) (put-assign-at t) put-assign.Post
+put-assign-put-count-requires-2 t c κs = search needs
+
+put-assign-push-both-requires-2 : (t : ℕ) → put-assign-lts.Need-push-both-requires-2 (
+  as-array-reads.Asked,
+  as-array-reads.Learnt,
+  put-count-reads.Asked,
+  put-count-reads.Learnt,
+  push-both-reads.Asked,
+  push-both-reads.Learnt,
+  put-assign-below t,
+  put-assign.Post,
+  as-pair-reads.Asked,
+  as-pair-reads.Learnt,
+  put-set-reads.Asked,
+  put-set-reads.Learnt,
+) (put-assign-at t) put-assign.Post
+put-assign-push-both-requires-2 t c κs = let told = told-pair (c .before .before .before .before .before .before .before .before .before .before .before .before .before .args .types .now) (c .before .before .before .before .before .before .before .before .before .before .before .before .before .args .place) (c .before .before .before .before .before .pair .given .1) (c .before .before .before .before .before .before .before .as-pair .ensures) in let l = pair-levels _ _ _ (told .0) in (omega (arith, l, c .before .before .before .before .before .before .before .before .before .before .before .before .before .pre .1 .4), c .before .before .before .before .before .before .before .before .before .before .before .before .before .pre .1 .2, c .before .before .before .before .before .before .before .before .before .before .before .before .before .pre .1 .3, c .before .before .before .before .before .before .before .before .before .before .before .before .before .pre .1 .6)
+
+put-assign-add-put-assign-4 : (t : ℕ) → put-assign-lts.Need-add-put-assign-4 (
+  as-array-reads.Asked,
+  as-array-reads.Learnt,
+  put-count-reads.Asked,
+  put-count-reads.Learnt,
+  push-both-reads.Asked,
+  push-both-reads.Learnt,
+  put-assign-below t,
+  put-assign.Post,
+  as-pair-reads.Asked,
+  as-pair-reads.Learnt,
+  put-set-reads.Asked,
+  put-set-reads.Learnt,
+) (put-assign-at t) put-assign.Post
+put-assign-add-put-assign-4 t c = let told = told-pair (c .before .before .before .before .before .before .before .before .before .before .before .before .before .before .before .before .before .args .types .now) (c .before .before .before .before .before .before .before .before .before .before .before .before .before .before .before .before .before .args .place) (c .before .before .before .before .before .before .before .before .before .pair .given .1) (c .before .before .before .before .before .before .before .before .before .before .before .as-pair .ensures) in let l = pair-levels _ _ _ (told .0) in omega (arith, l, c .before .before .before .before .before .before .before .before .before .before .before .before .before .before .before .before .before .pre .1 .4)
+
+put-assign-add-put-assign-5 : (t : ℕ) → put-assign-lts.Need-add-put-assign-5 (
+  as-array-reads.Asked,
+  as-array-reads.Learnt,
+  put-count-reads.Asked,
+  put-count-reads.Learnt,
+  push-both-reads.Asked,
+  push-both-reads.Learnt,
+  put-assign-below t,
+  put-assign.Post,
+  as-pair-reads.Asked,
+  as-pair-reads.Learnt,
+  put-set-reads.Asked,
+  put-set-reads.Learnt,
+) (put-assign-at t) put-assign.Post
+put-assign-add-put-assign-5 t c = let told = told-pair (c .before .before .before .before .before .before .before .before .before .before .before .before .before .before .before .before .before .args .types .now) (c .before .before .before .before .before .before .before .before .before .before .before .before .before .before .before .before .before .args .place) (c .before .before .before .before .before .before .before .before .before .pair .given .1) (c .before .before .before .before .before .before .before .before .before .before .before .as-pair .ensures) in let l = pair-levels _ _ _ (told .0) in omega (arith, l, c .before .before .before .before .before .before .before .before .before .before .before .before .before .before .before .before .before .pre .1 .4)
+
+put-assign-put-assign-requires-2 : (t : ℕ) → put-assign-lts.Need-put-assign-requires-2 (
+  as-array-reads.Asked,
+  as-array-reads.Learnt,
+  put-count-reads.Asked,
+  put-count-reads.Learnt,
+  push-both-reads.Asked,
+  push-both-reads.Learnt,
+  put-assign-below t,
+  put-assign.Post,
+  as-pair-reads.Asked,
+  as-pair-reads.Learnt,
+  put-set-reads.Asked,
+  put-set-reads.Learnt,
+) (put-assign-at t) put-assign.Post
+put-assign-put-assign-requires-2 t c κs = let told = told-pair (c .before .before .before .before .before .before .before .before .before .before .before .before .before .before .before .before .before .args .types .now) (c .before .before .before .before .before .before .before .before .before .before .before .before .before .before .before .before .before .args .place) (c .before .before .before .before .before .before .before .before .before .pair .given .1) (c .before .before .before .before .before .before .before .before .before .before .before .as-pair .ensures) in let l = pair-levels _ _ _ (told .0) in (omega (arith, told .1, c .before .before .before .before .before .before .before .before .before .before .before .before .before .before .before .before .before .pre .0), (c .before .before .before .before .before .before .before .before .before .before .before .before .before .before .before .before .before .pre .1 .0, omega (arith, told .1, c .before .before .before .before .before .before .before .before .before .before .before .before .before .before .before .before .before .pre .1 .1), omega arith, omega arith, omega (arith, l, c .before .before .before .before .before .before .before .before .before .before .before .before .before .before .before .before .before .pre .1 .4), omega (arith, l, c .before .before .before .before .before .before .before .before .before .before .before .before .before .before .before .before .before .pre .1 .5), both-grown _ _ _ _ _ _ _ (c .before .before .before .push-both2 .ensures) .size))
+
+put-assign-push-both-requires-3 : (t : ℕ) → put-assign-lts.Need-push-both-requires-3 (
+  as-array-reads.Asked,
+  as-array-reads.Learnt,
+  put-count-reads.Asked,
+  put-count-reads.Learnt,
+  push-both-reads.Asked,
+  push-both-reads.Learnt,
+  put-assign-below t,
+  put-assign.Post,
+  as-pair-reads.Asked,
+  as-pair-reads.Learnt,
+  put-set-reads.Asked,
+  put-set-reads.Learnt,
+) (put-assign-at t) put-assign.Post
+put-assign-push-both-requires-3 t c κs = let told = told-pair (c .before .before .before .before .before .before .before .before .before .before .before .before .before .before .before .before .before .before .before .args .types .now) (c .before .before .before .before .before .before .before .before .before .before .before .before .before .before .before .before .before .before .before .args .place) (c .before .before .before .before .before .before .before .before .before .before .before .pair .given .1) (c .before .before .before .before .before .before .before .before .before .before .before .before .before .as-pair .ensures) in let l = pair-levels _ _ _ (told .0) in (omega (arith, l, c .before .before .before .before .before .before .before .before .before .before .before .before .before .before .before .before .before .before .before .pre .1 .4), c .before .before .before .before .before .before .before .before .before .before .before .before .before .before .before .before .before .before .before .pre .1 .2, c .before .before .before .before .before .before .before .before .before .before .before .before .before .before .before .before .before .before .before .pre .1 .3, c .before .put-assign2 .ensures .1 .size)
+
+put-assign-add-put-assign-6 : (t : ℕ) → put-assign-lts.Need-add-put-assign-6 (
+  as-array-reads.Asked,
+  as-array-reads.Learnt,
+  put-count-reads.Asked,
+  put-count-reads.Learnt,
+  push-both-reads.Asked,
+  push-both-reads.Learnt,
+  put-assign-below t,
+  put-assign.Post,
+  as-pair-reads.Asked,
+  as-pair-reads.Learnt,
+  put-set-reads.Asked,
+  put-set-reads.Learnt,
+) (put-assign-at t) put-assign.Post
+put-assign-add-put-assign-6 t c = let told = told-pair (c .before .before .before .before .before .before .before .before .before .before .before .before .before .before .before .before .before .before .before .before .before .before .before .args .types .now) (c .before .before .before .before .before .before .before .before .before .before .before .before .before .before .before .before .before .before .before .before .before .before .before .args .place) (c .before .before .before .before .before .before .before .before .before .before .before .before .before .before .before .pair .given .1) (c .before .before .before .before .before .before .before .before .before .before .before .before .before .before .before .before .before .as-pair .ensures) in let l = pair-levels _ _ _ (told .0) in omega (arith, l, c .before .before .before .before .before .before .before .before .before .before .before .before .before .before .before .before .before .before .before .before .before .before .before .pre .1 .4)
+
+put-assign-add-put-assign-7 : (t : ℕ) → put-assign-lts.Need-add-put-assign-7 (
+  as-array-reads.Asked,
+  as-array-reads.Learnt,
+  put-count-reads.Asked,
+  put-count-reads.Learnt,
+  push-both-reads.Asked,
+  push-both-reads.Learnt,
+  put-assign-below t,
+  put-assign.Post,
+  as-pair-reads.Asked,
+  as-pair-reads.Learnt,
+  put-set-reads.Asked,
+  put-set-reads.Learnt,
+) (put-assign-at t) put-assign.Post
+put-assign-add-put-assign-7 t c = let told = told-pair (c .before .before .before .before .before .before .before .before .before .before .before .before .before .before .before .before .before .before .before .before .before .before .before .args .types .now) (c .before .before .before .before .before .before .before .before .before .before .before .before .before .before .before .before .before .before .before .before .before .before .before .args .place) (c .before .before .before .before .before .before .before .before .before .before .before .before .before .before .before .pair .given .1) (c .before .before .before .before .before .before .before .before .before .before .before .before .before .before .before .before .before .as-pair .ensures) in let l = pair-levels _ _ _ (told .0) in omega (arith, l, c .before .before .before .before .before .before .before .before .before .before .before .before .before .before .before .before .before .before .before .before .before .before .before .pre .1 .4)
+
+put-assign-put-assign-requires-3 : (t : ℕ) → put-assign-lts.Need-put-assign-requires-3 (
+  as-array-reads.Asked,
+  as-array-reads.Learnt,
+  put-count-reads.Asked,
+  put-count-reads.Learnt,
+  push-both-reads.Asked,
+  push-both-reads.Learnt,
+  put-assign-below t,
+  put-assign.Post,
+  as-pair-reads.Asked,
+  as-pair-reads.Learnt,
+  put-set-reads.Asked,
+  put-set-reads.Learnt,
+) (put-assign-at t) put-assign.Post
+put-assign-put-assign-requires-3 t c κs = let told = told-pair (c .before .before .before .before .before .before .before .before .before .before .before .before .before .before .before .before .before .before .before .before .before .before .before .args .types .now) (c .before .before .before .before .before .before .before .before .before .before .before .before .before .before .before .before .before .before .before .before .before .before .before .args .place) (c .before .before .before .before .before .before .before .before .before .before .before .before .before .before .before .pair .given .1) (c .before .before .before .before .before .before .before .before .before .before .before .before .before .before .before .before .before .as-pair .ensures) in let l = pair-levels _ _ _ (told .0) in (omega (arith, told .2, c .before .before .before .before .before .before .before .before .before .before .before .before .before .before .before .before .before .before .before .before .before .before .before .pre .0), (c .before .before .before .before .before .before .before .before .before .before .before .before .before .before .before .before .before .before .before .before .before .before .before .pre .1 .0, omega (arith, told .2, c .before .before .before .before .before .before .before .before .before .before .before .before .before .before .before .before .before .before .before .before .before .before .before .pre .1 .1), omega arith, omega arith, omega (arith, l, c .before .before .before .before .before .before .before .before .before .before .before .before .before .before .before .before .before .before .before .before .before .before .before .pre .1 .4), omega (arith, l, c .before .before .before .before .before .before .before .before .before .before .before .before .before .before .before .before .before .before .before .before .before .before .before .pre .1 .5), both-grown _ _ _ _ _ _ _ (c .before .before .before .push-both3 .ensures) .size))
+
+put-assign-returns-4 : (t : ℕ) → put-assign-lts.Need-returns-4 (
+  as-array-reads.Asked,
+  as-array-reads.Learnt,
+  put-count-reads.Asked,
+  put-count-reads.Learnt,
+  push-both-reads.Asked,
+  push-both-reads.Learnt,
+  put-assign-below t,
+  put-assign.Post,
+  as-pair-reads.Asked,
+  as-pair-reads.Learnt,
+  put-set-reads.Asked,
+  put-set-reads.Learnt,
+) (put-assign-at t) put-assign.Post
+put-assign-returns-4 t c = let told = told-pair (c .before .before .before .before .before .before .before .before .before .before .before .before .before .before .before .before .before .before .before .before .before .before .before .before .args .types .now) (c .before .before .before .before .before .before .before .before .before .before .before .before .before .before .before .before .before .before .before .before .before .before .before .before .args .place) (c .before .before .before .before .before .before .before .before .before .before .before .before .before .before .before .before .pair .given .1) (c .before .before .before .before .before .before .before .before .before .before .before .before .before .before .before .before .before .before .as-pair .ensures) in let l = pair-levels _ _ _ (told .0) in (assign-pair (c .before .before .before .before .before .before .before .before .before .before .before .before .before .before .before .before .before .before .before .before .before .before .before .before .args .types .now) (c .before .before .before .before .before .before .before .before .before .before .before .before .before .before .before .before .before .before .before .before .before .before .before .before .args .plan .now) (c .before .before .before .before .before .before .before .before .before .before .before .before .before .before .before .before .before .before .before .before .before .before .before .before .args .references .now) (c .before .before .before .before .before .before .before .before .before .before .before .before .before .before .before .before .before .before .before .before .before .before .before .before .args .place) (c .before .before .before .before .before .before .before .before .before .before .before .before .before .before .before .before .before .before .before .before .before .before .before .before .args .value) (c .before .before .before .before .before .before .before .before .before .before .before .before .before .before .before .before .before .before .before .before .before .before .before .before .args .target) (c .before .before .before .before .before .before .before .before .before .before .before .before .before .before .before .before .before .before .before .before .before .before .before .before .args .counters) (c .before .before .before .before .before .before .before .before .before .before .before .before .before .before .before .before .before .before .before .before .before .before .before .before .args .regions) _ _ (c .before .before .before .before .before .before .before .before .before .before .before .before .before .before .before .before .before .before .before .before .before .before .before .before .args .len) (omega (arith, l, c .before .before .before .before .before .before .before .before .before .before .before .before .before .before .before .before .before .before .before .before .before .before .before .before .pre .1 .4)) (c .before .before .before .before .before .before .before .before .before .before .before .before .before .before .before .before .before .before .before .before .before .before .before .before .pre .1 .2) (c .before .before .before .before .before .before .before .before .before .before .before .before .before .before .before .before .before .before .before .before .before .before .before .before .pre .1 .3) _ _ _ _ _ _ _ (told .0) (c .before .before .before .before .before .before .before .before .before .before .before .before .put-count2 .ensures) (c .before .before .before .before .before .before .before .before .before .before .push-both2 .ensures) (c .before .before .before .before .before .before .put-assign2 .ensures .0) (c .before .before .before .before .before .before .put-assign2 .ensures .1) (c .before .before .before .before .push-both3 .ensures) (c .put-assign3 .ensures .0), pair-grown _ _ _ _ _ (c .before .before .before .before .before .before .before .before .before .before .before .before .before .before .before .before .before .before .before .before .before .before .before .before .args .len) _ _ (c .before .before .before .before .before .before .before .before .before .before .push-both2 .ensures) (c .before .before .before .before .before .before .put-assign2 .ensures .1) (c .before .before .before .before .push-both3 .ensures) (c .put-assign3 .ensures .1))
+
+pub +put-assign-spec : {M : Type 1} → statement M
++put-assign-spec = close μ-put-assign λ t. put-assign-lts.spec (
+  as-array-reads.Asked,
+  as-array-reads.Learnt,
+  put-count-reads.Asked,
+  put-count-reads.Learnt,
+  push-both-reads.Asked,
+  push-both-reads.Learnt,
+  put-assign-below t,
+  put-assign.Post,
+  as-pair-reads.Asked,
+  as-pair-reads.Learnt,
+  put-set-reads.Asked,
+  put-set-reads.Learnt,
+)
+    (put-assign-at t)
+    put-assign.Post
+    (put-assign-returns t)
+    (put-assign-as-array-requires t)
+    (put-assign-enum-known-array t)
+    (put-assign-cast-put-count t)
+    (put-assign-put-count-requires t)
+    (put-assign-push-both-requires t)
+    (put-assign-add-put-assign t)
+    (put-assign-add-put-assign-2 t)
+    (put-assign-add-put-assign-3 t)
+    (put-assign-put-assign-requires t)
+    (put-assign-returns-2 t)
+    (put-assign-enum-told t)
+    (put-assign-as-pair-requires t)
+    (put-assign-enum-known-pair t)
+    (put-assign-enum-told-2 t)
+    (put-assign-put-set-requires t)
+    (put-assign-returns-3 t)
+    (put-assign-put-count-requires-2 t)
+    (put-assign-push-both-requires-2 t)
+    (put-assign-add-put-assign-4 t)
+    (put-assign-add-put-assign-5 t)
+    (put-assign-put-assign-requires-2 t)
+    (put-assign-push-both-requires-3 t)
+    (put-assign-add-put-assign-6 t)
+    (put-assign-add-put-assign-7 t)
+    (put-assign-put-assign-requires-3 t)
+    (put-assign-returns-4 t)

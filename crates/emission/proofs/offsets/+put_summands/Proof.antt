@@ -1,0 +1,392 @@
+-- `put_summands` meets its contract: an array's index times its element's cells, a second part's offset, and then the rest.
+use native.Mathlib.Omega.{arith}
+use borrow.Author.Needs.{needs}
+use mathlib.Core.Path.{sym, _∙_}
+use Prim.Native.Nat.{ℕ, _<_}
+use borrow.Fn.Kinds.{In}
+use borrow.Fn.PlainCycle.{Measures, is, falls, and}
+use Rattle.emission.specs.Laws.Offsets.{is-number, summands-number, summands-array, summands-second, summands-first, put-none, put-same, put-index, put-part}
+use Rattle.type_table.specs.Laws.{sound-below, told-array, told-no-array, told-pair, told-no-pair}
+use Rattle.emission.proofs.offsets.put_summands.Reads as put-summands
+use Rattle.emission.proofs.offsets.put_summands.Kinds as put-summands-kinds
+use Rattle.emission.proofs.offsets.+put_summands.Lts-put_summands as put-summands-lts
+use Rattle.emission.proofs.offsets.put_cells.Reads as put-cells-reads
+use Rattle.emission.proofs.paths.is_second.Reads as is-second-reads
+use Rattle.emission.proofs.paths.put_index.Reads as put-index-reads
+use Rattle.type_table.proofs.as_array.Reads as as-array-reads
+use Rattle.type_table.proofs.as_pair.Reads as as-pair-reads
+use Rattle.emission.proofs.offsets.+put_summands.{statement}
+use Rattle.emission.proofs.offsets.+put_summands.Tie.{close}
+
+abbrev μ-put-summands : Measures 4 put-summands-kinds.ps ℕ
+μ-put-summands κs a = a .1 .1 .1 .1 .0
+
+abbrev put-summands-at : ℕ → In 4 put-summands-kinds.ps
+put-summands-at t =
+    and 4 put-summands-kinds.ps (is 4 put-summands-kinds.ps μ-put-summands t) put-summands.Pre
+
+abbrev put-summands-below : ℕ → In 4 put-summands-kinds.ps
+put-summands-below t =
+    and
+    4
+    put-summands-kinds.ps
+    (falls 4 put-summands-kinds.ps _<_ μ-put-summands t)
+    put-summands.Pre
+
+put-summands-as-array-requires : (t : ℕ) → put-summands-lts.Need-as-array-requires (
+  as-array-reads.Asked,
+  as-array-reads.Learnt,
+  put-cells-reads.Asked,
+  put-cells-reads.Learnt,
+  put-index-reads.Asked,
+  put-index-reads.Learnt,
+  put-summands-below t,
+  put-summands.Post,
+  as-pair-reads.Asked,
+  as-pair-reads.Learnt,
+  is-second-reads.Asked,
+  is-second-reads.Learnt,
+) (put-summands-at t) put-summands.Post
+put-summands-as-array-requires t c κs = c .before .pre .1 .0
+
+put-summands-enum-known-array : (t : ℕ) → put-summands-lts.Need-enum-known-array (
+  as-array-reads.Asked,
+  as-array-reads.Learnt,
+  put-cells-reads.Asked,
+  put-cells-reads.Learnt,
+  put-index-reads.Asked,
+  put-index-reads.Learnt,
+  put-summands-below t,
+  put-summands.Post,
+  as-pair-reads.Asked,
+  as-pair-reads.Learnt,
+  is-second-reads.Asked,
+  is-second-reads.Learnt,
+) (put-summands-at t) put-summands.Post
+put-summands-enum-known-array t c = search needs
+
+put-summands-put-cells-requires : (t : ℕ) → put-summands-lts.Need-put-cells-requires (
+  as-array-reads.Asked,
+  as-array-reads.Learnt,
+  put-cells-reads.Asked,
+  put-cells-reads.Learnt,
+  put-index-reads.Asked,
+  put-index-reads.Learnt,
+  put-summands-below t,
+  put-summands.Post,
+  as-pair-reads.Asked,
+  as-pair-reads.Learnt,
+  is-second-reads.Asked,
+  is-second-reads.Learnt,
+) (put-summands-at t) put-summands.Post
+put-summands-put-cells-requires t c κs = sound-below (c .before .before .before .before .before .before .before .pre .1 .0) (omega (arith, told-array (c .before .before .before .before .before .before .before .args .types .now) (c .before .before .before .before .before .before .before .args .place) (c .before .before .before .array .given .1) (c .before .before .before .before .before .as-array .ensures) .1))
+
+put-summands-put-index-requires : (t : ℕ) → put-summands-lts.Need-put-index-requires (
+  as-array-reads.Asked,
+  as-array-reads.Learnt,
+  put-cells-reads.Asked,
+  put-cells-reads.Learnt,
+  put-index-reads.Asked,
+  put-index-reads.Learnt,
+  put-summands-below t,
+  put-summands.Post,
+  as-pair-reads.Asked,
+  as-pair-reads.Learnt,
+  is-second-reads.Asked,
+  is-second-reads.Learnt,
+) (put-summands-at t) put-summands.Post
+put-summands-put-index-requires t c κs = (c .before .before .before .before .before .before .before .before .before .before .pre .1 .1, omega (arith, c .before .before .before .before .before .before .before .before .before .before .pre .1 .1, c .before .before .before .before .before .before .before .before .before .before .pre .1 .2))
+
+put-summands-add-put-summands : (t : ℕ) → put-summands-lts.Need-add-put-summands (
+  as-array-reads.Asked,
+  as-array-reads.Learnt,
+  put-cells-reads.Asked,
+  put-cells-reads.Learnt,
+  put-index-reads.Asked,
+  put-index-reads.Learnt,
+  put-summands-below t,
+  put-summands.Post,
+  as-pair-reads.Asked,
+  as-pair-reads.Learnt,
+  is-second-reads.Asked,
+  is-second-reads.Learnt,
+) (put-summands-at t) put-summands.Post
+put-summands-add-put-summands t c = search needs
+
+put-summands-put-summands-requires : (t : ℕ) → put-summands-lts.Need-put-summands-requires (
+  as-array-reads.Asked,
+  as-array-reads.Learnt,
+  put-cells-reads.Asked,
+  put-cells-reads.Learnt,
+  put-index-reads.Asked,
+  put-index-reads.Learnt,
+  put-summands-below t,
+  put-summands.Post,
+  as-pair-reads.Asked,
+  as-pair-reads.Learnt,
+  is-second-reads.Asked,
+  is-second-reads.Learnt,
+) (put-summands-at t) put-summands.Post
+put-summands-put-summands-requires t c κs = let told = told-array (c .before .before .before .before .before .before .before .before .before .before .before .before .before .args .types .now) (c .before .before .before .before .before .before .before .before .before .before .before .before .before .args .place) (c .before .before .before .before .before .before .before .before .before .array .given .1) (c .before .before .before .before .before .before .before .before .before .before .before .as-array .ensures) in (omega (arith, told .1, c .before .before .before .before .before .before .before .before .before .before .before .before .before .pre .0), (sound-below (c .before .before .before .before .before .before .before .before .before .before .before .before .before .pre .1 .0) (omega (arith, told .1)), c .before .before .before .before .before .before .before .before .before .before .before .before .before .pre .1 .1, omega (arith, told .1, c .before .before .before .before .before .before .before .before .before .before .before .before .before .pre .1 .2)))
+
+put-summands-returns : (t : ℕ) → put-summands-lts.Need-returns (
+  as-array-reads.Asked,
+  as-array-reads.Learnt,
+  put-cells-reads.Asked,
+  put-cells-reads.Learnt,
+  put-index-reads.Asked,
+  put-index-reads.Learnt,
+  put-summands-below t,
+  put-summands.Post,
+  as-pair-reads.Asked,
+  as-pair-reads.Learnt,
+  is-second-reads.Asked,
+  is-second-reads.Learnt,
+) (put-summands-at t) put-summands.Post
+put-summands-returns t c = let told = told-array (c .before .before .before .before .before .before .before .before .before .before .before .before .before .before .args .types .now) (c .before .before .before .before .before .before .before .before .before .before .before .before .before .before .args .place) (c .before .before .before .before .before .before .before .before .before .before .array .given .1) (c .before .before .before .before .before .before .before .before .before .before .before .before .as-array .ensures) in put-index (c .before .before .before .before .before .before .before .before .before .before .before .before .before .before .args .counters) _ _ _ _ _ _ _ _ (summands-array _ _ (c .before .before .before .before .before .before .before .before .before .before .before .before .before .before .args .j) _ _ (told .0)) (c .before .before .before .before .before .before .put-cells .ensures) (c .before .before .before .put-index .ensures) (c .put-summands .ensures)
+
+put-summands-enum-told : (t : ℕ) → put-summands-lts.Need-enum-told (
+  as-array-reads.Asked,
+  as-array-reads.Learnt,
+  put-cells-reads.Asked,
+  put-cells-reads.Learnt,
+  put-index-reads.Asked,
+  put-index-reads.Learnt,
+  put-summands-below t,
+  put-summands.Post,
+  as-pair-reads.Asked,
+  as-pair-reads.Learnt,
+  is-second-reads.Asked,
+  is-second-reads.Learnt,
+) (put-summands-at t) put-summands.Post
+put-summands-enum-told t c = search needs
+
+put-summands-as-pair-requires : (t : ℕ) → put-summands-lts.Need-as-pair-requires (
+  as-array-reads.Asked,
+  as-array-reads.Learnt,
+  put-cells-reads.Asked,
+  put-cells-reads.Learnt,
+  put-index-reads.Asked,
+  put-index-reads.Learnt,
+  put-summands-below t,
+  put-summands.Post,
+  as-pair-reads.Asked,
+  as-pair-reads.Learnt,
+  is-second-reads.Asked,
+  is-second-reads.Learnt,
+) (put-summands-at t) put-summands.Post
+put-summands-as-pair-requires t c κs = c .before .before .before .before .pre .1 .0
+
+put-summands-enum-known-pair : (t : ℕ) → put-summands-lts.Need-enum-known-pair (
+  as-array-reads.Asked,
+  as-array-reads.Learnt,
+  put-cells-reads.Asked,
+  put-cells-reads.Learnt,
+  put-index-reads.Asked,
+  put-index-reads.Learnt,
+  put-summands-below t,
+  put-summands.Post,
+  as-pair-reads.Asked,
+  as-pair-reads.Learnt,
+  is-second-reads.Asked,
+  is-second-reads.Learnt,
+) (put-summands-at t) put-summands.Post
+put-summands-enum-known-pair t c = search needs
+
+put-summands-enum-told-2 : (t : ℕ) → put-summands-lts.Need-enum-told-2 (
+  as-array-reads.Asked,
+  as-array-reads.Learnt,
+  put-cells-reads.Asked,
+  put-cells-reads.Learnt,
+  put-index-reads.Asked,
+  put-index-reads.Learnt,
+  put-summands-below t,
+  put-summands.Post,
+  as-pair-reads.Asked,
+  as-pair-reads.Learnt,
+  is-second-reads.Asked,
+  is-second-reads.Learnt,
+) (put-summands-at t) put-summands.Post
+put-summands-enum-told-2 t c = search needs
+
+put-summands-returns-2 : (t : ℕ) → put-summands-lts.Need-returns-2 (
+  as-array-reads.Asked,
+  as-array-reads.Learnt,
+  put-cells-reads.Asked,
+  put-cells-reads.Learnt,
+  put-index-reads.Asked,
+  put-index-reads.Learnt,
+  put-summands-below t,
+  put-summands.Post,
+  as-pair-reads.Asked,
+  as-pair-reads.Learnt,
+  is-second-reads.Asked,
+  is-second-reads.Learnt,
+) (put-summands-at t) put-summands.Post
+put-summands-returns-2 t c = put-none (c .before .before .before .before .before .before .before .args .counters) _ _ (summands-number _ _ (c .before .before .before .before .before .before .before .args .j) (is-number _ (told-no-array (c .before .before .before .before .before .before .before .args .types .now) (c .before .before .before .before .before .before .before .args .place) (c .before .before .before .enum-told .given .1) (c .before .before .before .before .before .as-array .ensures)) (told-no-pair (c .before .before .before .before .before .before .before .args .types .now) (c .before .before .before .before .before .before .before .args .place) (c .enum-told2 .given .1) (c .before .before .as-pair .ensures))))
+
+put-summands-is-second-requires : (t : ℕ) → put-summands-lts.Need-is-second-requires (
+  as-array-reads.Asked,
+  as-array-reads.Learnt,
+  put-cells-reads.Asked,
+  put-cells-reads.Learnt,
+  put-index-reads.Asked,
+  put-index-reads.Learnt,
+  put-summands-below t,
+  put-summands.Post,
+  as-pair-reads.Asked,
+  as-pair-reads.Learnt,
+  is-second-reads.Asked,
+  is-second-reads.Learnt,
+) (put-summands-at t) put-summands.Post
+put-summands-is-second-requires t c κs = (c .before .before .before .before .before .before .before .before .pre .1 .1, omega (arith, c .before .before .before .before .before .before .before .before .pre .1 .1, c .before .before .before .before .before .before .before .before .pre .1 .2))
+
+put-summands-put-cells-requires-2 : (t : ℕ) → put-summands-lts.Need-put-cells-requires-2 (
+  as-array-reads.Asked,
+  as-array-reads.Learnt,
+  put-cells-reads.Asked,
+  put-cells-reads.Learnt,
+  put-index-reads.Asked,
+  put-index-reads.Learnt,
+  put-summands-below t,
+  put-summands.Post,
+  as-pair-reads.Asked,
+  as-pair-reads.Learnt,
+  is-second-reads.Asked,
+  is-second-reads.Learnt,
+) (put-summands-at t) put-summands.Post
+put-summands-put-cells-requires-2 t c κs = sound-below (c .before .before .before .before .before .before .before .before .before .before .before .before .pre .1 .0) (omega (arith, told-pair (c .before .before .before .before .before .before .before .before .before .before .before .before .args .types .now) (c .before .before .before .before .before .before .before .before .before .before .before .before .args .place) (c .before .before .before .before .before .pair .given .1) (c .before .before .before .before .before .before .before .as-pair .ensures) .1))
+
+put-summands-add-put-summands-2 : (t : ℕ) → put-summands-lts.Need-add-put-summands-2 (
+  as-array-reads.Asked,
+  as-array-reads.Learnt,
+  put-cells-reads.Asked,
+  put-cells-reads.Learnt,
+  put-index-reads.Asked,
+  put-index-reads.Learnt,
+  put-summands-below t,
+  put-summands.Post,
+  as-pair-reads.Asked,
+  as-pair-reads.Learnt,
+  is-second-reads.Asked,
+  is-second-reads.Learnt,
+) (put-summands-at t) put-summands.Post
+put-summands-add-put-summands-2 t c = search needs
+
+put-summands-put-summands-requires-2 : (t : ℕ) → put-summands-lts.Need-put-summands-requires-2 (
+  as-array-reads.Asked,
+  as-array-reads.Learnt,
+  put-cells-reads.Asked,
+  put-cells-reads.Learnt,
+  put-index-reads.Asked,
+  put-index-reads.Learnt,
+  put-summands-below t,
+  put-summands.Post,
+  as-pair-reads.Asked,
+  as-pair-reads.Learnt,
+  is-second-reads.Asked,
+  is-second-reads.Learnt,
+) (put-summands-at t) put-summands.Post
+put-summands-put-summands-requires-2 t c κs = let told = told-pair (c .before .before .before .before .before .before .before .before .before .before .before .before .before .before .before .args .types .now) (c .before .before .before .before .before .before .before .before .before .before .before .before .before .before .before .args .place) (c .before .before .before .before .before .before .before .before .pair .given .1) (c .before .before .before .before .before .before .before .before .before .before .as-pair .ensures) in (omega (arith, told .2, c .before .before .before .before .before .before .before .before .before .before .before .before .before .before .before .pre .0), (sound-below (c .before .before .before .before .before .before .before .before .before .before .before .before .before .before .before .pre .1 .0) (omega (arith, told .2)), c .before .before .before .before .before .before .before .before .before .before .before .before .before .before .before .pre .1 .1, omega (arith, told .2, c .before .before .before .before .before .before .before .before .before .before .before .before .before .before .before .pre .1 .2)))
+
+put-summands-returns-3 : (t : ℕ) → put-summands-lts.Need-returns-3 (
+  as-array-reads.Asked,
+  as-array-reads.Learnt,
+  put-cells-reads.Asked,
+  put-cells-reads.Learnt,
+  put-index-reads.Asked,
+  put-index-reads.Learnt,
+  put-summands-below t,
+  put-summands.Post,
+  as-pair-reads.Asked,
+  as-pair-reads.Learnt,
+  is-second-reads.Asked,
+  is-second-reads.Learnt,
+) (put-summands-at t) put-summands.Post
+put-summands-returns-3 t c = let told = told-pair (c .before .before .before .before .before .before .before .before .before .before .before .before .before .before .before .before .args .types .now) (c .before .before .before .before .before .before .before .before .before .before .before .before .before .before .before .before .args .place) (c .before .before .before .before .before .before .before .before .before .pair .given .1) (c .before .before .before .before .before .before .before .before .before .before .before .as-pair .ensures) in put-part (c .before .before .before .before .before .before .before .before .before .before .before .before .before .before .before .before .args .counters) _ _ _ _ _ _ (summands-second _ _ (c .before .before .before .before .before .before .before .before .before .before .before .before .before .before .before .before .args .j) _ _ (told .0) (sym (c .before .before .before .before .before .before .if1 .taken) ∙ c .before .before .before .before .before .before .before .is-second .ensures)) (c .before .before .before .put-cells2 .ensures) (c .put-summands2 .ensures)
+
+put-summands-add-put-summands-3 : (t : ℕ) → put-summands-lts.Need-add-put-summands-3 (
+  as-array-reads.Asked,
+  as-array-reads.Learnt,
+  put-cells-reads.Asked,
+  put-cells-reads.Learnt,
+  put-index-reads.Asked,
+  put-index-reads.Learnt,
+  put-summands-below t,
+  put-summands.Post,
+  as-pair-reads.Asked,
+  as-pair-reads.Learnt,
+  is-second-reads.Asked,
+  is-second-reads.Learnt,
+) (put-summands-at t) put-summands.Post
+put-summands-add-put-summands-3 t c = search needs
+
+put-summands-put-summands-requires-3 : (t : ℕ) → put-summands-lts.Need-put-summands-requires-3 (
+  as-array-reads.Asked,
+  as-array-reads.Learnt,
+  put-cells-reads.Asked,
+  put-cells-reads.Learnt,
+  put-index-reads.Asked,
+  put-index-reads.Learnt,
+  put-summands-below t,
+  put-summands.Post,
+  as-pair-reads.Asked,
+  as-pair-reads.Learnt,
+  is-second-reads.Asked,
+  is-second-reads.Learnt,
+) (put-summands-at t) put-summands.Post
+put-summands-put-summands-requires-3 t c κs = let told = told-pair (c .before .before .before .before .before .before .before .before .before .before .before .before .args .types .now) (c .before .before .before .before .before .before .before .before .before .before .before .before .args .place) (c .before .before .before .before .before .pair .given .1) (c .before .before .before .before .before .before .before .as-pair .ensures) in (omega (arith, told .1, c .before .before .before .before .before .before .before .before .before .before .before .before .pre .0), (sound-below (c .before .before .before .before .before .before .before .before .before .before .before .before .pre .1 .0) (omega (arith, told .1)), c .before .before .before .before .before .before .before .before .before .before .before .before .pre .1 .1, omega (arith, told .1, c .before .before .before .before .before .before .before .before .before .before .before .before .pre .1 .2)))
+
+put-summands-returns-4 : (t : ℕ) → put-summands-lts.Need-returns-4 (
+  as-array-reads.Asked,
+  as-array-reads.Learnt,
+  put-cells-reads.Asked,
+  put-cells-reads.Learnt,
+  put-index-reads.Asked,
+  put-index-reads.Learnt,
+  put-summands-below t,
+  put-summands.Post,
+  as-pair-reads.Asked,
+  as-pair-reads.Learnt,
+  is-second-reads.Asked,
+  is-second-reads.Learnt,
+) (put-summands-at t) put-summands.Post
+put-summands-returns-4 t c = let told = told-pair (c .before .before .before .before .before .before .before .before .before .before .before .before .before .args .types .now) (c .before .before .before .before .before .before .before .before .before .before .before .before .before .args .place) (c .before .before .before .before .before .before .pair .given .1) (c .before .before .before .before .before .before .before .before .as-pair .ensures) in put-same (c .before .before .before .before .before .before .before .before .before .before .before .before .before .args .counters) _ _ _ _ (summands-first _ _ (c .before .before .before .before .before .before .before .before .before .before .before .before .before .args .j) _ _ (told .0) (sym (c .before .before .before .if1 .left) ∙ c .before .before .before .before .is-second .ensures)) (c .put-summands3 .ensures)
+
+pub +put-summands-spec : {M : Type 1} → statement M
++put-summands-spec = close μ-put-summands λ t. put-summands-lts.spec (
+  as-array-reads.Asked,
+  as-array-reads.Learnt,
+  put-cells-reads.Asked,
+  put-cells-reads.Learnt,
+  put-index-reads.Asked,
+  put-index-reads.Learnt,
+  put-summands-below t,
+  put-summands.Post,
+  as-pair-reads.Asked,
+  as-pair-reads.Learnt,
+  is-second-reads.Asked,
+  is-second-reads.Learnt,
+)
+    (put-summands-at t)
+    put-summands.Post
+    (put-summands-as-array-requires t)
+    (put-summands-enum-known-array t)
+    (put-summands-put-cells-requires t)
+    (put-summands-put-index-requires t)
+    (put-summands-add-put-summands t)
+    (put-summands-put-summands-requires t)
+    (put-summands-returns t)
+    (put-summands-enum-told t)
+    (put-summands-as-pair-requires t)
+    (put-summands-enum-known-pair t)
+    (put-summands-enum-told-2 t)
+    (put-summands-returns-2 t)
+    (put-summands-is-second-requires t)
+    (put-summands-put-cells-requires-2 t)
+    (put-summands-add-put-summands-2 t)
+    (put-summands-put-summands-requires-2 t)
+    (put-summands-returns-3 t)
+    (put-summands-add-put-summands-3 t)
+    (put-summands-put-summands-requires-3 t)
+    (put-summands-returns-4 t)

@@ -1,0 +1,495 @@
+-- `put_index` meets its contract: the rows of what was found at the step are those of the index there.
+use native.Mathlib.Omega.{arith}
+use borrow.Author.Needs.{needs}
+use Prim.Native.Nat.{ℕ, _<_}
+use borrow.Fn.Kinds.{In}
+use borrow.Fn.PlainCycle.{Measures, is, falls, and}
+use Rattle.emission.specs.Laws.Indices.{index-by, depth-by, index-counter, index-literal, index-over, index-rest, index-group}
+use Rattle.emission.specs.Laws.Table.{put-none-past}
+use Rattle.emission.proofs.paths.put_index.Reads as put-index
+use Rattle.emission.proofs.paths.put_index.Kinds as put-index-kinds
+use Rattle.emission.proofs.paths.+put_index.Lts-put_index as put-index-lts
+use Rattle.emission.proofs.paths.from_innermost.Reads as from-innermost-reads
+use Rattle.emission.proofs.paths.step_at.Reads as step-at-reads
+use Rattle.emission.proofs.rows.put_count.Reads as put-count-reads
+use Rattle.emission.proofs.paths.+put_index.{statement}
+use Rattle.emission.proofs.paths.+put_index.Tie.{close}
+
+abbrev μ-put-index : Measures 3 put-index-kinds.ps ℕ
+μ-put-index κs a = a .1 .1 .1 .0
+
+abbrev put-index-at : ℕ → In 3 put-index-kinds.ps
+put-index-at t = and 3 put-index-kinds.ps (is 3 put-index-kinds.ps μ-put-index t) put-index.Pre
+
+abbrev put-index-below : ℕ → In 3 put-index-kinds.ps
+put-index-below t =
+    and 3 put-index-kinds.ps (falls 3 put-index-kinds.ps _<_ μ-put-index t) put-index.Pre
+
+put-index-returns : (t : ℕ) → put-index-lts.Need-returns (
+  step-at-reads.Asked,
+  step-at-reads.Learnt,
+  from-innermost-reads.Asked,
+  from-innermost-reads.Learnt,
+  put-count-reads.Asked,
+  put-count-reads.Learnt,
+  put-index-below t,
+  put-index.Post,
+) (put-index-at t) put-index.Post
+put-index-returns t c = put-none-past _ _ _ _ (c .if1 .taken)
+
+put-index-step-at-requires : (t : ℕ) → put-index-lts.Need-step-at-requires (
+  step-at-reads.Asked,
+  step-at-reads.Learnt,
+  from-innermost-reads.Asked,
+  from-innermost-reads.Learnt,
+  put-count-reads.Asked,
+  put-count-reads.Learnt,
+  put-index-below t,
+  put-index.Post,
+) (put-index-at t) put-index.Post
+put-index-step-at-requires t c κs = search needs
+
+put-index-enum-known-found : (t : ℕ) → put-index-lts.Need-enum-known-found (
+  step-at-reads.Asked,
+  step-at-reads.Learnt,
+  from-innermost-reads.Asked,
+  from-innermost-reads.Learnt,
+  put-count-reads.Asked,
+  put-count-reads.Learnt,
+  put-index-below t,
+  put-index.Post,
+) (put-index-at t) put-index.Post
+put-index-enum-known-found t c = search needs
+
+put-index-from-innermost-requires : (t : ℕ) → put-index-lts.Need-from-innermost-requires (
+  step-at-reads.Asked,
+  step-at-reads.Learnt,
+  from-innermost-reads.Asked,
+  from-innermost-reads.Learnt,
+  put-count-reads.Asked,
+  put-count-reads.Learnt,
+  put-index-below t,
+  put-index.Post,
+) (put-index-at t) put-index.Post
+put-index-from-innermost-requires t c κs = search needs
+
+put-index-put-count-requires : (t : ℕ) → put-index-lts.Need-put-count-requires (
+  step-at-reads.Asked,
+  step-at-reads.Learnt,
+  from-innermost-reads.Asked,
+  from-innermost-reads.Learnt,
+  put-count-reads.Asked,
+  put-count-reads.Learnt,
+  put-index-below t,
+  put-index.Post,
+) (put-index-at t) put-index.Post
+put-index-put-count-requires t c κs = search needs
+
+put-index-enum-known-found-2 : (t : ℕ) → put-index-lts.Need-enum-known-found-2 (
+  step-at-reads.Asked,
+  step-at-reads.Learnt,
+  from-innermost-reads.Asked,
+  from-innermost-reads.Learnt,
+  put-count-reads.Asked,
+  put-count-reads.Learnt,
+  put-index-below t,
+  put-index.Post,
+) (put-index-at t) put-index.Post
+put-index-enum-known-found-2 t c = search needs
+
+put-index-put-count-requires-2 : (t : ℕ) → put-index-lts.Need-put-count-requires-2 (
+  step-at-reads.Asked,
+  step-at-reads.Learnt,
+  from-innermost-reads.Asked,
+  from-innermost-reads.Learnt,
+  put-count-reads.Asked,
+  put-count-reads.Learnt,
+  put-index-below t,
+  put-index.Post,
+) (put-index-at t) put-index.Post
+put-index-put-count-requires-2 t c κs = search needs
+
+put-index-enum-known-found-3 : (t : ℕ) → put-index-lts.Need-enum-known-found-3 (
+  step-at-reads.Asked,
+  step-at-reads.Learnt,
+  from-innermost-reads.Asked,
+  from-innermost-reads.Learnt,
+  put-count-reads.Asked,
+  put-count-reads.Learnt,
+  put-index-below t,
+  put-index.Post,
+) (put-index-at t) put-index.Post
+put-index-enum-known-found-3 t c = search needs
+
+put-index-put-index-requires : (t : ℕ) → put-index-lts.Need-put-index-requires (
+  step-at-reads.Asked,
+  step-at-reads.Learnt,
+  from-innermost-reads.Asked,
+  from-innermost-reads.Learnt,
+  put-count-reads.Asked,
+  put-count-reads.Learnt,
+  put-index-below t,
+  put-index.Post,
+) (put-index-at t) put-index.Post
+put-index-put-index-requires t c κs = let h = depth-by _ (c .before .before .before .before .before .before .before .args .depth) (c .before .before .before .before .before .before .before .args .j) _ _ (c .before .before .before .before .before .step-at .ensures) (c .before .before .before .found3 .given .1) in (omega (arith, h, (c .before .before .before .before .before .before .before .pre)), (omega (arith, h, (c .before .before .before .before .before .before .before .pre)), omega (arith, h, (c .before .before .before .before .before .before .before .pre))))
+
+put-index-enum-known-found-4 : (t : ℕ) → put-index-lts.Need-enum-known-found-4 (
+  step-at-reads.Asked,
+  step-at-reads.Learnt,
+  from-innermost-reads.Asked,
+  from-innermost-reads.Learnt,
+  put-count-reads.Asked,
+  put-count-reads.Learnt,
+  put-index-below t,
+  put-index.Post,
+) (put-index-at t) put-index.Post
+put-index-enum-known-found-4 t c = search needs
+
+put-index-put-count-requires-3 : (t : ℕ) → put-index-lts.Need-put-count-requires-3 (
+  step-at-reads.Asked,
+  step-at-reads.Learnt,
+  from-innermost-reads.Asked,
+  from-innermost-reads.Learnt,
+  put-count-reads.Asked,
+  put-count-reads.Learnt,
+  put-index-below t,
+  put-index.Post,
+) (put-index-at t) put-index.Post
+put-index-put-count-requires-3 t c κs = search needs
+
+put-index-put-count-requires-4 : (t : ℕ) → put-index-lts.Need-put-count-requires-4 (
+  step-at-reads.Asked,
+  step-at-reads.Learnt,
+  from-innermost-reads.Asked,
+  from-innermost-reads.Learnt,
+  put-count-reads.Asked,
+  put-count-reads.Learnt,
+  put-index-below t,
+  put-index.Post,
+) (put-index-at t) put-index.Post
+put-index-put-count-requires-4 t c κs = search needs
+
+put-index-put-index-requires-2 : (t : ℕ) → put-index-lts.Need-put-index-requires-2 (
+  step-at-reads.Asked,
+  step-at-reads.Learnt,
+  from-innermost-reads.Asked,
+  from-innermost-reads.Learnt,
+  put-count-reads.Asked,
+  put-count-reads.Learnt,
+  put-index-below t,
+  put-index.Post,
+) (put-index-at t) put-index.Post
+put-index-put-index-requires-2 t c κs = let h = depth-by _ (c .before .before .before .before .before .before .before .before .before .before .before .before .before .args .depth) (c .before .before .before .before .before .before .before .before .before .before .before .before .before .args .j) _ _ (c .before .before .before .before .before .before .before .before .before .before .before .step-at .ensures) (c .before .before .before .before .before .before .before .before .before .found4 .given .1) in (omega (arith, h, (c .before .before .before .before .before .before .before .before .before .before .before .before .before .pre)), (omega (arith, h, (c .before .before .before .before .before .before .before .before .before .before .before .before .before .pre)), omega (arith, h, (c .before .before .before .before .before .before .before .before .before .before .before .before .before .pre))))
+
+put-index-put-index-requires-3 : (t : ℕ) → put-index-lts.Need-put-index-requires-3 (
+  step-at-reads.Asked,
+  step-at-reads.Learnt,
+  from-innermost-reads.Asked,
+  from-innermost-reads.Learnt,
+  put-count-reads.Asked,
+  put-count-reads.Learnt,
+  put-index-below t,
+  put-index.Post,
+) (put-index-at t) put-index.Post
+put-index-put-index-requires-3 t c κs = let h = depth-by _ (c .before .before .before .before .before .before .before .before .before .before .before .before .before .before .before .before .args .depth) (c .before .before .before .before .before .before .before .before .before .before .before .before .before .before .before .before .args .j) _ _ (c .before .before .before .before .before .before .before .before .before .before .before .before .before .before .step-at .ensures) (c .before .before .before .before .before .before .before .before .before .before .before .before .found4 .given .1) in (omega (arith, h, (c .before .before .before .before .before .before .before .before .before .before .before .before .before .before .before .before .pre)), (omega (arith, h, (c .before .before .before .before .before .before .before .before .before .before .before .before .before .before .before .before .pre)), omega (arith, h, (c .before .before .before .before .before .before .before .before .before .before .before .before .before .before .before .before .pre))))
+
+put-index-enum-known-found-5 : (t : ℕ) → put-index-lts.Need-enum-known-found-5 (
+  step-at-reads.Asked,
+  step-at-reads.Learnt,
+  from-innermost-reads.Asked,
+  from-innermost-reads.Learnt,
+  put-count-reads.Asked,
+  put-count-reads.Learnt,
+  put-index-below t,
+  put-index.Post,
+) (put-index-at t) put-index.Post
+put-index-enum-known-found-5 t c = search needs
+
+put-index-put-count-requires-5 : (t : ℕ) → put-index-lts.Need-put-count-requires-5 (
+  step-at-reads.Asked,
+  step-at-reads.Learnt,
+  from-innermost-reads.Asked,
+  from-innermost-reads.Learnt,
+  put-count-reads.Asked,
+  put-count-reads.Learnt,
+  put-index-below t,
+  put-index.Post,
+) (put-index-at t) put-index.Post
+put-index-put-count-requires-5 t c κs = search needs
+
+put-index-put-index-requires-4 : (t : ℕ) → put-index-lts.Need-put-index-requires-4 (
+  step-at-reads.Asked,
+  step-at-reads.Learnt,
+  from-innermost-reads.Asked,
+  from-innermost-reads.Learnt,
+  put-count-reads.Asked,
+  put-count-reads.Learnt,
+  put-index-below t,
+  put-index.Post,
+) (put-index-at t) put-index.Post
+put-index-put-index-requires-4 t c κs = let h = depth-by _ (c .before .before .before .before .before .before .before .before .before .before .args .depth) (c .before .before .before .before .before .before .before .before .before .before .args .j) _ _ (c .before .before .before .before .before .before .before .before .step-at .ensures) (c .before .before .before .before .before .before .found5 .given .1) in (omega (arith, h, (c .before .before .before .before .before .before .before .before .before .before .pre)), (omega (arith, h, (c .before .before .before .before .before .before .before .before .before .before .pre)), omega (arith, h, (c .before .before .before .before .before .before .before .before .before .before .pre))))
+
+put-index-enum-known-found-6 : (t : ℕ) → put-index-lts.Need-enum-known-found-6 (
+  step-at-reads.Asked,
+  step-at-reads.Learnt,
+  from-innermost-reads.Asked,
+  from-innermost-reads.Learnt,
+  put-count-reads.Asked,
+  put-count-reads.Learnt,
+  put-index-below t,
+  put-index.Post,
+) (put-index-at t) put-index.Post
+put-index-enum-known-found-6 t c = search needs
+
+put-index-put-count-requires-6 : (t : ℕ) → put-index-lts.Need-put-count-requires-6 (
+  step-at-reads.Asked,
+  step-at-reads.Learnt,
+  from-innermost-reads.Asked,
+  from-innermost-reads.Learnt,
+  put-count-reads.Asked,
+  put-count-reads.Learnt,
+  put-index-below t,
+  put-index.Post,
+) (put-index-at t) put-index.Post
+put-index-put-count-requires-6 t c κs = search needs
+
+put-index-put-index-requires-5 : (t : ℕ) → put-index-lts.Need-put-index-requires-5 (
+  step-at-reads.Asked,
+  step-at-reads.Learnt,
+  from-innermost-reads.Asked,
+  from-innermost-reads.Learnt,
+  put-count-reads.Asked,
+  put-count-reads.Learnt,
+  put-index-below t,
+  put-index.Post,
+) (put-index-at t) put-index.Post
+put-index-put-index-requires-5 t c κs = let h = depth-by _ (c .before .before .before .before .before .before .before .before .before .before .args .depth) (c .before .before .before .before .before .before .before .before .before .before .args .j) _ _ (c .before .before .before .before .before .before .before .before .step-at .ensures) (c .before .before .before .before .before .before .found6 .given .1) in (omega (arith, h, (c .before .before .before .before .before .before .before .before .before .before .pre)), (omega (arith, h, (c .before .before .before .before .before .before .before .before .before .before .pre)), omega (arith, h, (c .before .before .before .before .before .before .before .before .before .before .pre))))
+
+put-index-enum-told : (t : ℕ) → put-index-lts.Need-enum-told (
+  step-at-reads.Asked,
+  step-at-reads.Learnt,
+  from-innermost-reads.Asked,
+  from-innermost-reads.Learnt,
+  put-count-reads.Asked,
+  put-count-reads.Learnt,
+  put-index-below t,
+  put-index.Post,
+) (put-index-at t) put-index.Post
+put-index-enum-told t c = search needs
+
+put-index-put-count-requires-7 : (t : ℕ) → put-index-lts.Need-put-count-requires-7 (
+  step-at-reads.Asked,
+  step-at-reads.Learnt,
+  from-innermost-reads.Asked,
+  from-innermost-reads.Learnt,
+  put-count-reads.Asked,
+  put-count-reads.Learnt,
+  put-index-below t,
+  put-index.Post,
+) (put-index-at t) put-index.Post
+put-index-put-count-requires-7 t c κs = search needs
+
+put-index-enum-told-2 : (t : ℕ) → put-index-lts.Need-enum-told-2 (
+  step-at-reads.Asked,
+  step-at-reads.Learnt,
+  from-innermost-reads.Asked,
+  from-innermost-reads.Learnt,
+  put-count-reads.Asked,
+  put-count-reads.Learnt,
+  put-index-below t,
+  put-index.Post,
+) (put-index-at t) put-index.Post
+put-index-enum-told-2 t c = search needs
+
+put-index-put-count-requires-8 : (t : ℕ) → put-index-lts.Need-put-count-requires-8 (
+  step-at-reads.Asked,
+  step-at-reads.Learnt,
+  from-innermost-reads.Asked,
+  from-innermost-reads.Learnt,
+  put-count-reads.Asked,
+  put-count-reads.Learnt,
+  put-index-below t,
+  put-index.Post,
+) (put-index-at t) put-index.Post
+put-index-put-count-requires-8 t c κs = search needs
+
+put-index-enum-told-3 : (t : ℕ) → put-index-lts.Need-enum-told-3 (
+  step-at-reads.Asked,
+  step-at-reads.Learnt,
+  from-innermost-reads.Asked,
+  from-innermost-reads.Learnt,
+  put-count-reads.Asked,
+  put-count-reads.Learnt,
+  put-index-below t,
+  put-index.Post,
+) (put-index-at t) put-index.Post
+put-index-enum-told-3 t c = search needs
+
+put-index-put-count-requires-9 : (t : ℕ) → put-index-lts.Need-put-count-requires-9 (
+  step-at-reads.Asked,
+  step-at-reads.Learnt,
+  from-innermost-reads.Asked,
+  from-innermost-reads.Learnt,
+  put-count-reads.Asked,
+  put-count-reads.Learnt,
+  put-index-below t,
+  put-index.Post,
+) (put-index-at t) put-index.Post
+put-index-put-count-requires-9 t c κs = search needs
+
+put-index-returns-2 : (t : ℕ) → put-index-lts.Need-returns-2 (
+  step-at-reads.Asked,
+  step-at-reads.Learnt,
+  from-innermost-reads.Asked,
+  from-innermost-reads.Learnt,
+  put-count-reads.Asked,
+  put-count-reads.Learnt,
+  put-index-below t,
+  put-index.Post,
+) (put-index-at t) put-index.Post
+put-index-returns-2 t c = index-by _ (c .before .before .before .before .before .before .before .before .before .args .depth) (c .before .before .before .before .before .before .before .before .before .args .j) _ _ (c .before .before .before .before .before .before .before .step-at .ensures) (c .before .before .before .before .before .found .given .1) _ _ _ (index-counter (c .before .before .before .before .before .before .before .before .before .args .changes .now) (c .before .before .before .before .before .before .before .before .before .args .counters) _ _ _ _ (c .before .from-innermost .ensures) (c .put-count .ensures))
+
+put-index-returns-3 : (t : ℕ) → put-index-lts.Need-returns-3 (
+  step-at-reads.Asked,
+  step-at-reads.Learnt,
+  from-innermost-reads.Asked,
+  from-innermost-reads.Learnt,
+  put-count-reads.Asked,
+  put-count-reads.Learnt,
+  put-index-below t,
+  put-index.Post,
+) (put-index-at t) put-index.Post
+put-index-returns-3 t c = index-by _ (c .before .before .before .before .before .before .before .before .args .depth) (c .before .before .before .before .before .before .before .before .args .j) _ _ (c .before .before .before .before .before .before .step-at .ensures) (c .before .before .before .before .found2 .given .1) _ _ _ (index-literal (c .before .before .before .before .before .before .before .before .args .changes .now) (c .before .before .before .before .before .before .before .before .args .counters) _ _ _ (c .put-count2 .ensures))
+
+put-index-returns-4 : (t : ℕ) → put-index-lts.Need-returns-4 (
+  step-at-reads.Asked,
+  step-at-reads.Learnt,
+  from-innermost-reads.Asked,
+  from-innermost-reads.Learnt,
+  put-count-reads.Asked,
+  put-count-reads.Learnt,
+  put-index-below t,
+  put-index.Post,
+) (put-index-at t) put-index.Post
+put-index-returns-4 t c = index-by _ (c .before .before .before .before .before .before .before .before .args .depth) (c .before .before .before .before .before .before .before .before .args .j) _ _ (c .before .before .before .before .before .before .step-at .ensures) (c .before .before .before .before .found3 .given .1) _ _ _ (c .put-index .ensures)
+
+put-index-returns-5 : (t : ℕ) → put-index-lts.Need-returns-5 (
+  step-at-reads.Asked,
+  step-at-reads.Learnt,
+  from-innermost-reads.Asked,
+  from-innermost-reads.Learnt,
+  put-count-reads.Asked,
+  put-count-reads.Learnt,
+  put-index-below t,
+  put-index.Post,
+) (put-index-at t) put-index.Post
+put-index-returns-5 t c = index-by _ (c .before .before .before .before .before .before .before .before .before .before .before .before .before .before .before .before .before .args .depth) (c .before .before .before .before .before .before .before .before .before .before .before .before .before .before .before .before .before .args .j) _ _ (c .before .before .before .before .before .before .before .before .before .before .before .before .before .before .before .step-at .ensures) (c .before .before .before .before .before .before .before .before .before .before .before .before .before .found4 .given .1) _ _ _ (index-group _ _ _ _ _ _ _ _ _ (c .before .before .before .before .before .before .before .before .before .put-count3 .ensures) (c .before .before .before .before .before .before .put-count4 .ensures) (c .before .before .before .put-index2 .ensures) (c .put-index3 .ensures))
+
+put-index-returns-6 : (t : ℕ) → put-index-lts.Need-returns-6 (
+  step-at-reads.Asked,
+  step-at-reads.Learnt,
+  from-innermost-reads.Asked,
+  from-innermost-reads.Learnt,
+  put-count-reads.Asked,
+  put-count-reads.Learnt,
+  put-index-below t,
+  put-index.Post,
+) (put-index-at t) put-index.Post
+put-index-returns-6 t c = index-by _ (c .before .before .before .before .before .before .before .before .before .before .before .args .depth) (c .before .before .before .before .before .before .before .before .before .before .before .args .j) _ _ (c .before .before .before .before .before .before .before .before .before .step-at .ensures) (c .before .before .before .before .before .before .before .found5 .given .1) _ _ _ (index-over _ _ _ _ _ _ _ (c .before .before .before .put-count5 .ensures) (c .put-index4 .ensures))
+
+put-index-returns-7 : (t : ℕ) → put-index-lts.Need-returns-7 (
+  step-at-reads.Asked,
+  step-at-reads.Learnt,
+  from-innermost-reads.Asked,
+  from-innermost-reads.Learnt,
+  put-count-reads.Asked,
+  put-count-reads.Learnt,
+  put-index-below t,
+  put-index.Post,
+) (put-index-at t) put-index.Post
+put-index-returns-7 t c = index-by _ (c .before .before .before .before .before .before .before .before .before .before .before .args .depth) (c .before .before .before .before .before .before .before .before .before .before .before .args .j) _ _ (c .before .before .before .before .before .before .before .before .before .step-at .ensures) (c .before .before .before .before .before .before .before .found6 .given .1) _ _ _ (index-rest _ _ _ _ _ _ _ (c .before .before .before .put-count6 .ensures) (c .put-index5 .ensures))
+
+put-index-returns-8 : (t : ℕ) → put-index-lts.Need-returns-8 (
+  step-at-reads.Asked,
+  step-at-reads.Learnt,
+  from-innermost-reads.Asked,
+  from-innermost-reads.Learnt,
+  put-count-reads.Asked,
+  put-count-reads.Learnt,
+  put-index-below t,
+  put-index.Post,
+) (put-index-at t) put-index.Post
+put-index-returns-8 t c = index-by _ (c .before .before .before .before .before .before .before .args .depth) (c .before .before .before .before .before .before .before .args .j) _ _ (c .before .before .before .before .before .step-at .ensures) (c .before .before .before .enum-told .given .1) _ _ _ (index-literal (c .before .before .before .before .before .before .before .args .changes .now) (c .before .before .before .before .before .before .before .args .counters) _ _ _ (c .put-count7 .ensures))
+
+put-index-returns-9 : (t : ℕ) → put-index-lts.Need-returns-9 (
+  step-at-reads.Asked,
+  step-at-reads.Learnt,
+  from-innermost-reads.Asked,
+  from-innermost-reads.Learnt,
+  put-count-reads.Asked,
+  put-count-reads.Learnt,
+  put-index-below t,
+  put-index.Post,
+) (put-index-at t) put-index.Post
+put-index-returns-9 t c = index-by _ (c .before .before .before .before .before .before .before .args .depth) (c .before .before .before .before .before .before .before .args .j) _ _ (c .before .before .before .before .before .step-at .ensures) (c .before .before .before .enum-told2 .given .1) _ _ _ (index-literal (c .before .before .before .before .before .before .before .args .changes .now) (c .before .before .before .before .before .before .before .args .counters) _ _ _ (c .put-count8 .ensures))
+
+put-index-returns-10 : (t : ℕ) → put-index-lts.Need-returns-10 (
+  step-at-reads.Asked,
+  step-at-reads.Learnt,
+  from-innermost-reads.Asked,
+  from-innermost-reads.Learnt,
+  put-count-reads.Asked,
+  put-count-reads.Learnt,
+  put-index-below t,
+  put-index.Post,
+) (put-index-at t) put-index.Post
+put-index-returns-10 t c = index-by _ (c .before .before .before .before .before .before .before .args .depth) (c .before .before .before .before .before .before .before .args .j) _ _ (c .before .before .before .before .before .step-at .ensures) (c .before .before .before .enum-told3 .given .1) _ _ _ (index-literal (c .before .before .before .before .before .before .before .args .changes .now) (c .before .before .before .before .before .before .before .args .counters) _ _ _ (c .put-count9 .ensures))
+
+pub +put-index-spec : {M : Type 1} → statement M
++put-index-spec = close μ-put-index λ t. put-index-lts.spec (
+  step-at-reads.Asked,
+  step-at-reads.Learnt,
+  from-innermost-reads.Asked,
+  from-innermost-reads.Learnt,
+  put-count-reads.Asked,
+  put-count-reads.Learnt,
+  put-index-below t,
+  put-index.Post,
+)
+    (put-index-at t)
+    put-index.Post
+    (put-index-returns t)
+    (put-index-step-at-requires t)
+    (put-index-enum-known-found t)
+    (put-index-from-innermost-requires t)
+    (put-index-put-count-requires t)
+    (put-index-enum-known-found-2 t)
+    (put-index-put-count-requires-2 t)
+    (put-index-enum-known-found-3 t)
+    (put-index-put-index-requires t)
+    (put-index-enum-known-found-4 t)
+    (put-index-put-count-requires-3 t)
+    (put-index-put-count-requires-4 t)
+    (put-index-put-index-requires-2 t)
+    (put-index-put-index-requires-3 t)
+    (put-index-enum-known-found-5 t)
+    (put-index-put-count-requires-5 t)
+    (put-index-put-index-requires-4 t)
+    (put-index-enum-known-found-6 t)
+    (put-index-put-count-requires-6 t)
+    (put-index-put-index-requires-5 t)
+    (put-index-enum-told t)
+    (put-index-put-count-requires-7 t)
+    (put-index-enum-told-2 t)
+    (put-index-put-count-requires-8 t)
+    (put-index-enum-told-3 t)
+    (put-index-put-count-requires-9 t)
+    (put-index-returns-2 t)
+    (put-index-returns-3 t)
+    (put-index-returns-4 t)
+    (put-index-returns-5 t)
+    (put-index-returns-6 t)
+    (put-index-returns-7 t)
+    (put-index-returns-8 t)
+    (put-index-returns-9 t)
+    (put-index-returns-10 t)

@@ -1,0 +1,1258 @@
+-- `put_place` meets its contract: by the node's class; a node that rearranges changes the path, and its operand is written.
+use native.Mathlib.Omega.{arith}
+use borrow.Author.Needs.{needs}
+use lib.ListN.{getD, length-set}
+use mathlib.Core.Path.{refl, _∙_}
+use Prim.Native.Nat.{ℕ, _<_}
+use borrow.Fn.Kinds.{In}
+use borrow.Fn.PlainCycle.{Measures, is, falls, and}
+use Rattle.emission.specs.Laws.Places.{place-left, place-right, place-nowhere, place-output, place-region, place-rearranged}
+use Rattle.emission.specs.Laws.Values.{path-push}
+use Rattle.emission.specs.Laws.Operands.{written-below}
+use Rattle.emission.specs.Changes.{changeOf}
+use Rattle.emission.specs.Nodes.{kindIn, leftIn}
+use Rattle.emission.proofs.places.put_place.Reads as put-place
+use Rattle.emission.proofs.places.put_place.Kinds as put-place-kinds
+use Rattle.emission.proofs.places.+put_place.Lts-put_place as put-place-lts
+use Rattle.emission.proofs.offsets.put_offset.Reads as put-offset-reads
+use Rattle.emission.proofs.paths.from_innermost.Reads as from-innermost-reads
+use Rattle.emission.proofs.references.class_of.Reads as class-of-reads
+use Rattle.emission.proofs.references.kind_in.Reads as kind-in-reads
+use Rattle.emission.proofs.references.left_in.Reads as left-in-reads
+use Rattle.emission.proofs.references.number_in.Reads as number-in-reads
+use Rattle.emission.proofs.references.right_in.Reads as right-in-reads
+use Rattle.emission.proofs.references.type_in.Reads as type-in-reads
+use Rattle.emission.proofs.rows.put_count.Reads as put-count-reads
+use Rattle.emission.proofs.places.operand_written.Reads as operand-written-reads
+use Rattle.emission.proofs.places.put_nowhere.Reads as put-nowhere-reads
+use Rattle.emission.proofs.places.+put_place.{statement}
+use Rattle.emission.proofs.places.+put_place.Tie.{close}
+
+abbrev μ-put-place : Measures 5 put-place-kinds.ps ℕ
+μ-put-place κs a = a .1 .1 .1 .1 .1 .0
+
+abbrev put-place-at : ℕ → In 5 put-place-kinds.ps
+put-place-at t = and 5 put-place-kinds.ps (is 5 put-place-kinds.ps μ-put-place t) put-place.Pre
+
+abbrev put-place-below : ℕ → In 5 put-place-kinds.ps
+put-place-below t =
+    and 5 put-place-kinds.ps (falls 5 put-place-kinds.ps _<_ μ-put-place t) put-place.Pre
+
+put-place-mul-node : (t : ℕ) → put-place-lts.Need-mul-node (
+  left-in-reads.Asked,
+  left-in-reads.Learnt,
+  right-in-reads.Asked,
+  right-in-reads.Learnt,
+  put-nowhere-reads.Asked,
+  put-nowhere-reads.Learnt,
+  kind-in-reads.Asked,
+  kind-in-reads.Learnt,
+  class-of-reads.Asked,
+  class-of-reads.Learnt,
+  put-count-reads.Asked,
+  put-count-reads.Learnt,
+  type-in-reads.Asked,
+  type-in-reads.Learnt,
+  put-offset-reads.Asked,
+  put-offset-reads.Learnt,
+  number-in-reads.Asked,
+  number-in-reads.Learnt,
+  from-innermost-reads.Asked,
+  from-innermost-reads.Learnt,
+  operand-written-reads.Asked,
+  operand-written-reads.Learnt,
+  put-place-below t,
+  put-place.Post,
+) (put-place-at t) put-place.Post
+put-place-mul-node t c = search needs
+
+put-place-element-copy-out-node : (t : ℕ) → put-place-lts.Need-element-copy-out-node (
+  left-in-reads.Asked,
+  left-in-reads.Learnt,
+  right-in-reads.Asked,
+  right-in-reads.Learnt,
+  put-nowhere-reads.Asked,
+  put-nowhere-reads.Learnt,
+  kind-in-reads.Asked,
+  kind-in-reads.Learnt,
+  class-of-reads.Asked,
+  class-of-reads.Learnt,
+  put-count-reads.Asked,
+  put-count-reads.Learnt,
+  type-in-reads.Asked,
+  type-in-reads.Learnt,
+  put-offset-reads.Asked,
+  put-offset-reads.Learnt,
+  number-in-reads.Asked,
+  number-in-reads.Learnt,
+  from-innermost-reads.Asked,
+  from-innermost-reads.Learnt,
+  operand-written-reads.Asked,
+  operand-written-reads.Learnt,
+  put-place-below t,
+  put-place.Post,
+) (put-place-at t) put-place.Post
+put-place-element-copy-out-node t c = search needs
+
+put-place-left-in-requires : (t : ℕ) → put-place-lts.Need-left-in-requires (
+  left-in-reads.Asked,
+  left-in-reads.Learnt,
+  right-in-reads.Asked,
+  right-in-reads.Learnt,
+  put-nowhere-reads.Asked,
+  put-nowhere-reads.Learnt,
+  kind-in-reads.Asked,
+  kind-in-reads.Learnt,
+  class-of-reads.Asked,
+  class-of-reads.Learnt,
+  put-count-reads.Asked,
+  put-count-reads.Learnt,
+  type-in-reads.Asked,
+  type-in-reads.Learnt,
+  put-offset-reads.Asked,
+  put-offset-reads.Learnt,
+  number-in-reads.Asked,
+  number-in-reads.Learnt,
+  from-innermost-reads.Asked,
+  from-innermost-reads.Learnt,
+  operand-written-reads.Asked,
+  operand-written-reads.Learnt,
+  put-place-below t,
+  put-place.Post,
+) (put-place-at t) put-place.Post
+put-place-left-in-requires t c κs = search needs
+
+put-place-right-in-requires : (t : ℕ) → put-place-lts.Need-right-in-requires (
+  left-in-reads.Asked,
+  left-in-reads.Learnt,
+  right-in-reads.Asked,
+  right-in-reads.Learnt,
+  put-nowhere-reads.Asked,
+  put-nowhere-reads.Learnt,
+  kind-in-reads.Asked,
+  kind-in-reads.Learnt,
+  class-of-reads.Asked,
+  class-of-reads.Learnt,
+  put-count-reads.Asked,
+  put-count-reads.Learnt,
+  type-in-reads.Asked,
+  type-in-reads.Learnt,
+  put-offset-reads.Asked,
+  put-offset-reads.Learnt,
+  number-in-reads.Asked,
+  number-in-reads.Learnt,
+  from-innermost-reads.Asked,
+  from-innermost-reads.Learnt,
+  operand-written-reads.Asked,
+  operand-written-reads.Learnt,
+  put-place-below t,
+  put-place.Post,
+) (put-place-at t) put-place.Post
+put-place-right-in-requires t c κs = search needs
+
+put-place-put-nowhere-requires : (t : ℕ) → put-place-lts.Need-put-nowhere-requires (
+  left-in-reads.Asked,
+  left-in-reads.Learnt,
+  right-in-reads.Asked,
+  right-in-reads.Learnt,
+  put-nowhere-reads.Asked,
+  put-nowhere-reads.Learnt,
+  kind-in-reads.Asked,
+  kind-in-reads.Learnt,
+  class-of-reads.Asked,
+  class-of-reads.Learnt,
+  put-count-reads.Asked,
+  put-count-reads.Learnt,
+  type-in-reads.Asked,
+  type-in-reads.Learnt,
+  put-offset-reads.Asked,
+  put-offset-reads.Learnt,
+  number-in-reads.Asked,
+  number-in-reads.Learnt,
+  from-innermost-reads.Asked,
+  from-innermost-reads.Learnt,
+  operand-written-reads.Asked,
+  operand-written-reads.Learnt,
+  put-place-below t,
+  put-place.Post,
+) (put-place-at t) put-place.Post
+put-place-put-nowhere-requires t c κs = search needs
+
+put-place-returns : (t : ℕ) → put-place-lts.Need-returns (
+  left-in-reads.Asked,
+  left-in-reads.Learnt,
+  right-in-reads.Asked,
+  right-in-reads.Learnt,
+  put-nowhere-reads.Asked,
+  put-nowhere-reads.Learnt,
+  kind-in-reads.Asked,
+  kind-in-reads.Learnt,
+  class-of-reads.Asked,
+  class-of-reads.Learnt,
+  put-count-reads.Asked,
+  put-count-reads.Learnt,
+  type-in-reads.Asked,
+  type-in-reads.Learnt,
+  put-offset-reads.Asked,
+  put-offset-reads.Learnt,
+  number-in-reads.Asked,
+  number-in-reads.Learnt,
+  from-innermost-reads.Asked,
+  from-innermost-reads.Learnt,
+  operand-written-reads.Asked,
+  operand-written-reads.Learnt,
+  put-place-below t,
+  put-place.Post,
+) (put-place-at t) put-place.Post
+put-place-returns t c = (place-left (c .before .before .before .before .before .before .before .before .args .types .now) (c .before .before .before .before .before .before .before .before .args .counters) (c .before .before .before .before .before .before .before .before .args .regions) (c .before .before .before .before .before .before .before .before .args .references .now) (c .before .before .before .before .before .before .before .before .args .from) _ _ (c .before .before .before .before .before .left-in .ensures) (c .before .before .before .before .right-in .ensures) _ _ _ (omega arith) (c .put-nowhere .ensures), c .before .before .before .before .before .before .before .before .pre .1 .3)
+
+put-place-put-nowhere-requires-2 : (t : ℕ) → put-place-lts.Need-put-nowhere-requires-2 (
+  left-in-reads.Asked,
+  left-in-reads.Learnt,
+  right-in-reads.Asked,
+  right-in-reads.Learnt,
+  put-nowhere-reads.Asked,
+  put-nowhere-reads.Learnt,
+  kind-in-reads.Asked,
+  kind-in-reads.Learnt,
+  class-of-reads.Asked,
+  class-of-reads.Learnt,
+  put-count-reads.Asked,
+  put-count-reads.Learnt,
+  type-in-reads.Asked,
+  type-in-reads.Learnt,
+  put-offset-reads.Asked,
+  put-offset-reads.Learnt,
+  number-in-reads.Asked,
+  number-in-reads.Learnt,
+  from-innermost-reads.Asked,
+  from-innermost-reads.Learnt,
+  operand-written-reads.Asked,
+  operand-written-reads.Learnt,
+  put-place-below t,
+  put-place.Post,
+) (put-place-at t) put-place.Post
+put-place-put-nowhere-requires-2 t c κs = search needs
+
+put-place-returns-2 : (t : ℕ) → put-place-lts.Need-returns-2 (
+  left-in-reads.Asked,
+  left-in-reads.Learnt,
+  right-in-reads.Asked,
+  right-in-reads.Learnt,
+  put-nowhere-reads.Asked,
+  put-nowhere-reads.Learnt,
+  kind-in-reads.Asked,
+  kind-in-reads.Learnt,
+  class-of-reads.Asked,
+  class-of-reads.Learnt,
+  put-count-reads.Asked,
+  put-count-reads.Learnt,
+  type-in-reads.Asked,
+  type-in-reads.Learnt,
+  put-offset-reads.Asked,
+  put-offset-reads.Learnt,
+  number-in-reads.Asked,
+  number-in-reads.Learnt,
+  from-innermost-reads.Asked,
+  from-innermost-reads.Learnt,
+  operand-written-reads.Asked,
+  operand-written-reads.Learnt,
+  put-place-below t,
+  put-place.Post,
+) (put-place-at t) put-place.Post
+put-place-returns-2 t c = (place-right (c .before .before .before .before .before .before .before .before .before .args .types .now) (c .before .before .before .before .before .before .before .before .before .args .counters) (c .before .before .before .before .before .before .before .before .before .args .regions) (c .before .before .before .before .before .before .before .before .before .args .references .now) (c .before .before .before .before .before .before .before .before .before .args .from) _ _ (c .before .before .before .before .before .before .left-in .ensures) (c .before .before .before .before .before .right-in .ensures) _ _ _ (omega arith) (c .put-nowhere2 .ensures), c .before .before .before .before .before .before .before .before .before .pre .1 .3)
+
+put-place-kind-in-requires : (t : ℕ) → put-place-lts.Need-kind-in-requires (
+  left-in-reads.Asked,
+  left-in-reads.Learnt,
+  right-in-reads.Asked,
+  right-in-reads.Learnt,
+  put-nowhere-reads.Asked,
+  put-nowhere-reads.Learnt,
+  kind-in-reads.Asked,
+  kind-in-reads.Learnt,
+  class-of-reads.Asked,
+  class-of-reads.Learnt,
+  put-count-reads.Asked,
+  put-count-reads.Learnt,
+  type-in-reads.Asked,
+  type-in-reads.Learnt,
+  put-offset-reads.Asked,
+  put-offset-reads.Learnt,
+  number-in-reads.Asked,
+  number-in-reads.Learnt,
+  from-innermost-reads.Asked,
+  from-innermost-reads.Learnt,
+  operand-written-reads.Asked,
+  operand-written-reads.Learnt,
+  put-place-below t,
+  put-place.Post,
+) (put-place-at t) put-place.Post
+put-place-kind-in-requires t c κs = search needs
+
+put-place-class-of-requires : (t : ℕ) → put-place-lts.Need-class-of-requires (
+  left-in-reads.Asked,
+  left-in-reads.Learnt,
+  right-in-reads.Asked,
+  right-in-reads.Learnt,
+  put-nowhere-reads.Asked,
+  put-nowhere-reads.Learnt,
+  kind-in-reads.Asked,
+  kind-in-reads.Learnt,
+  class-of-reads.Asked,
+  class-of-reads.Learnt,
+  put-count-reads.Asked,
+  put-count-reads.Learnt,
+  type-in-reads.Asked,
+  type-in-reads.Learnt,
+  put-offset-reads.Asked,
+  put-offset-reads.Learnt,
+  number-in-reads.Asked,
+  number-in-reads.Learnt,
+  from-innermost-reads.Asked,
+  from-innermost-reads.Learnt,
+  operand-written-reads.Asked,
+  operand-written-reads.Learnt,
+  put-place-below t,
+  put-place.Post,
+) (put-place-at t) put-place.Post
+put-place-class-of-requires t c κs = search needs
+
+put-place-enum-told : (t : ℕ) → put-place-lts.Need-enum-told (
+  left-in-reads.Asked,
+  left-in-reads.Learnt,
+  right-in-reads.Asked,
+  right-in-reads.Learnt,
+  put-nowhere-reads.Asked,
+  put-nowhere-reads.Learnt,
+  kind-in-reads.Asked,
+  kind-in-reads.Learnt,
+  class-of-reads.Asked,
+  class-of-reads.Learnt,
+  put-count-reads.Asked,
+  put-count-reads.Learnt,
+  type-in-reads.Asked,
+  type-in-reads.Learnt,
+  put-offset-reads.Asked,
+  put-offset-reads.Learnt,
+  number-in-reads.Asked,
+  number-in-reads.Learnt,
+  from-innermost-reads.Asked,
+  from-innermost-reads.Learnt,
+  operand-written-reads.Asked,
+  operand-written-reads.Learnt,
+  put-place-below t,
+  put-place.Post,
+) (put-place-at t) put-place.Post
+put-place-enum-told t c = search needs
+
+put-place-put-count-requires : (t : ℕ) → put-place-lts.Need-put-count-requires (
+  left-in-reads.Asked,
+  left-in-reads.Learnt,
+  right-in-reads.Asked,
+  right-in-reads.Learnt,
+  put-nowhere-reads.Asked,
+  put-nowhere-reads.Learnt,
+  kind-in-reads.Asked,
+  kind-in-reads.Learnt,
+  class-of-reads.Asked,
+  class-of-reads.Learnt,
+  put-count-reads.Asked,
+  put-count-reads.Learnt,
+  type-in-reads.Asked,
+  type-in-reads.Learnt,
+  put-offset-reads.Asked,
+  put-offset-reads.Learnt,
+  number-in-reads.Asked,
+  number-in-reads.Learnt,
+  from-innermost-reads.Asked,
+  from-innermost-reads.Learnt,
+  operand-written-reads.Asked,
+  operand-written-reads.Learnt,
+  put-place-below t,
+  put-place.Post,
+) (put-place-at t) put-place.Post
+put-place-put-count-requires t c κs = search needs
+
+put-place-type-in-requires : (t : ℕ) → put-place-lts.Need-type-in-requires (
+  left-in-reads.Asked,
+  left-in-reads.Learnt,
+  right-in-reads.Asked,
+  right-in-reads.Learnt,
+  put-nowhere-reads.Asked,
+  put-nowhere-reads.Learnt,
+  kind-in-reads.Asked,
+  kind-in-reads.Learnt,
+  class-of-reads.Asked,
+  class-of-reads.Learnt,
+  put-count-reads.Asked,
+  put-count-reads.Learnt,
+  type-in-reads.Asked,
+  type-in-reads.Learnt,
+  put-offset-reads.Asked,
+  put-offset-reads.Learnt,
+  number-in-reads.Asked,
+  number-in-reads.Learnt,
+  from-innermost-reads.Asked,
+  from-innermost-reads.Learnt,
+  operand-written-reads.Asked,
+  operand-written-reads.Learnt,
+  put-place-below t,
+  put-place.Post,
+) (put-place-at t) put-place.Post
+put-place-type-in-requires t c κs = search needs
+
+put-place-put-offset-requires : (t : ℕ) → put-place-lts.Need-put-offset-requires (
+  left-in-reads.Asked,
+  left-in-reads.Learnt,
+  right-in-reads.Asked,
+  right-in-reads.Learnt,
+  put-nowhere-reads.Asked,
+  put-nowhere-reads.Learnt,
+  kind-in-reads.Asked,
+  kind-in-reads.Learnt,
+  class-of-reads.Asked,
+  class-of-reads.Learnt,
+  put-count-reads.Asked,
+  put-count-reads.Learnt,
+  type-in-reads.Asked,
+  type-in-reads.Learnt,
+  put-offset-reads.Asked,
+  put-offset-reads.Learnt,
+  number-in-reads.Asked,
+  number-in-reads.Learnt,
+  from-innermost-reads.Asked,
+  from-innermost-reads.Learnt,
+  operand-written-reads.Asked,
+  operand-written-reads.Learnt,
+  put-place-below t,
+  put-place.Post,
+) (put-place-at t) put-place.Post
+put-place-put-offset-requires t c κs = (c .before .before .before .before .before .before .before .before .before .before .before .before .before .before .before .before .before .pre .1 .0, omega (arith, c .before .before .before .before .before .before .before .before .before .before .before .before .before .before .before .before .before .pre .1 .2))
+
+put-place-enum-told-2 : (t : ℕ) → put-place-lts.Need-enum-told-2 (
+  left-in-reads.Asked,
+  left-in-reads.Learnt,
+  right-in-reads.Asked,
+  right-in-reads.Learnt,
+  put-nowhere-reads.Asked,
+  put-nowhere-reads.Learnt,
+  kind-in-reads.Asked,
+  kind-in-reads.Learnt,
+  class-of-reads.Asked,
+  class-of-reads.Learnt,
+  put-count-reads.Asked,
+  put-count-reads.Learnt,
+  type-in-reads.Asked,
+  type-in-reads.Learnt,
+  put-offset-reads.Asked,
+  put-offset-reads.Learnt,
+  number-in-reads.Asked,
+  number-in-reads.Learnt,
+  from-innermost-reads.Asked,
+  from-innermost-reads.Learnt,
+  operand-written-reads.Asked,
+  operand-written-reads.Learnt,
+  put-place-below t,
+  put-place.Post,
+) (put-place-at t) put-place.Post
+put-place-enum-told-2 t c = search needs
+
+put-place-number-in-requires : (t : ℕ) → put-place-lts.Need-number-in-requires (
+  left-in-reads.Asked,
+  left-in-reads.Learnt,
+  right-in-reads.Asked,
+  right-in-reads.Learnt,
+  put-nowhere-reads.Asked,
+  put-nowhere-reads.Learnt,
+  kind-in-reads.Asked,
+  kind-in-reads.Learnt,
+  class-of-reads.Asked,
+  class-of-reads.Learnt,
+  put-count-reads.Asked,
+  put-count-reads.Learnt,
+  type-in-reads.Asked,
+  type-in-reads.Learnt,
+  put-offset-reads.Asked,
+  put-offset-reads.Learnt,
+  number-in-reads.Asked,
+  number-in-reads.Learnt,
+  from-innermost-reads.Asked,
+  from-innermost-reads.Learnt,
+  operand-written-reads.Asked,
+  operand-written-reads.Learnt,
+  put-place-below t,
+  put-place.Post,
+) (put-place-at t) put-place.Post
+put-place-number-in-requires t c κs = search needs
+
+put-place-from-innermost-requires : (t : ℕ) → put-place-lts.Need-from-innermost-requires (
+  left-in-reads.Asked,
+  left-in-reads.Learnt,
+  right-in-reads.Asked,
+  right-in-reads.Learnt,
+  put-nowhere-reads.Asked,
+  put-nowhere-reads.Learnt,
+  kind-in-reads.Asked,
+  kind-in-reads.Learnt,
+  class-of-reads.Asked,
+  class-of-reads.Learnt,
+  put-count-reads.Asked,
+  put-count-reads.Learnt,
+  type-in-reads.Asked,
+  type-in-reads.Learnt,
+  put-offset-reads.Asked,
+  put-offset-reads.Learnt,
+  number-in-reads.Asked,
+  number-in-reads.Learnt,
+  from-innermost-reads.Asked,
+  from-innermost-reads.Learnt,
+  operand-written-reads.Asked,
+  operand-written-reads.Learnt,
+  put-place-below t,
+  put-place.Post,
+) (put-place-at t) put-place.Post
+put-place-from-innermost-requires t c κs = search needs
+
+put-place-put-count-requires-2 : (t : ℕ) → put-place-lts.Need-put-count-requires-2 (
+  left-in-reads.Asked,
+  left-in-reads.Learnt,
+  right-in-reads.Asked,
+  right-in-reads.Learnt,
+  put-nowhere-reads.Asked,
+  put-nowhere-reads.Learnt,
+  kind-in-reads.Asked,
+  kind-in-reads.Learnt,
+  class-of-reads.Asked,
+  class-of-reads.Learnt,
+  put-count-reads.Asked,
+  put-count-reads.Learnt,
+  type-in-reads.Asked,
+  type-in-reads.Learnt,
+  put-offset-reads.Asked,
+  put-offset-reads.Learnt,
+  number-in-reads.Asked,
+  number-in-reads.Learnt,
+  from-innermost-reads.Asked,
+  from-innermost-reads.Learnt,
+  operand-written-reads.Asked,
+  operand-written-reads.Learnt,
+  put-place-below t,
+  put-place.Post,
+) (put-place-at t) put-place.Post
+put-place-put-count-requires-2 t c κs = search needs
+
+put-place-type-in-requires-2 : (t : ℕ) → put-place-lts.Need-type-in-requires-2 (
+  left-in-reads.Asked,
+  left-in-reads.Learnt,
+  right-in-reads.Asked,
+  right-in-reads.Learnt,
+  put-nowhere-reads.Asked,
+  put-nowhere-reads.Learnt,
+  kind-in-reads.Asked,
+  kind-in-reads.Learnt,
+  class-of-reads.Asked,
+  class-of-reads.Learnt,
+  put-count-reads.Asked,
+  put-count-reads.Learnt,
+  type-in-reads.Asked,
+  type-in-reads.Learnt,
+  put-offset-reads.Asked,
+  put-offset-reads.Learnt,
+  number-in-reads.Asked,
+  number-in-reads.Learnt,
+  from-innermost-reads.Asked,
+  from-innermost-reads.Learnt,
+  operand-written-reads.Asked,
+  operand-written-reads.Learnt,
+  put-place-below t,
+  put-place.Post,
+) (put-place-at t) put-place.Post
+put-place-type-in-requires-2 t c κs = search needs
+
+put-place-put-offset-requires-2 : (t : ℕ) → put-place-lts.Need-put-offset-requires-2 (
+  left-in-reads.Asked,
+  left-in-reads.Learnt,
+  right-in-reads.Asked,
+  right-in-reads.Learnt,
+  put-nowhere-reads.Asked,
+  put-nowhere-reads.Learnt,
+  kind-in-reads.Asked,
+  kind-in-reads.Learnt,
+  class-of-reads.Asked,
+  class-of-reads.Learnt,
+  put-count-reads.Asked,
+  put-count-reads.Learnt,
+  type-in-reads.Asked,
+  type-in-reads.Learnt,
+  put-offset-reads.Asked,
+  put-offset-reads.Learnt,
+  number-in-reads.Asked,
+  number-in-reads.Learnt,
+  from-innermost-reads.Asked,
+  from-innermost-reads.Learnt,
+  operand-written-reads.Asked,
+  operand-written-reads.Learnt,
+  put-place-below t,
+  put-place.Post,
+) (put-place-at t) put-place.Post
+put-place-put-offset-requires-2 t c κs = (c .before .before .before .before .before .before .before .before .before .before .before .before .before .before .before .before .before .before .before .pre .1 .0, omega (arith, c .before .before .before .before .before .before .before .before .before .before .before .before .before .before .before .before .before .before .before .pre .1 .2))
+
+put-place-enum-told-3 : (t : ℕ) → put-place-lts.Need-enum-told-3 (
+  left-in-reads.Asked,
+  left-in-reads.Learnt,
+  right-in-reads.Asked,
+  right-in-reads.Learnt,
+  put-nowhere-reads.Asked,
+  put-nowhere-reads.Learnt,
+  kind-in-reads.Asked,
+  kind-in-reads.Learnt,
+  class-of-reads.Asked,
+  class-of-reads.Learnt,
+  put-count-reads.Asked,
+  put-count-reads.Learnt,
+  type-in-reads.Asked,
+  type-in-reads.Learnt,
+  put-offset-reads.Asked,
+  put-offset-reads.Learnt,
+  number-in-reads.Asked,
+  number-in-reads.Learnt,
+  from-innermost-reads.Asked,
+  from-innermost-reads.Learnt,
+  operand-written-reads.Asked,
+  operand-written-reads.Learnt,
+  put-place-below t,
+  put-place.Post,
+) (put-place-at t) put-place.Post
+put-place-enum-told-3 t c = search needs
+
+put-place-operand-written-requires : (t : ℕ) → put-place-lts.Need-operand-written-requires (
+  left-in-reads.Asked,
+  left-in-reads.Learnt,
+  right-in-reads.Asked,
+  right-in-reads.Learnt,
+  put-nowhere-reads.Asked,
+  put-nowhere-reads.Learnt,
+  kind-in-reads.Asked,
+  kind-in-reads.Learnt,
+  class-of-reads.Asked,
+  class-of-reads.Learnt,
+  put-count-reads.Asked,
+  put-count-reads.Learnt,
+  type-in-reads.Asked,
+  type-in-reads.Learnt,
+  put-offset-reads.Asked,
+  put-offset-reads.Learnt,
+  number-in-reads.Asked,
+  number-in-reads.Learnt,
+  from-innermost-reads.Asked,
+  from-innermost-reads.Learnt,
+  operand-written-reads.Asked,
+  operand-written-reads.Learnt,
+  put-place-below t,
+  put-place.Post,
+) (put-place-at t) put-place.Post
+put-place-operand-written-requires t c κs = search needs
+
+put-place-mul-changes : (t : ℕ) → put-place-lts.Need-mul-changes (
+  left-in-reads.Asked,
+  left-in-reads.Learnt,
+  right-in-reads.Asked,
+  right-in-reads.Learnt,
+  put-nowhere-reads.Asked,
+  put-nowhere-reads.Learnt,
+  kind-in-reads.Asked,
+  kind-in-reads.Learnt,
+  class-of-reads.Asked,
+  class-of-reads.Learnt,
+  put-count-reads.Asked,
+  put-count-reads.Learnt,
+  type-in-reads.Asked,
+  type-in-reads.Learnt,
+  put-offset-reads.Asked,
+  put-offset-reads.Learnt,
+  number-in-reads.Asked,
+  number-in-reads.Learnt,
+  from-innermost-reads.Asked,
+  from-innermost-reads.Learnt,
+  operand-written-reads.Asked,
+  operand-written-reads.Learnt,
+  put-place-below t,
+  put-place.Post,
+) (put-place-at t) put-place.Post
+put-place-mul-changes t c = search needs
+
+put-place-element-write-changes : (t : ℕ) → put-place-lts.Need-element-write-changes (
+  left-in-reads.Asked,
+  left-in-reads.Learnt,
+  right-in-reads.Asked,
+  right-in-reads.Learnt,
+  put-nowhere-reads.Asked,
+  put-nowhere-reads.Learnt,
+  kind-in-reads.Asked,
+  kind-in-reads.Learnt,
+  class-of-reads.Asked,
+  class-of-reads.Learnt,
+  put-count-reads.Asked,
+  put-count-reads.Learnt,
+  type-in-reads.Asked,
+  type-in-reads.Learnt,
+  put-offset-reads.Asked,
+  put-offset-reads.Learnt,
+  number-in-reads.Asked,
+  number-in-reads.Learnt,
+  from-innermost-reads.Asked,
+  from-innermost-reads.Learnt,
+  operand-written-reads.Asked,
+  operand-written-reads.Learnt,
+  put-place-below t,
+  put-place.Post,
+) (put-place-at t) put-place.Post
+put-place-element-write-changes t c = search needs
+
+put-place-add-put-place : (t : ℕ) → put-place-lts.Need-add-put-place (
+  left-in-reads.Asked,
+  left-in-reads.Learnt,
+  right-in-reads.Asked,
+  right-in-reads.Learnt,
+  put-nowhere-reads.Asked,
+  put-nowhere-reads.Learnt,
+  kind-in-reads.Asked,
+  kind-in-reads.Learnt,
+  class-of-reads.Asked,
+  class-of-reads.Learnt,
+  put-count-reads.Asked,
+  put-count-reads.Learnt,
+  type-in-reads.Asked,
+  type-in-reads.Learnt,
+  put-offset-reads.Asked,
+  put-offset-reads.Learnt,
+  number-in-reads.Asked,
+  number-in-reads.Learnt,
+  from-innermost-reads.Asked,
+  from-innermost-reads.Learnt,
+  operand-written-reads.Asked,
+  operand-written-reads.Learnt,
+  put-place-below t,
+  put-place.Post,
+) (put-place-at t) put-place.Post
+put-place-add-put-place t c = search needs
+
+put-place-put-place-requires : (t : ℕ) → put-place-lts.Need-put-place-requires (
+  left-in-reads.Asked,
+  left-in-reads.Learnt,
+  right-in-reads.Asked,
+  right-in-reads.Learnt,
+  put-nowhere-reads.Asked,
+  put-nowhere-reads.Learnt,
+  kind-in-reads.Asked,
+  kind-in-reads.Learnt,
+  class-of-reads.Asked,
+  class-of-reads.Learnt,
+  put-count-reads.Asked,
+  put-count-reads.Learnt,
+  type-in-reads.Asked,
+  type-in-reads.Learnt,
+  put-offset-reads.Asked,
+  put-offset-reads.Learnt,
+  number-in-reads.Asked,
+  number-in-reads.Learnt,
+  from-innermost-reads.Asked,
+  from-innermost-reads.Learnt,
+  operand-written-reads.Asked,
+  operand-written-reads.Learnt,
+  put-place-below t,
+  put-place.Post,
+) (put-place-at t) put-place.Post
+put-place-put-place-requires t c κs = let h = written-below (changeOf (kindIn (getD (c .before .before .before .before .before .before .before .before .before .before .before .before .before .before .args .references .now) (c .before .before .before .before .before .before .before .before .before .before .before .before .before .before .args .from) 0))) (leftIn (getD (c .before .before .before .before .before .before .before .before .before .before .before .before .before .before .args .references .now) (c .before .before .before .before .before .before .before .before .before .before .before .before .before .before .args .from) 0)) (c .before .before .before .before .before .before .before .before .before .before .before .before .before .before .args .from) (omega (arith, c .before .before .before .before .before .before .before .before .before .before .before .left-in .ensures)) in (omega (arith, h, c .before .before .before .operand-written .ensures, c .before .before .before .before .before .before .before .before .before .before .before .before .before .before .pre .0), (c .before .before .before .before .before .before .before .before .before .before .before .before .before .before .pre .1 .0, omega (arith, h, c .before .before .before .operand-written .ensures, c .before .before .before .before .before .before .before .before .before .before .before .before .before .before .pre .1 .1), omega (arith, h, c .before .before .before .operand-written .ensures, c .before .before .before .before .before .before .before .before .before .before .before .before .before .before .pre .1 .2), length-set (c .before .before .before .before .before .before .before .before .before .before .before .before .before .before .args .changes .now) (c .before .before .before .before .before .before .before .before .before .before .before .before .before .before .args .depth) (getD (c .before .before .before .before .before .before .before .before .before .before .before .before .before .before .args .references .now) (c .before .before .before .before .before .before .before .before .before .before .before .before .before .before .args .from) 0) ∙ c .before .before .before .before .before .before .before .before .before .before .before .before .before .before .pre .1 .3))
+
+put-place-enum-told-4 : (t : ℕ) → put-place-lts.Need-enum-told-4 (
+  left-in-reads.Asked,
+  left-in-reads.Learnt,
+  right-in-reads.Asked,
+  right-in-reads.Learnt,
+  put-nowhere-reads.Asked,
+  put-nowhere-reads.Learnt,
+  kind-in-reads.Asked,
+  kind-in-reads.Learnt,
+  class-of-reads.Asked,
+  class-of-reads.Learnt,
+  put-count-reads.Asked,
+  put-count-reads.Learnt,
+  type-in-reads.Asked,
+  type-in-reads.Learnt,
+  put-offset-reads.Asked,
+  put-offset-reads.Learnt,
+  number-in-reads.Asked,
+  number-in-reads.Learnt,
+  from-innermost-reads.Asked,
+  from-innermost-reads.Learnt,
+  operand-written-reads.Asked,
+  operand-written-reads.Learnt,
+  put-place-below t,
+  put-place.Post,
+) (put-place-at t) put-place.Post
+put-place-enum-told-4 t c = search needs
+
+put-place-put-nowhere-requires-3 : (t : ℕ) → put-place-lts.Need-put-nowhere-requires-3 (
+  left-in-reads.Asked,
+  left-in-reads.Learnt,
+  right-in-reads.Asked,
+  right-in-reads.Learnt,
+  put-nowhere-reads.Asked,
+  put-nowhere-reads.Learnt,
+  kind-in-reads.Asked,
+  kind-in-reads.Learnt,
+  class-of-reads.Asked,
+  class-of-reads.Learnt,
+  put-count-reads.Asked,
+  put-count-reads.Learnt,
+  type-in-reads.Asked,
+  type-in-reads.Learnt,
+  put-offset-reads.Asked,
+  put-offset-reads.Learnt,
+  number-in-reads.Asked,
+  number-in-reads.Learnt,
+  from-innermost-reads.Asked,
+  from-innermost-reads.Learnt,
+  operand-written-reads.Asked,
+  operand-written-reads.Learnt,
+  put-place-below t,
+  put-place.Post,
+) (put-place-at t) put-place.Post
+put-place-put-nowhere-requires-3 t c κs = search needs
+
+put-place-enum-told-5 : (t : ℕ) → put-place-lts.Need-enum-told-5 (
+  left-in-reads.Asked,
+  left-in-reads.Learnt,
+  right-in-reads.Asked,
+  right-in-reads.Learnt,
+  put-nowhere-reads.Asked,
+  put-nowhere-reads.Learnt,
+  kind-in-reads.Asked,
+  kind-in-reads.Learnt,
+  class-of-reads.Asked,
+  class-of-reads.Learnt,
+  put-count-reads.Asked,
+  put-count-reads.Learnt,
+  type-in-reads.Asked,
+  type-in-reads.Learnt,
+  put-offset-reads.Asked,
+  put-offset-reads.Learnt,
+  number-in-reads.Asked,
+  number-in-reads.Learnt,
+  from-innermost-reads.Asked,
+  from-innermost-reads.Learnt,
+  operand-written-reads.Asked,
+  operand-written-reads.Learnt,
+  put-place-below t,
+  put-place.Post,
+) (put-place-at t) put-place.Post
+put-place-enum-told-5 t c = search needs
+
+put-place-put-nowhere-requires-4 : (t : ℕ) → put-place-lts.Need-put-nowhere-requires-4 (
+  left-in-reads.Asked,
+  left-in-reads.Learnt,
+  right-in-reads.Asked,
+  right-in-reads.Learnt,
+  put-nowhere-reads.Asked,
+  put-nowhere-reads.Learnt,
+  kind-in-reads.Asked,
+  kind-in-reads.Learnt,
+  class-of-reads.Asked,
+  class-of-reads.Learnt,
+  put-count-reads.Asked,
+  put-count-reads.Learnt,
+  type-in-reads.Asked,
+  type-in-reads.Learnt,
+  put-offset-reads.Asked,
+  put-offset-reads.Learnt,
+  number-in-reads.Asked,
+  number-in-reads.Learnt,
+  from-innermost-reads.Asked,
+  from-innermost-reads.Learnt,
+  operand-written-reads.Asked,
+  operand-written-reads.Learnt,
+  put-place-below t,
+  put-place.Post,
+) (put-place-at t) put-place.Post
+put-place-put-nowhere-requires-4 t c κs = search needs
+
+put-place-enum-told-6 : (t : ℕ) → put-place-lts.Need-enum-told-6 (
+  left-in-reads.Asked,
+  left-in-reads.Learnt,
+  right-in-reads.Asked,
+  right-in-reads.Learnt,
+  put-nowhere-reads.Asked,
+  put-nowhere-reads.Learnt,
+  kind-in-reads.Asked,
+  kind-in-reads.Learnt,
+  class-of-reads.Asked,
+  class-of-reads.Learnt,
+  put-count-reads.Asked,
+  put-count-reads.Learnt,
+  type-in-reads.Asked,
+  type-in-reads.Learnt,
+  put-offset-reads.Asked,
+  put-offset-reads.Learnt,
+  number-in-reads.Asked,
+  number-in-reads.Learnt,
+  from-innermost-reads.Asked,
+  from-innermost-reads.Learnt,
+  operand-written-reads.Asked,
+  operand-written-reads.Learnt,
+  put-place-below t,
+  put-place.Post,
+) (put-place-at t) put-place.Post
+put-place-enum-told-6 t c = search needs
+
+put-place-put-nowhere-requires-5 : (t : ℕ) → put-place-lts.Need-put-nowhere-requires-5 (
+  left-in-reads.Asked,
+  left-in-reads.Learnt,
+  right-in-reads.Asked,
+  right-in-reads.Learnt,
+  put-nowhere-reads.Asked,
+  put-nowhere-reads.Learnt,
+  kind-in-reads.Asked,
+  kind-in-reads.Learnt,
+  class-of-reads.Asked,
+  class-of-reads.Learnt,
+  put-count-reads.Asked,
+  put-count-reads.Learnt,
+  type-in-reads.Asked,
+  type-in-reads.Learnt,
+  put-offset-reads.Asked,
+  put-offset-reads.Learnt,
+  number-in-reads.Asked,
+  number-in-reads.Learnt,
+  from-innermost-reads.Asked,
+  from-innermost-reads.Learnt,
+  operand-written-reads.Asked,
+  operand-written-reads.Learnt,
+  put-place-below t,
+  put-place.Post,
+) (put-place-at t) put-place.Post
+put-place-put-nowhere-requires-5 t c κs = search needs
+
+put-place-enum-told-7 : (t : ℕ) → put-place-lts.Need-enum-told-7 (
+  left-in-reads.Asked,
+  left-in-reads.Learnt,
+  right-in-reads.Asked,
+  right-in-reads.Learnt,
+  put-nowhere-reads.Asked,
+  put-nowhere-reads.Learnt,
+  kind-in-reads.Asked,
+  kind-in-reads.Learnt,
+  class-of-reads.Asked,
+  class-of-reads.Learnt,
+  put-count-reads.Asked,
+  put-count-reads.Learnt,
+  type-in-reads.Asked,
+  type-in-reads.Learnt,
+  put-offset-reads.Asked,
+  put-offset-reads.Learnt,
+  number-in-reads.Asked,
+  number-in-reads.Learnt,
+  from-innermost-reads.Asked,
+  from-innermost-reads.Learnt,
+  operand-written-reads.Asked,
+  operand-written-reads.Learnt,
+  put-place-below t,
+  put-place.Post,
+) (put-place-at t) put-place.Post
+put-place-enum-told-7 t c = search needs
+
+put-place-put-nowhere-requires-6 : (t : ℕ) → put-place-lts.Need-put-nowhere-requires-6 (
+  left-in-reads.Asked,
+  left-in-reads.Learnt,
+  right-in-reads.Asked,
+  right-in-reads.Learnt,
+  put-nowhere-reads.Asked,
+  put-nowhere-reads.Learnt,
+  kind-in-reads.Asked,
+  kind-in-reads.Learnt,
+  class-of-reads.Asked,
+  class-of-reads.Learnt,
+  put-count-reads.Asked,
+  put-count-reads.Learnt,
+  type-in-reads.Asked,
+  type-in-reads.Learnt,
+  put-offset-reads.Asked,
+  put-offset-reads.Learnt,
+  number-in-reads.Asked,
+  number-in-reads.Learnt,
+  from-innermost-reads.Asked,
+  from-innermost-reads.Learnt,
+  operand-written-reads.Asked,
+  operand-written-reads.Learnt,
+  put-place-below t,
+  put-place.Post,
+) (put-place-at t) put-place.Post
+put-place-put-nowhere-requires-6 t c κs = search needs
+
+put-place-returns-3 : (t : ℕ) → put-place-lts.Need-returns-3 (
+  left-in-reads.Asked,
+  left-in-reads.Learnt,
+  right-in-reads.Asked,
+  right-in-reads.Learnt,
+  put-nowhere-reads.Asked,
+  put-nowhere-reads.Learnt,
+  kind-in-reads.Asked,
+  kind-in-reads.Learnt,
+  class-of-reads.Asked,
+  class-of-reads.Learnt,
+  put-count-reads.Asked,
+  put-count-reads.Learnt,
+  type-in-reads.Asked,
+  type-in-reads.Learnt,
+  put-offset-reads.Asked,
+  put-offset-reads.Learnt,
+  number-in-reads.Asked,
+  number-in-reads.Learnt,
+  from-innermost-reads.Asked,
+  from-innermost-reads.Learnt,
+  operand-written-reads.Asked,
+  operand-written-reads.Learnt,
+  put-place-below t,
+  put-place.Post,
+) (put-place-at t) put-place.Post
+put-place-returns-3 t c = (place-output (c .before .before .before .before .before .before .before .before .before .before .before .before .before .before .before .before .before .before .args .types .now) (c .before .before .before .before .before .before .before .before .before .before .before .before .before .before .before .before .before .before .args .counters) (c .before .before .before .before .before .before .before .before .before .before .before .before .before .before .before .before .before .before .args .regions) (c .before .before .before .before .before .before .before .before .before .before .before .before .before .before .before .before .before .before .args .references .now) (c .before .before .before .before .before .before .before .before .before .before .before .before .before .before .before .before .before .before .args .from) _ _ (c .before .before .before .before .before .before .before .before .before .before .before .before .before .before .before .left-in .ensures) (c .before .before .before .before .before .before .before .before .before .before .before .before .before .before .right-in .ensures) _ _ _ (omega arith) (omega arith) _ _ _ (c .before .before .before .before .before .before .before .before .before .before .class-of .ensures) (c .before .before .before .before .before .before .before .before .before .before .before .kind-in .ensures) (c .before .before .before .before .before .before .before .before .enum-told .given .1) refl _ _ (c .before .type-in .ensures) (c .before .before .before .before .before .put-count .ensures) (c .put-offset .ensures), c .before .before .before .before .before .before .before .before .before .before .before .before .before .before .before .before .before .before .pre .1 .3)
+
+put-place-returns-4 : (t : ℕ) → put-place-lts.Need-returns-4 (
+  left-in-reads.Asked,
+  left-in-reads.Learnt,
+  right-in-reads.Asked,
+  right-in-reads.Learnt,
+  put-nowhere-reads.Asked,
+  put-nowhere-reads.Learnt,
+  kind-in-reads.Asked,
+  kind-in-reads.Learnt,
+  class-of-reads.Asked,
+  class-of-reads.Learnt,
+  put-count-reads.Asked,
+  put-count-reads.Learnt,
+  type-in-reads.Asked,
+  type-in-reads.Learnt,
+  put-offset-reads.Asked,
+  put-offset-reads.Learnt,
+  number-in-reads.Asked,
+  number-in-reads.Learnt,
+  from-innermost-reads.Asked,
+  from-innermost-reads.Learnt,
+  operand-written-reads.Asked,
+  operand-written-reads.Learnt,
+  put-place-below t,
+  put-place.Post,
+) (put-place-at t) put-place.Post
+put-place-returns-4 t c = (place-region (c .before .before .before .before .before .before .before .before .before .before .before .before .before .before .before .before .before .before .before .before .args .types .now) (c .before .before .before .before .before .before .before .before .before .before .before .before .before .before .before .before .before .before .before .before .args .counters) (c .before .before .before .before .before .before .before .before .before .before .before .before .before .before .before .before .before .before .before .before .args .regions) (c .before .before .before .before .before .before .before .before .before .before .before .before .before .before .before .before .before .before .before .before .args .references .now) (c .before .before .before .before .before .before .before .before .before .before .before .before .before .before .before .before .before .before .before .before .args .from) _ _ (c .before .before .before .before .before .before .before .before .before .before .before .before .before .before .before .before .before .left-in .ensures) (c .before .before .before .before .before .before .before .before .before .before .before .before .before .before .before .before .right-in .ensures) _ _ _ (omega arith) (omega arith) _ _ _ (c .before .before .before .before .before .before .before .before .before .before .before .before .class-of .ensures) (c .before .before .before .before .before .before .before .before .before .before .before .before .before .kind-in .ensures) (c .before .before .before .before .before .before .before .before .before .before .enum-told2 .given .1) refl _ _ _ _ (c .before .before .before .before .before .before .before .number-in .ensures) (c .before .before .before .before .before .before .from-innermost .ensures) (c .before .type-in2 .ensures) (c .before .before .before .before .before .put-count2 .ensures) (c .put-offset2 .ensures), c .before .before .before .before .before .before .before .before .before .before .before .before .before .before .before .before .before .before .before .before .pre .1 .3)
+
+put-place-returns-5 : (t : ℕ) → put-place-lts.Need-returns-5 (
+  left-in-reads.Asked,
+  left-in-reads.Learnt,
+  right-in-reads.Asked,
+  right-in-reads.Learnt,
+  put-nowhere-reads.Asked,
+  put-nowhere-reads.Learnt,
+  kind-in-reads.Asked,
+  kind-in-reads.Learnt,
+  class-of-reads.Asked,
+  class-of-reads.Learnt,
+  put-count-reads.Asked,
+  put-count-reads.Learnt,
+  type-in-reads.Asked,
+  type-in-reads.Learnt,
+  put-offset-reads.Asked,
+  put-offset-reads.Learnt,
+  number-in-reads.Asked,
+  number-in-reads.Learnt,
+  from-innermost-reads.Asked,
+  from-innermost-reads.Learnt,
+  operand-written-reads.Asked,
+  operand-written-reads.Learnt,
+  put-place-below t,
+  put-place.Post,
+) (put-place-at t) put-place.Post
+put-place-returns-5 t c = (place-rearranged (c .before .before .before .before .before .before .before .before .before .before .before .before .before .before .before .args .types .now) (c .before .before .before .before .before .before .before .before .before .before .before .before .before .before .before .args .counters) (c .before .before .before .before .before .before .before .before .before .before .before .before .before .before .before .args .regions) (c .before .before .before .before .before .before .before .before .before .before .before .before .before .before .before .args .references .now) (c .before .before .before .before .before .before .before .before .before .before .before .before .before .before .before .args .from) _ _ (c .before .before .before .before .before .before .before .before .before .before .before .before .left-in .ensures) (c .before .before .before .before .before .before .before .before .before .before .before .right-in .ensures) _ _ _ (omega arith) (omega arith) _ _ _ (c .before .before .before .before .before .before .before .class-of .ensures) (c .before .before .before .before .before .before .before .before .kind-in .ensures) (c .before .before .before .before .before .enum-told3 .given .1) refl _ _ (path-push (c .before .before .before .before .before .before .before .before .before .before .before .before .before .before .before .args .changes .now) (c .before .before .before .before .before .before .before .before .before .before .before .before .before .before .before .args .depth) _ (omega (arith, c .before .before .before .before .before .before .before .before .before .before .before .before .before .before .before .pre .1 .1, c .before .before .before .before .before .before .before .before .before .before .before .before .before .before .before .pre .1 .2, c .before .before .before .before .before .before .before .before .before .before .before .before .before .before .before .pre .1 .3, c .before .before .before .before .before .before .before .before .before .before .if1 .left))) (c .before .before .before .before .operand-written .ensures) (c .put-place .ensures .0), c .put-place .ensures .1)
+
+put-place-returns-6 : (t : ℕ) → put-place-lts.Need-returns-6 (
+  left-in-reads.Asked,
+  left-in-reads.Learnt,
+  right-in-reads.Asked,
+  right-in-reads.Learnt,
+  put-nowhere-reads.Asked,
+  put-nowhere-reads.Learnt,
+  kind-in-reads.Asked,
+  kind-in-reads.Learnt,
+  class-of-reads.Asked,
+  class-of-reads.Learnt,
+  put-count-reads.Asked,
+  put-count-reads.Learnt,
+  type-in-reads.Asked,
+  type-in-reads.Learnt,
+  put-offset-reads.Asked,
+  put-offset-reads.Learnt,
+  number-in-reads.Asked,
+  number-in-reads.Learnt,
+  from-innermost-reads.Asked,
+  from-innermost-reads.Learnt,
+  operand-written-reads.Asked,
+  operand-written-reads.Learnt,
+  put-place-below t,
+  put-place.Post,
+) (put-place-at t) put-place.Post
+put-place-returns-6 t c = (place-nowhere (c .before .before .before .before .before .before .before .before .before .before .before .before .before .args .types .now) (c .before .before .before .before .before .before .before .before .before .before .before .before .before .args .counters) (c .before .before .before .before .before .before .before .before .before .before .before .before .before .args .regions) (c .before .before .before .before .before .before .before .before .before .before .before .before .before .args .references .now) (c .before .before .before .before .before .before .before .before .before .before .before .before .before .args .from) _ _ (c .before .before .before .before .before .before .before .before .before .before .left-in .ensures) (c .before .before .before .before .before .before .before .before .before .right-in .ensures) _ _ _ (omega arith) (omega arith) _ _ _ (c .before .before .before .before .before .class-of .ensures) (c .before .before .before .before .before .before .kind-in .ensures) (c .before .before .before .enum-told4 .given .1) refl (c .put-nowhere3 .ensures), c .before .before .before .before .before .before .before .before .before .before .before .before .before .pre .1 .3)
+
+put-place-returns-7 : (t : ℕ) → put-place-lts.Need-returns-7 (
+  left-in-reads.Asked,
+  left-in-reads.Learnt,
+  right-in-reads.Asked,
+  right-in-reads.Learnt,
+  put-nowhere-reads.Asked,
+  put-nowhere-reads.Learnt,
+  kind-in-reads.Asked,
+  kind-in-reads.Learnt,
+  class-of-reads.Asked,
+  class-of-reads.Learnt,
+  put-count-reads.Asked,
+  put-count-reads.Learnt,
+  type-in-reads.Asked,
+  type-in-reads.Learnt,
+  put-offset-reads.Asked,
+  put-offset-reads.Learnt,
+  number-in-reads.Asked,
+  number-in-reads.Learnt,
+  from-innermost-reads.Asked,
+  from-innermost-reads.Learnt,
+  operand-written-reads.Asked,
+  operand-written-reads.Learnt,
+  put-place-below t,
+  put-place.Post,
+) (put-place-at t) put-place.Post
+put-place-returns-7 t c = (place-nowhere (c .before .before .before .before .before .before .before .before .before .before .before .before .before .args .types .now) (c .before .before .before .before .before .before .before .before .before .before .before .before .before .args .counters) (c .before .before .before .before .before .before .before .before .before .before .before .before .before .args .regions) (c .before .before .before .before .before .before .before .before .before .before .before .before .before .args .references .now) (c .before .before .before .before .before .before .before .before .before .before .before .before .before .args .from) _ _ (c .before .before .before .before .before .before .before .before .before .before .left-in .ensures) (c .before .before .before .before .before .before .before .before .before .right-in .ensures) _ _ _ (omega arith) (omega arith) _ _ _ (c .before .before .before .before .before .class-of .ensures) (c .before .before .before .before .before .before .kind-in .ensures) (c .before .before .before .enum-told5 .given .1) refl (c .put-nowhere4 .ensures), c .before .before .before .before .before .before .before .before .before .before .before .before .before .pre .1 .3)
+
+put-place-returns-8 : (t : ℕ) → put-place-lts.Need-returns-8 (
+  left-in-reads.Asked,
+  left-in-reads.Learnt,
+  right-in-reads.Asked,
+  right-in-reads.Learnt,
+  put-nowhere-reads.Asked,
+  put-nowhere-reads.Learnt,
+  kind-in-reads.Asked,
+  kind-in-reads.Learnt,
+  class-of-reads.Asked,
+  class-of-reads.Learnt,
+  put-count-reads.Asked,
+  put-count-reads.Learnt,
+  type-in-reads.Asked,
+  type-in-reads.Learnt,
+  put-offset-reads.Asked,
+  put-offset-reads.Learnt,
+  number-in-reads.Asked,
+  number-in-reads.Learnt,
+  from-innermost-reads.Asked,
+  from-innermost-reads.Learnt,
+  operand-written-reads.Asked,
+  operand-written-reads.Learnt,
+  put-place-below t,
+  put-place.Post,
+) (put-place-at t) put-place.Post
+put-place-returns-8 t c = (place-nowhere (c .before .before .before .before .before .before .before .before .before .before .before .before .before .args .types .now) (c .before .before .before .before .before .before .before .before .before .before .before .before .before .args .counters) (c .before .before .before .before .before .before .before .before .before .before .before .before .before .args .regions) (c .before .before .before .before .before .before .before .before .before .before .before .before .before .args .references .now) (c .before .before .before .before .before .before .before .before .before .before .before .before .before .args .from) _ _ (c .before .before .before .before .before .before .before .before .before .before .left-in .ensures) (c .before .before .before .before .before .before .before .before .before .right-in .ensures) _ _ _ (omega arith) (omega arith) _ _ _ (c .before .before .before .before .before .class-of .ensures) (c .before .before .before .before .before .before .kind-in .ensures) (c .before .before .before .enum-told6 .given .1) refl (c .put-nowhere5 .ensures), c .before .before .before .before .before .before .before .before .before .before .before .before .before .pre .1 .3)
+
+put-place-returns-9 : (t : ℕ) → put-place-lts.Need-returns-9 (
+  left-in-reads.Asked,
+  left-in-reads.Learnt,
+  right-in-reads.Asked,
+  right-in-reads.Learnt,
+  put-nowhere-reads.Asked,
+  put-nowhere-reads.Learnt,
+  kind-in-reads.Asked,
+  kind-in-reads.Learnt,
+  class-of-reads.Asked,
+  class-of-reads.Learnt,
+  put-count-reads.Asked,
+  put-count-reads.Learnt,
+  type-in-reads.Asked,
+  type-in-reads.Learnt,
+  put-offset-reads.Asked,
+  put-offset-reads.Learnt,
+  number-in-reads.Asked,
+  number-in-reads.Learnt,
+  from-innermost-reads.Asked,
+  from-innermost-reads.Learnt,
+  operand-written-reads.Asked,
+  operand-written-reads.Learnt,
+  put-place-below t,
+  put-place.Post,
+) (put-place-at t) put-place.Post
+put-place-returns-9 t c = (place-nowhere (c .before .before .before .before .before .before .before .before .before .before .before .before .before .args .types .now) (c .before .before .before .before .before .before .before .before .before .before .before .before .before .args .counters) (c .before .before .before .before .before .before .before .before .before .before .before .before .before .args .regions) (c .before .before .before .before .before .before .before .before .before .before .before .before .before .args .references .now) (c .before .before .before .before .before .before .before .before .before .before .before .before .before .args .from) _ _ (c .before .before .before .before .before .before .before .before .before .before .left-in .ensures) (c .before .before .before .before .before .before .before .before .before .right-in .ensures) _ _ _ (omega arith) (omega arith) _ _ _ (c .before .before .before .before .before .class-of .ensures) (c .before .before .before .before .before .before .kind-in .ensures) (c .before .before .before .enum-told7 .given .1) refl (c .put-nowhere6 .ensures), c .before .before .before .before .before .before .before .before .before .before .before .before .before .pre .1 .3)
+
+pub +put-place-spec : {M : Type 1} → statement M
++put-place-spec = close μ-put-place λ t. put-place-lts.spec (
+  left-in-reads.Asked,
+  left-in-reads.Learnt,
+  right-in-reads.Asked,
+  right-in-reads.Learnt,
+  put-nowhere-reads.Asked,
+  put-nowhere-reads.Learnt,
+  kind-in-reads.Asked,
+  kind-in-reads.Learnt,
+  class-of-reads.Asked,
+  class-of-reads.Learnt,
+  put-count-reads.Asked,
+  put-count-reads.Learnt,
+  type-in-reads.Asked,
+  type-in-reads.Learnt,
+  put-offset-reads.Asked,
+  put-offset-reads.Learnt,
+  number-in-reads.Asked,
+  number-in-reads.Learnt,
+  from-innermost-reads.Asked,
+  from-innermost-reads.Learnt,
+  operand-written-reads.Asked,
+  operand-written-reads.Learnt,
+  put-place-below t,
+  put-place.Post,
+)
+    (put-place-at t)
+    put-place.Post
+    (put-place-mul-node t)
+    (put-place-element-copy-out-node t)
+    (put-place-left-in-requires t)
+    (put-place-right-in-requires t)
+    (put-place-put-nowhere-requires t)
+    (put-place-returns t)
+    (put-place-put-nowhere-requires-2 t)
+    (put-place-returns-2 t)
+    (put-place-kind-in-requires t)
+    (put-place-class-of-requires t)
+    (put-place-enum-told t)
+    (put-place-put-count-requires t)
+    (put-place-type-in-requires t)
+    (put-place-put-offset-requires t)
+    (put-place-enum-told-2 t)
+    (put-place-number-in-requires t)
+    (put-place-from-innermost-requires t)
+    (put-place-put-count-requires-2 t)
+    (put-place-type-in-requires-2 t)
+    (put-place-put-offset-requires-2 t)
+    (put-place-enum-told-3 t)
+    (put-place-operand-written-requires t)
+    (put-place-mul-changes t)
+    (put-place-element-write-changes t)
+    (put-place-add-put-place t)
+    (put-place-put-place-requires t)
+    (put-place-enum-told-4 t)
+    (put-place-put-nowhere-requires-3 t)
+    (put-place-enum-told-5 t)
+    (put-place-put-nowhere-requires-4 t)
+    (put-place-enum-told-6 t)
+    (put-place-put-nowhere-requires-5 t)
+    (put-place-enum-told-7 t)
+    (put-place-put-nowhere-requires-6 t)
+    (put-place-returns-3 t)
+    (put-place-returns-4 t)
+    (put-place-returns-5 t)
+    (put-place-returns-6 t)
+    (put-place-returns-7 t)
+    (put-place-returns-8 t)
+    (put-place-returns-9 t)

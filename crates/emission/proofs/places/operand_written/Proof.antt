@@ -1,0 +1,139 @@
+-- `operand_written` meets its contract: change by change.
+use mathlib.Core.Path.{refl}
+use borrow.Author.Needs.{needs}
+use Rattle.emission.specs.Laws.Operands.{written-by}
+use Rattle.emission.proofs.places.operand_written.Statement.{statement}
+use Rattle.emission.proofs.places.operand_written.Tie as tie
+
+kind-in-requires : tie.Need-kind-in-requires
+kind-in-requires c κs = search needs
+
+change-of-requires : tie.Need-change-of-requires
+change-of-requires c κs = search needs
+
+enum-told : tie.Need-enum-told
+enum-told c = search needs
+
+enum-told-2 : tie.Need-enum-told-2
+enum-told-2 c = search needs
+
+enum-told-3 : tie.Need-enum-told-3
+enum-told-3 c = search needs
+
+left-in-requires : tie.Need-left-in-requires
+left-in-requires c κs = search needs
+
+enum-told-4 : tie.Need-enum-told-4
+enum-told-4 c = search needs
+
+left-in-requires-2 : tie.Need-left-in-requires-2
+left-in-requires-2 c κs = search needs
+
+enum-told-5 : tie.Need-enum-told-5
+enum-told-5 c = search needs
+
+left-in-requires-3 : tie.Need-left-in-requires-3
+left-in-requires-3 c κs = search needs
+
+enum-told-6 : tie.Need-enum-told-6
+enum-told-6 c = search needs
+
+left-in-requires-4 : tie.Need-left-in-requires-4
+left-in-requires-4 c κs = search needs
+
+enum-told-7 : tie.Need-enum-told-7
+enum-told-7 c = search needs
+
+left-in-requires-5 : tie.Need-left-in-requires-5
+left-in-requires-5 c κs = search needs
+
+enum-told-8 : tie.Need-enum-told-8
+enum-told-8 c = search needs
+
+left-in-requires-6 : tie.Need-left-in-requires-6
+left-in-requires-6 c κs = search needs
+
+enum-told-9 : tie.Need-enum-told-9
+enum-told-9 c = search needs
+
+left-in-requires-7 : tie.Need-left-in-requires-7
+left-in-requires-7 c κs = search needs
+
+enum-told-10 : tie.Need-enum-told-10
+enum-told-10 c = search needs
+
+left-in-requires-8 : tie.Need-left-in-requires-8
+left-in-requires-8 c κs = search needs
+
+enum-told-11 : tie.Need-enum-told-11
+enum-told-11 c = search needs
+
+returns : tie.Need-returns
+returns c = written-by _ _ _ (c .before .before .before .before .args .node) _ (c .before .before .change-of .ensures) (c .before .before .before .kind-in .ensures) (c .enum-told .given .1) _ refl
+
+returns-2 : tie.Need-returns-2
+returns-2 c = written-by _ _ _ (c .before .before .before .before .args .node) _ (c .before .before .change-of .ensures) (c .before .before .before .kind-in .ensures) (c .enum-told2 .given .1) _ refl
+
+returns-3 : tie.Need-returns-3
+returns-3 c = written-by _ _ _ (c .before .before .before .before .before .args .node) _ (c .before .before .before .change-of .ensures) (c .before .before .before .before .kind-in .ensures) (c .before .enum-told3 .given .1) _ (c .left-in .ensures)
+
+returns-4 : tie.Need-returns-4
+returns-4 c = written-by _ _ _ (c .before .before .before .before .before .args .node) _ (c .before .before .before .change-of .ensures) (c .before .before .before .before .kind-in .ensures) (c .before .enum-told4 .given .1) _ (c .left-in2 .ensures)
+
+returns-5 : tie.Need-returns-5
+returns-5 c = written-by _ _ _ (c .before .before .before .before .before .args .node) _ (c .before .before .before .change-of .ensures) (c .before .before .before .before .kind-in .ensures) (c .before .enum-told5 .given .1) _ (c .left-in3 .ensures)
+
+returns-6 : tie.Need-returns-6
+returns-6 c = written-by _ _ _ (c .before .before .before .before .before .args .node) _ (c .before .before .before .change-of .ensures) (c .before .before .before .before .kind-in .ensures) (c .before .enum-told6 .given .1) _ (c .left-in4 .ensures)
+
+returns-7 : tie.Need-returns-7
+returns-7 c = written-by _ _ _ (c .before .before .before .before .before .args .node) _ (c .before .before .before .change-of .ensures) (c .before .before .before .before .kind-in .ensures) (c .before .enum-told7 .given .1) _ (c .left-in5 .ensures)
+
+returns-8 : tie.Need-returns-8
+returns-8 c = written-by _ _ _ (c .before .before .before .before .before .args .node) _ (c .before .before .before .change-of .ensures) (c .before .before .before .before .kind-in .ensures) (c .before .enum-told8 .given .1) _ (c .left-in6 .ensures)
+
+returns-9 : tie.Need-returns-9
+returns-9 c = written-by _ _ _ (c .before .before .before .before .before .args .node) _ (c .before .before .before .change-of .ensures) (c .before .before .before .before .kind-in .ensures) (c .before .enum-told9 .given .1) _ (c .left-in7 .ensures)
+
+returns-10 : tie.Need-returns-10
+returns-10 c = written-by _ _ _ (c .before .before .before .before .before .args .node) _ (c .before .before .before .change-of .ensures) (c .before .before .before .before .kind-in .ensures) (c .before .enum-told10 .given .1) _ (c .left-in8 .ensures)
+
+returns-11 : tie.Need-returns-11
+returns-11 c = written-by _ _ _ (c .before .before .before .before .args .node) _ (c .before .before .change-of .ensures) (c .before .before .before .kind-in .ensures) (c .enum-told11 .given .1) _ refl
+
+pub operand-written-spec : {M : Type 1} → statement M
+operand-written-spec =
+    tie.close
+    (tie.spec
+    kind-in-requires
+    change-of-requires
+    enum-told
+    enum-told-2
+    enum-told-3
+    left-in-requires
+    enum-told-4
+    left-in-requires-2
+    enum-told-5
+    left-in-requires-3
+    enum-told-6
+    left-in-requires-4
+    enum-told-7
+    left-in-requires-5
+    enum-told-8
+    left-in-requires-6
+    enum-told-9
+    left-in-requires-7
+    enum-told-10
+    left-in-requires-8
+    enum-told-11
+    returns
+    returns-2
+    returns-3
+    returns-4
+    returns-5
+    returns-6
+    returns-7
+    returns-8
+    returns-9
+    returns-10
+    returns-11)

@@ -1,0 +1,35 @@
+-- `put_literal` meets its contract: the number of the row, or 0 where the plan has no such row.
+use native.Mathlib.Omega.{arith}
+use lib.ListN.{getD}
+use lib.IntN.{pos}
+use mir.Syntax.{w32}
+use mir.ValLaws.{toZ-ofZ}
+use mathlib.Core.Path.{sym}
+use borrow.Author.Needs.{needs}
+use Rattle.emission.specs.Laws.Offsets.{getD-past}
+use Rattle.emission.specs.Laws.Table.{put-as}
+use Rattle.emission.proofs.values.put_literal.Statement.{statement}
+use Rattle.emission.proofs.values.put_literal.Tie as tie
+
+put-requires : tie.Need-put-requires
+put-requires c κs = search needs
+
+returns : tie.Need-returns
+returns c = put-as _ _ _ _ _ (sym (getD-past (c .before .before .before .before .args .plan .now) (c .before .before .before .before .args .row) (pos 0) (omega arith))) (c .put .ensures)
+
+mul-put : tie.Need-mul-put
+mul-put c = search needs
+
+shared-slice-copy-out-put : tie.Need-shared-slice-copy-out-put
+shared-slice-copy-out-put c = search needs
+
+put-requires-2 : tie.Need-put-requires-2
+put-requires-2 c κs = search needs
+
+returns-2 : tie.Need-returns-2
+returns-2 c = put-as _ _ _ _ _ (toZ-ofZ w32 (getD (c .before .before .before .before .before .args .plan .now) (c .before .before .before .before .before .args .row) (pos 0)) (record { sfits = c .before .put-arg5 .given })) (c .put2 .ensures)
+
+pub put-literal-spec : {M : Type 1} → statement M
+put-literal-spec =
+    tie.close
+    (tie.spec put-requires returns mul-put shared-slice-copy-out-put put-requires-2 returns-2)

@@ -1,0 +1,215 @@
+-- What it means that a loops text passes the check, and what is read into a lent table. It rests on `checkText` of Check, `readText` of
+-- Reading, `Accepted` and `FirstNo` of Theorems, and on the reading of `lines`. ws is any table of words. Assumes nothing.
+use mathlib.Core.Bool.{Bool, true, false, cond, _&&_}
+use mathlib.Core.Path.{_≡_, refl, sym, ap, _∙_, subst}
+use mathlib.Core.List.{List, []}
+use mathlib.Core.Logic.{_↔_, _⊎_, inl, inr}
+use Prim.Native.Nat.{ℕ, _≤_, _<_, min}
+use native.Mathlib.Omega.{arith}
+use borrow.Author.Tests.{leb-true, leb-false, le-leb, lt-leb}
+use lib.Dec.{leb}
+use lib.ListN.{length}
+use mir.Syntax.{w32}
+use mir.Val.{SFits}
+use Rattle.refusals.specs.declared.Refusal.{Refusal}
+use Rattle.refusals.specs.declared.Refusal.the-variants.{LentSize}
+use Rattle.words.specs.Kinds.{Row}
+use Rattle.words.specs.Words.{words}
+use Rattle.words.specs.Laws.{words-distinct, words-formed}
+use Rattle.lines.specs.Reading.{reading, headOf, loopsLimits}
+use Rattle.lines.specs.Printing.{textOf}
+use Rattle.lines.specs.Laws.{Each, rows-back, reads-back, rows-read}
+use Rattle.lines.specs.declared.Heads.the-variants.{Words}
+use Rattle.lines.specs.declared.Reading.{Reading}
+use Rattle.lines.specs.declared.Reading.the-variants as read
+use Rattle.meaning.specs.Types.{DataType}
+use Rattle.meaning.specs.Terms.{Plan}
+use Rattle.meaning.specs.Typing.{HasType}
+use Rattle.meaning.specs.Numbers.{NumberDomain}
+use Rattle.meaning.specs.Loops.{Loops}
+use Rattle.meaning.specs.Layout.{need, regionsFrom}
+use Rattle.meaning.specs.Runs.{Store, startOf}
+use Rattle.meaning.specs.Rows.{planRows, loopsRows}
+use Rattle.meaning.specs.Counts.{planWrites}
+use Rattle.meaning.specs.Limits.{PlanWithin, TouchesBelow}
+use Rattle.meaning.specs.Translation.{translation}
+use Rattle.meaning.specs.Theorems.{own-loops-pass}
+use Rattle.loops.specs.declared.Checked.{Checked}
+use Rattle.loops.specs.declared.Checked.the-variants.{Passes, Refused}
+use Rattle.loops.specs.Check.{checkRows, afterReading, checkText}
+use Rattle.loops.specs.Reading.{askRoom, afterCheck, textRows, readText}
+use Rattle.loops.specs.Theorems.{Accepted, FirstNo, RunsSafely, passes-exactly, refused-exactly, safe, runs-safely, own-pass}
+use Rattle.loops.specs.Laws.Passing.{pass-loops}
+use Rattle.loops.specs.Laws.Literals.{plan-literals}
+use Rattle.loops.specs.Laws.TranslatedLiterals.{translation-literals}
+use Rattle.loops.specs.Laws.Printed.{loops-printable, loops-size}
+
+no-refusal : {A : Type 0} {q : Refusal} {w n : ℕ} → Refused q ≡ Passes w n → A
+no-refusal e = absurd (let z : _≡_ {A = ℕ} 0 1 = cc in omega arith)
+
+-- Questions 1 to 3 are answered "yes".
+abbrev pub Reads : List (List ℕ) → List ℕ → Type 0
+Reads ws t = reading (headOf ws Words) loopsLimits t ≡ read.Rows (length (textRows ws t))
+
+-- The first "no" of a text: of questions 1 to 3, or of its rows.
+abbrev pub FirstNoOfText : List (List ℕ) → List ℕ → Refusal → Type 0
+FirstNoOfText ws t q = (reading (headOf ws Words) loopsLimits t ≡ read.Refused q) ⊎ (Reads ws t × FirstNo (textRows ws t) q)
+
+-- The first "no" of reading a text into slices of these lengths: of the check, or too short a slice (12).
+abbrev pub FirstNoOfReading : List (List ℕ) → List ℕ → ℕ → ℕ → Refusal → Type 0
+FirstNoOfReading ws t kinds numbers q =
+    (checkText ws t ≡ Refused q)
+    ⊎ ((w : ℕ) × (n : ℕ) × (checkText ws t ≡ Passes w n) × (min kinds numbers < length (textRows ws t)) × (q ≡ LentSize))
+
+module _ (ws : List (List ℕ)) (t : List ℕ) where
+  abbrev R : List Row
+  R = textRows ws t
+
+  read-text : Reads ws t → checkText ws t ≡ checkRows R
+  unfolding checkText
+  read-text e = ap (λ (r : Reading). afterReading r (checkRows R)) e
+
+  unread-text : (q : Refusal) → reading (headOf ws Words) loopsLimits t ≡ read.Refused q → checkText ws t ≡ Refused q
+  unfolding checkText
+  unread-text q e = ap (λ (r : Reading). afterReading r (checkRows R)) e
+
+  -- a text is read or refused
+  by-reading : {A : Type 0} → (Reads ws t → A) → ((q : Refusal) → reading (headOf ws Words) loopsLimits t ≡ read.Refused q → A) → A
+  by-reading {A} well ill = go (reading (headOf ws Words) loopsLimits t) refl
+    where
+      go : (r : Reading) → reading (headOf ws Words) loopsLimits t ≡ r → A
+      go (read.Rows n) e = well (e ∙ ap read.Rows (sym (rows-read (headOf ws Words) loopsLimits t n e)))
+      go (read.Refused q) e = ill q e
+
+  -- A text passes exactly when it reads as rows that are those of loops that satisfy the bounds and limits.
+  pub text-passes-exactly : (w n : ℕ) → (checkText ws t ≡ Passes w n) ↔ (Reads ws t × Accepted R w n)
+  text-passes-exactly w n = (
+    λ e.
+        by-reading (λ r. (r, passes-exactly R w n .0 (sym (read-text r) ∙ e)))
+        (λ q r. no-refusal (sym (unread-text q r) ∙ e)),
+    λ h. read-text (h .0) ∙ passes-exactly R w n .1 (h .1),
+  )
+
+  -- Each number on its condition.
+  pub text-refused-exactly : (q : Refusal) → (checkText ws t ≡ Refused q) ↔ FirstNoOfText ws t q
+  text-refused-exactly q = (
+    λ e.
+        by-reading (λ r. inr (r, refused-exactly R q .0 (sym (read-text r) ∙ e)))
+        (λ p r. inl (r ∙ ap read.Refused (same p (sym (unread-text p r) ∙ e)))),
+    back,
+  )
+    where
+      same : (p : Refusal) → Refused p ≡ Refused q → p ≡ q
+      same p e = cc
+
+      back : FirstNoOfText ws t q → checkText ws t ≡ Refused q
+      back (inl e) = unread-text q e
+      back (inr h) = read-text (h .0) ∙ refused-exactly R q .1 (h .1)
+
+  -- "Loops that pass run safely, whoever wrote them."
+  rows-pass : (w n : ℕ) → checkText ws t ≡ Passes w n → checkRows R ≡ Passes w n
+  rows-pass w n e = passes-exactly R w n .1 (text-passes-exactly w n .0 e .1)
+
+  pub text-safe : (w n : ℕ) → checkText ws t ≡ Passes w n
+      → (L : Loops) × (R ≡ loopsRows L) × TouchesBelow n (L .command) (startOf L) (regionsFrom L)
+  text-safe w n e = safe R w n (rows-pass w n e)
+
+  pub text-runs-safely : (𝓝 : NumberDomain) (w n : ℕ) → checkText ws t ≡ Passes w n
+      → (L : Loops) × (R ≡ loopsRows L) × ((s : Store 𝓝) → RunsSafely 𝓝 L w n s)
+  text-runs-safely 𝓝 w n e = runs-safely 𝓝 R w n (rows-pass w n e)
+
+  -- ---- reading into a lent table
+
+  module _ (kinds numbers : ℕ) where
+    passed-text : (w n : ℕ) → checkText ws t ≡ Passes w n → readText ws t kinds numbers ≡ askRoom (length R) kinds numbers
+    unfolding readText
+    passed-text w n e = ap (λ (c : Checked). afterCheck c (askRoom (length R) kinds numbers)) e
+
+    refused-text : (q : Refusal) → checkText ws t ≡ Refused q → readText ws t kinds numbers ≡ read.Refused q
+    unfolding readText
+    refused-text q e = ap (λ (c : Checked). afterCheck c (askRoom (length R) kinds numbers)) e
+
+    by-check : {A : Type 0} → ((w n : ℕ) → checkText ws t ≡ Passes w n → A) → ((q : Refusal) → checkText ws t ≡ Refused q → A) → A
+    by-check {A} well ill = go (checkText ws t) refl
+      where
+        go : (c : Checked) → checkText ws t ≡ c → A
+        go (Passes w n) e = well w n e
+        go (Refused q) e = ill q e
+
+    -- by question 12
+    by-room : {A : Type 0} → (length R ≤ min kinds numbers → askRoom (length R) kinds numbers ≡ read.Rows (length R) → A)
+        → (min kinds numbers < length R → askRoom (length R) kinds numbers ≡ read.Refused LentSize → A) → A
+    by-room {A} yes′ no′ = go (leb (length R) kinds) (leb (length R) numbers) refl refl
+      where
+        at : (a b : Bool) → leb (length R) kinds ≡ a → leb (length R) numbers ≡ b
+            → askRoom (length R) kinds numbers ≡ cond (a && b) (read.Rows (length R)) (read.Refused LentSize)
+        at a b e f =
+            ap (λ (x : Bool). cond (x && leb (length R) numbers) (read.Rows (length R)) (read.Refused LentSize)) e
+            ∙ ap (λ (x : Bool). cond (a && x) (read.Rows (length R)) (read.Refused LentSize)) f
+
+        go : (a b : Bool) → leb (length R) kinds ≡ a → leb (length R) numbers ≡ b → A
+        go true true e f = yes′ (omega (arith, leb-true (length R) kinds e, leb-true (length R) numbers f)) (at true true e f)
+        go true false e f = no′ (omega (arith, leb-false (length R) numbers f)) (at true false e f)
+        go false b e f = no′ (omega (arith, leb-false (length R) kinds e)) (at false b e f)
+
+    -- Rows are put exactly when the text passes and both slices have room for them.
+    pub put-exactly : (m : ℕ) → (readText ws t kinds numbers ≡ read.Rows m)
+        ↔ ((w : ℕ) × (n : ℕ) × (checkText ws t ≡ Passes w n) × (length R ≤ min kinds numbers) × (m ≡ length R))
+    put-exactly m = (
+      λ e.
+          by-check
+          (λ w n p. by-room (λ l f. (w, n, p, l, same (sym f ∙ sym (passed-text w n p) ∙ e))) (λ l f. never (sym f ∙ sym (passed-text w n p) ∙ e)))
+          (λ q p. never (sym (refused-text q p) ∙ e)),
+      λ h. passed-text (h .0) (h .1) (h .2) ∙ by-room (λ l f. f ∙ ap read.Rows (sym (h .4))) (λ l f. absurd (omega (arith, l, h .3))),
+    )
+      where
+        never : {A : Type 0} {q : Refusal} → read.Refused q ≡ read.Rows m → A
+        never e = absurd (let z : _≡_ {A = ℕ} 0 1 = cc in omega arith)
+
+        same : read.Rows (length R) ≡ read.Rows m → m ≡ length R
+        same e = cc
+
+    -- Each number on its condition.
+    pub put-refused-exactly : (q : Refusal) → (readText ws t kinds numbers ≡ read.Refused q) ↔ FirstNoOfReading ws t kinds numbers q
+    put-refused-exactly q = (
+      λ e.
+          by-check
+          (λ w n p. by-room (λ l f. never (sym f ∙ sym (passed-text w n p) ∙ e)) (λ l f. inr (w, n, p, l, sym (same LentSize (sym f ∙ sym (passed-text w n p) ∙ e)))))
+          (λ p f. inl (f ∙ ap Refused (same p (sym (refused-text p f) ∙ e)))),
+      back,
+    )
+      where
+        never : {A : Type 0} → read.Rows (length R) ≡ read.Refused q → A
+        never e = absurd (let z : _≡_ {A = ℕ} 0 1 = cc in omega arith)
+
+        same : (p : Refusal) → read.Refused p ≡ read.Refused q → p ≡ q
+        same p e = cc
+
+        back : FirstNoOfReading ws t kinds numbers q → readText ws t kinds numbers ≡ read.Refused q
+        back (inl e) = refused-text q e
+        back (inr h) =
+            passed-text (h .0) (h .1) (h .2) ∙ by-room (λ l f. absurd (omega (arith, l, h .3))) (λ l f. f ∙ ap read.Refused (sym (h .4)))
+
+-- ---- the translator's own
+
+some-row : (L : Loops) → 0 < length (loopsRows L)
+unfolding loopsRows
+some-row L = omega arith
+
+-- "The translator's own always pass": the loops made from any plan within the limits, whose numbers are 32-bit numbers, as a text. They
+-- have at most 4,096 lines (10) and 16,777,216 writes (11).
+pub own-text-passes : (P : Plan) (t : DataType) → HasType (P .inputs) [] (P .term) t → PlanWithin P
+    → Each (λ (r : Row). SFits w32 (r .1)) (planRows P)
+    → length (loopsRows (translation P)) ≤ 4096 → planWrites P ≤ 16777216
+    → checkText words (textOf words (loopsRows (translation P))) ≡ Passes (planWrites P) (need (translation P))
+own-text-passes P t typed within numbers short few =
+    let L : Loops = translation P in
+    let h = pass-loops L (own-loops-pass P t typed within) .0 in
+    let g = translation-literals (SFits w32) (record { sfits = omega arith }) P (plan-literals (SFits w32) P numbers) in
+    let p = loops-printable L h g in
+    let T : List ℕ = textOf words (loopsRows L) in
+    let back : textRows words T ≡ loopsRows L = rows-back words 6 words-distinct words-formed (loopsRows L) p in
+    let reads : Reads words T =
+    reads-back words 6 words-distinct words-formed loopsLimits (loopsRows L) p (some-row L) (omega (arith, loops-size L h g, short)) short
+    ∙ ap (λ (S : List Row). read.Rows (length S)) (sym back) in
+    read-text words T reads ∙ ap checkRows back ∙ own-pass P t typed within few

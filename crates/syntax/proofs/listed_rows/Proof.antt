@@ -1,0 +1,41 @@
+-- `syntax::listed_rows` meets its contract: question 2 of the kinds in front is that of the rows.
+use mathlib.Core.Path.{sym}
+use native.Mathlib.Omega.{arith}
+use borrow.Author.Needs.{needs}
+use Rattle.syntax.proofs.Tables as tables
+use Rattle.syntax.proofs.listed_rows.Statement.{statement}
+use Rattle.syntax.proofs.listed_rows.Tie as tie
+
+shorter-requires : tie.Need-shorter-requires
+shorter-requires c κs = search needs
+
+slice-aggregate-listed : tie.Need-slice-aggregate-listed
+slice-aggregate-listed c =
+    let a = c .before .before .before .args in
+    sym (tables.kinds-length (a .kinds .now) (a .numbers .now) (c .before .shorter .ensures))
+
+listed-requires : tie.Need-listed-requires
+listed-requires c κs = search needs
+
+add-t10 : tie.Need-add-t10
+add-t10 c = search needs
+
+returns : tie.Need-returns
+returns c =
+    let a = c .before .before .before .before .before .args in (
+      (omega arith, omega arith),
+      tables.rows-unlisted (a .kinds .now) (a .numbers .now) (c .before .before .before .shorter .ensures) (c .before .listed .ensures) (c .if1 .taken),
+    )
+
+returns-2 : tie.Need-returns-2
+returns-2 c =
+    let a = c .before .before .before .before .before .args in
+    let shorter = c .before .before .before .shorter in (
+      (omega (arith, shorter .ensures), omega (arith, shorter .ensures)),
+      tables.rows-listed (a .kinds .now) (a .numbers .now) (shorter .ensures) (c .before .listed .ensures) (c .if1 .left),
+    )
+
+pub listed-rows-spec : {M : Type 1} → statement M
+listed-rows-spec =
+    tie.close
+    (tie.spec shorter-requires slice-aggregate-listed listed-requires add-t10 returns returns-2)
