@@ -1,0 +1,74 @@
+-- `make_rows` meets its contract: rows that walk well are those of the plan that they are read as.
+use mathlib.Core.Path.{_∙_}
+use borrow.Author.Needs.{needs}
+use Rattle.words.specs.Kinds.{rowsOf}
+use Rattle.syntax.specs.Reading.{planOf}
+use Rattle.translate.proofs.MadeLaws as made
+use Rattle.translate.proofs.making.make_rows.Statement.{statement}
+use Rattle.translate.proofs.making.make_rows.Tie as tie
+
+walk-plan-requires : tie.Need-walk-plan-requires
+walk-plan-requires c κs = search needs
+
+enum-told : tie.Need-enum-told
+enum-told c = search needs
+
+enum-known-walked : tie.Need-enum-known-walked
+enum-known-walked c = search needs
+
+enum-known-walked-2 : tie.Need-enum-known-walked-2
+enum-known-walked-2 c = search needs
+
+enum-told-2 : tie.Need-enum-told-2
+enum-told-2 c = search needs
+
+returns : tie.Need-returns
+returns c = search needs
+
+returns-2 : tie.Need-returns-2
+returns-2 c =
+    let a = c .before .before .before .before .before .before .before .before .before .args in
+    let pre = c .before .before .before .before .before .before .before .before .before .pre in
+    let walk-plan = c .before .before .before .before .before .before .walk-plan in
+    let walked = c .before .before .before .before .walked in
+    let walked2 = c .before .walked2 in
+    made.rows-refused (a .kinds .now) (a .numbers .now) (pre .0) (walk-plan .result) (walk-plan .ensures) _ _ _ (walked .given .1 ∙ walked2 .given .1)
+
+make-plan-requires : tie.Need-make-plan-requires
+make-plan-requires c κs =
+    let pre = c .before .before .before .before .before .before .before .pre in
+    let a = c .before .before .before .before .before .before .before .args in
+    let walk-plan = c .before .before .before .before .walk-plan in
+    let enum-told = c .before .before .enum-told in
+    (pre .0, pre .1, (planOf (rowsOf (a .kinds .now) (a .numbers .now)), made.rows-stand (a .kinds .now) (a .numbers .now) (pre .0) (walk-plan .result) (walk-plan .ensures) _ (enum-told .given .1)))
+
+same-length : tie.Need-same-length
+same-length c = search needs
+
+same-length-2 : tie.Need-same-length-2
+same-length-2 c = search needs
+
+returns-3 : tie.Need-returns-3
+returns-3 c =
+    let a = c .before .before .before .before .before .before .before .before .before .before .before .args in
+    let pre = c .before .before .before .before .before .before .before .before .before .before .before .pre in
+    let walk-plan = c .before .before .before .before .before .before .before .before .walk-plan in
+    let enum-told = c .before .before .before .before .before .before .enum-told in
+    let make-plan = c .before .before .before .make-plan in
+    made.rows-made (a .kinds .now) (a .numbers .now) (pre .0) (walk-plan .result) (walk-plan .ensures) _ (enum-told .given .1) (make-plan .ensures (planOf (rowsOf (a .kinds .now) (a .numbers .now))) (made.rows-stand (a .kinds .now) (a .numbers .now) (pre .0) (walk-plan .result) (walk-plan .ensures) _ (enum-told .given .1)))
+
+pub make-rows-spec : {M : Type 1} → statement M
+make-rows-spec =
+    tie.close
+    (tie.spec
+    walk-plan-requires
+    enum-told
+    enum-known-walked
+    enum-known-walked-2
+    enum-told-2
+    returns
+    returns-2
+    make-plan-requires
+    same-length
+    same-length-2
+    returns-3)

@@ -1,0 +1,71 @@
+-- `put_kinds` meets its contract. The loop's invariant: what is put and the kinds still to come make up the whole.
+use mathlib.Core.Path.{_≡_, refl, ap, _∙_}
+use Prim.Native.Nat.{_-_, _≤_}
+use native.Mathlib.Omega.{arith}
+use borrow.Author.Needs.{needs}
+use lib.ListN.{length, length-set, getD, drop}
+use lib.Seq.{sets}
+use Rattle.translate.proofs.Copies.{copy-start, copy-next, copy-end}
+use Rattle.translate.proofs.tables.put_kinds.Statement.{statement}
+use Rattle.translate.proofs.tables.put_kinds.Tie as tie
+
+abbrev Inv-loop : tie.InvT-loop
+Inv-loop kinds lent₀ i₀ lent i = (i ≤ length kinds) × (length lent ≡ length lent₀) × (sets lent i (drop i kinds) ≡ sets lent₀ 0 kinds)
+
+abbrev μ-loop : tie.MeasureT-loop
+μ-loop kinds lent₀ i₀ lent i = length kinds - i
+
+loop-holds : tie.Need-loop-holds Inv-loop μ-loop
+loop-holds c =
+    let a = c .before .before .args in
+    (search needs, refl, copy-start (a .lent .now) (a .kinds .now))
+
+shared-slice-read-put-u8 : tie.Need-shared-slice-read-put-u8 Inv-loop μ-loop
+shared-slice-read-put-u8 c = search needs
+
+put-u8-requires : tie.Need-put-u8-requires Inv-loop μ-loop
+put-u8-requires c κs = search needs
+
+add-i : tie.Need-add-i Inv-loop μ-loop
+add-i c = search needs
+
+loop-less : tie.Need-loop-less Inv-loop μ-loop
+loop-less c = search needs
+
+loop-again : tie.Need-loop-again Inv-loop μ-loop
+loop-again c =
+    let put-u8 = c .before .before .put-u8 in
+    let loop = c .before .before .before .before .before .before .loop in
+    let a = c .before .before .before .before .before .before .before .before .before .args in
+    let loop-test = c .before .before .before .before .before .loop-test in (
+      search needs,
+      ap length (put-u8 .ensures) ∙ length-set (loop .lent) (loop .i) (getD (a .kinds .now) (loop .i) 0) ∙ loop .inv .1,
+      copy-next (loop .lent) _ _ (a .kinds .now) (loop .i) 0 (loop-test .taken) (put-u8 .ensures) (loop .inv .2),
+    )
+
+same-length : tie.Need-same-length Inv-loop μ-loop
+same-length c =
+    let loop = c .before .loop in
+    loop .inv .1
+
+returns : tie.Need-returns Inv-loop μ-loop
+returns c =
+    let loop = c .before .loop in
+    let a = c .before .before .before .before .args in
+    let loop-test = c .loop-test in
+    copy-end (loop .lent) _ (a .kinds .now) (loop .i) (omega (arith, loop-test .left)) (loop .inv .2)
+
+pub put-kinds-spec : {M : Type 1} → statement M
+put-kinds-spec =
+    tie.close
+    (tie.spec
+    Inv-loop
+    μ-loop
+    loop-holds
+    shared-slice-read-put-u8
+    put-u8-requires
+    add-i
+    loop-less
+    loop-again
+    same-length
+    returns)

@@ -1,0 +1,111 @@
+-- `translate_text` meets its contract: a table of 4,096 rows has room for all that is made, and the text is put only where it fits.
+use mathlib.Core.Path.{_≡_, refl, sym, _∙_}
+use native.Mathlib.Omega.{arith}
+use borrow.Author.Needs.{needs}
+use lib.ListN.{length}
+use lib.Seq.{length-take-le}
+use Rattle.words.specs.Words.{words}
+use Rattle.translate.proofs.LentLaws as lent
+use Rattle.translate.proofs.translate_text.Statement.{statement}
+use Rattle.translate.proofs.translate_text.Tie as tie
+
+slice-aggregate-translate-rows : tie.Need-slice-aggregate-translate-rows
+slice-aggregate-translate-rows c = search needs
+
+slice-aggregate-translate-rows-2 : tie.Need-slice-aggregate-translate-rows-2
+slice-aggregate-translate-rows-2 c = search needs
+
+translate-rows-requires : tie.Need-translate-rows-requires
+translate-rows-requires c κs = search needs
+
+enum-known-made : tie.Need-enum-known-made
+enum-known-made c = search needs
+
+enum-known-made-2 : tie.Need-enum-known-made-2
+enum-known-made-2 c = search needs
+
+enum-known-made-3 : tie.Need-enum-known-made-3
+enum-known-made-3 c = search needs
+
+enum-told : tie.Need-enum-told
+enum-told c = search needs
+
+returns : tie.Need-returns
+returns c = search needs
+
+returns-2 : tie.Need-returns-2
+returns-2 c =
+    let a = c .before .before .before .before .before .before .before .before .before .before .before .before .before .args in
+    let translate-rows = c .before .before .before .before .before .before .before .before .translate-rows in
+    let made2 = c .before .before .before .before .made2 in
+    let made3 = c .before .made3 in
+    lent.text-refused words (a .text .now) (translate-rows .result) _ _ _ _ refl refl (translate-rows .ensures) (a .lent .now) _ (made2 .given .1 ∙ made3 .given .1)
+
+array-share-prefix-kinds : tie.Need-array-share-prefix-kinds
+array-share-prefix-kinds c =
+    let a = c .before .before .before .before .before .before .before .before .before .before .args in
+    let translate-rows = c .before .before .before .before .before .translate-rows in
+    let made = c .before .made in
+    let few = lent.few-rows words (a .text .now) (translate-rows .result) _ _ _ _ refl refl (translate-rows .ensures) (a .lent .now) (made .given .0 .0) (made .given .1) in
+    omega (arith, few)
+
+slice-aggregate-print : tie.Need-slice-aggregate-print
+slice-aggregate-print c =
+    let a = c .before .before .before .before .before .before .before .before .before .before .before .args in
+    let translate-rows = c .before .before .before .before .before .before .translate-rows in
+    let made = c .before .before .made in
+    let few = lent.few-rows words (a .text .now) (translate-rows .result) _ _ _ _ refl refl (translate-rows .ensures) (a .lent .now) (made .given .0 .0) (made .given .1) in
+    let lk : length (translate-rows .last .1 .0) ≡ 4096 = translate-rows .kept .1 .0 in
+    sym (length-take-le (made .given .0 .0) (translate-rows .last .1 .0) (omega (arith, lk, few)))
+
+array-share-prefix-numbers : tie.Need-array-share-prefix-numbers
+array-share-prefix-numbers c =
+    let a = c .before .before .before .before .before .before .before .before .before .before .before .args in
+    let translate-rows = c .before .before .before .before .before .before .translate-rows in
+    let made = c .before .before .made in
+    let few = lent.few-rows words (a .text .now) (translate-rows .result) _ _ _ _ refl refl (translate-rows .ensures) (a .lent .now) (made .given .0 .0) (made .given .1) in
+    omega (arith, few)
+
+slice-aggregate-print-2 : tie.Need-slice-aggregate-print-2
+slice-aggregate-print-2 c =
+    let a = c .before .before .before .before .before .before .before .before .before .before .before .before .args in
+    let translate-rows = c .before .before .before .before .before .before .before .translate-rows in
+    let made = c .before .before .before .made in
+    let few = lent.few-rows words (a .text .now) (translate-rows .result) _ _ _ _ refl refl (translate-rows .ensures) (a .lent .now) (made .given .0 .0) (made .given .1) in
+    let ln : length (translate-rows .last .1 .1 .0) ≡ 4096 = translate-rows .kept .1 .1 .0 in
+    sym (length-take-le (made .given .0 .0) (translate-rows .last .1 .1 .0) (omega (arith, ln, few)))
+
+print-requires : tie.Need-print-requires
+print-requires c κs = search needs
+
+same-length : tie.Need-same-length
+same-length c = search needs
+
+returns-3 : tie.Need-returns-3
+returns-3 c =
+    let a = c .before .before .before .before .before .before .before .before .before .before .before .before .before .before .before .before .args in
+    let translate-rows = c .before .before .before .before .before .before .before .before .before .before .before .translate-rows in
+    let made = c .before .before .before .before .before .before .before .made in
+    let print = c .before .before .print in
+    lent.text-filled words (a .text .now) (translate-rows .result) _ _ _ _ refl refl (translate-rows .ensures) (a .lent .now) (made .given .0 .0) (made .given .1) _ _ (print .ensures)
+
+pub translate-text-spec : {M : Type 1} → statement M
+translate-text-spec =
+    tie.close
+    (tie.spec
+    slice-aggregate-translate-rows
+    slice-aggregate-translate-rows-2
+    translate-rows-requires
+    enum-known-made
+    enum-known-made-2
+    enum-known-made-3
+    enum-told
+    returns
+    returns-2
+    array-share-prefix-kinds
+    slice-aggregate-print
+    array-share-prefix-numbers
+    slice-aggregate-print-2
+    print-requires
+    same-length
+    returns-3)

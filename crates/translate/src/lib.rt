@@ -1,0 +1,52 @@
+// The translation of a plan's text: questions 1 to 8 and 10 to 12 of document 01, and the loops as rows or as a text. Nothing lent is
+// touched before the last "no" has been ruled out.
+ghost use Rattle.words.specs.Words.{words};
+ghost use Rattle.translate.specs.Entry.{rowsMade, makeText, RowsInto, TextInto};
+use lines::Printing;
+use lines::Reading;
+use refusals::Refusal;
+
+mod bodies;
+mod making;
+mod parts;
+mod steps;
+mod tables;
+mod walk;
+
+// How many rows the loops have that were made from a plan; or the first "no".
+pub enum Made {
+    Rows(usize),
+    Refused(Refusal),
+}
+
+// Translates a plan's text; the rows of the loops go to the front of the lent table.
+pub fn translate_rows(text: &[u8], kinds: &mut [u8], numbers: &mut [i32]) -> Made
+    ensures { λ r. ⌜ RowsInto (makeText words (now (text .entry))) (rowsMade words (now (text .entry))) (now (kinds .entry)) (now (numbers .entry)) r (now (kinds .exit)) (now (numbers .exit)) ⌝ }
+{
+    let mut plan_kinds = [0u8; 256];
+    let mut plan_numbers = [0i32; 256];
+    let read = lines::read_plan(text, &mut plan_kinds, &mut plan_numbers);
+    let Reading::Rows(rows) = read else {
+        let Reading::Refused(refusal) = read else {
+            return Made::Refused(Refusal::TextForm);
+        };
+        return Made::Refused(refusal);
+    };
+    making::make_rows(&plan_kinds[..rows], &plan_numbers[..rows], kinds, numbers)
+}
+
+// Translates a plan's text; the text of the loops goes to the front of the lent one.
+pub fn translate_text(text: &[u8], lent: &mut [u8]) -> Printing
+    ensures { λ r. ⌜ TextInto words (makeText words (now (text .entry))) (rowsMade words (now (text .entry))) (now (lent .entry)) r (now (lent .exit)) ⌝ }
+{
+    let mut kinds = [0u8; 4096];
+    let mut numbers = [0i32; 4096];
+    let made = translate_rows(text, &mut kinds, &mut numbers);
+    let Made::Rows(rows) = made else {
+        let Made::Refused(refusal) = made else {
+            return Printing::Refused(Refusal::LoopsLength);
+        };
+        return Printing::Refused(refusal);
+    };
+    lines::print(&kinds[..rows], &numbers[..rows], lent)
+}

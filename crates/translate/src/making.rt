@@ -1,0 +1,226 @@
+// The loops of a plan's rows: questions 4 to 8 and 10 to 12.
+ghost use mathlib.Core.Path.{_≡_};
+ghost use mathlib.Core.List.{List};
+ghost use Prim.Native.Nat.{ℕ, _≤_, _<_};
+ghost use lib.IntN.{pos};
+ghost use lib.ListN.{length, getD};
+ghost use Rattle.words.specs.Kinds.{rowsOf, word-cells};
+ghost use Rattle.meaning.specs.Types.{cells as cellsOf};
+ghost use Rattle.meaning.specs.Terms.{Plan};
+ghost use Rattle.meaning.specs.Rows.{allCellsRows};
+ghost use Rattle.syntax.specs.Reading.{planOf};
+ghost use Rattle.type_table.specs.Table.{typeAt, Sound};
+ghost use Rattle.emission.specs.Table.{table, putRow, putRows};
+ghost use Rattle.loops.specs.Check.{checkTable};
+ghost use Rattle.plans.specs.Check.{checkPlan};
+ghost use Rattle.plans.specs.Entry.{answered, checkRows};
+ghost use Rattle.plans.specs.Typed.{PlanStands};
+ghost use Rattle.translate.specs.Entry.{madeRows, makePlan, afterCheck, RowsInto};
+ghost use Rattle.translate.specs.Making.{cellsAt, PlanNoted, SomePlanNoted, byCheck};
+use crate::Made;
+use crate::tables;
+use crate::walk;
+use crate::walk::State;
+use emission::references;
+use emission::rows::MOST_ROWS;
+use emission::rows::put_count;
+use loops::Checked;
+use plans::Typing;
+use refusals::Refusal;
+use syntax::Answer;
+use syntax::ranges;
+use words::kinds::*;
+
+// Node 0 stands for nothing; node 1 is the output.
+const OUTPUT: usize = 1;
+
+// A row `cells`, of the type at a place.
+fn put_cells(
+    types: &[u64],
+    outkinds: &mut [u8; 4096],
+    outnumbers: &mut [i32; 4096],
+    place: usize,
+    to: usize,
+) -> usize
+    requires { ⌜ Sound (now types) (length (now types)) × (place < length (now types)) ⌝ }
+    ensures { λ r. ⌜ table (now (outkinds .exit)) (now (outnumbers .exit)) r
+        ≡ putRow (table (now (outkinds .entry)) (now (outnumbers .entry)) to) (word-cells, pos (cellsOf (typeAt (now (types .entry)) place))) ⌝ }
+{
+    put_count(
+        outkinds,
+        outnumbers,
+        to,
+        WORD_CELLS,
+        type_table::cells(types, place) as u16,
+    )
+}
+
+// Rows `cells`, one for the type at each of these places.
+fn put_inputs(
+    types: &[u64],
+    places: &[u16],
+    outkinds: &mut [u8; 4096],
+    outnumbers: &mut [i32; 4096],
+    to: usize,
+) -> usize
+    requires { ⌜ Sound (now types) (length (now types)) × ((k : ℕ) → k < length (now places) → getD (now places) k 0 < length (now types)) ⌝ }
+    ensures { λ r. ⌜ table (now (outkinds .exit)) (now (outnumbers .exit)) r
+        ≡ putRows (allCellsRows (cellsAt (now (types .entry)) (now (places .entry)))) (table (now (outkinds .entry)) (now (outnumbers .entry)) to) ⌝ }
+{
+    if places.len() == 0 {
+        return to;
+    }
+    let next = put_cells(types, outkinds, outnumbers, places[0] as usize, to);
+    put_inputs(types, &places[1..], outkinds, outnumbers, next)
+}
+
+// The loops of a plan whose types were found, from the first row on: where they end. `inputs` are the places of the inputs' types, `row` is
+// the term's first row and `place` that of its type.
+fn put_loops(
+    kinds: &[u8],
+    numbers: &[i32],
+    column: &[u16],
+    types: &[u64],
+    inputs: &[u16],
+    row: usize,
+    place: usize,
+    outkinds: &mut [u8; 4096],
+    outnumbers: &mut [i32; 4096],
+) -> usize
+    requires { ⌜ SomePlanNoted (now kinds) (now numbers) (now column) (now types) (now inputs) row place ⌝ }
+    ensures { λ r. ⌜ ((P : Plan) → PlanNoted (now (kinds .entry)) (now (numbers .entry)) (now (column .entry)) (now (types .entry)) (now (inputs .entry)) row place P
+        → table (now (outkinds .exit)) (now (outnumbers .exit)) r
+        ≡ putRows (madeRows P) (table (now (outkinds .entry)) (now (outnumbers .entry)) 0)) ⌝ }
+{
+    let count = ranges::natural(numbers[0]);
+    let first = put_count(outkinds, outnumbers, 0, WORD_LOOPS, count as u16);
+    let last = put_inputs(types, &inputs[..count], outkinds, outnumbers, first);
+    let to = put_cells(types, outkinds, outnumbers, place, last);
+    let mut nodes = [0u64; 4096];
+    references::push_stored(&mut nodes, OUTPUT, WORD_OUT, 0, place);
+    let state = State {
+        counters: 0,
+        regions: 0,
+        variables: [0u16; 16],
+        count: 0,
+        len: OUTPUT + 1,
+        to,
+    };
+    let written = walk::write_term(
+        &kinds[row..],
+        &numbers[row..],
+        &column[row..],
+        types,
+        numbers,
+        &mut nodes,
+        outkinds,
+        outnumbers,
+        OUTPUT,
+        state,
+    );
+    written.to
+}
+
+// Question 11, put to made rows: their writes are counted by the check of loops.
+fn ask_writes(kinds: &[u8], numbers: &[i32]) -> Made
+    ensures { λ r. ⌜ r ≡ byCheck (length (now (kinds .entry))) (checkTable (rowsOf (now (kinds .entry)) (now (numbers .entry)))) ⌝ }
+{
+    let checked = loops::check_table(kinds, numbers);
+    let Checked::Passes { writes: _, need: _ } = checked else {
+        let Checked::Refused(refusal) = checked else {
+            return Made::Refused(Refusal::WriteCount);
+        };
+        return Made::Refused(refusal);
+    };
+    Made::Rows(kinds.len())
+}
+
+// Questions 11 and 12 of made rows; then they are put at the front of the lent table.
+fn hand_over(kinds: &[u8], numbers: &[i32], lentkinds: &mut [u8], lentnumbers: &mut [i32]) -> Made
+    requires { ⌜ length (now kinds) ≡ length (now numbers) ⌝ }
+    ensures { λ r. ⌜ RowsInto (byCheck (length (now (kinds .entry))) (checkTable (rowsOf (now (kinds .entry)) (now (numbers .entry))))) (rowsOf (now (kinds .entry)) (now (numbers .entry)))
+        (now (lentkinds .entry)) (now (lentnumbers .entry)) r (now (lentkinds .exit)) (now (lentnumbers .exit)) ⌝ }
+{
+    let asked = ask_writes(kinds, numbers);
+    let Made::Rows(rows) = asked else {
+        return asked;
+    };
+    if lentkinds.len() < rows {
+        return Made::Refused(Refusal::LentSize);
+    }
+    if lentnumbers.len() < rows {
+        return Made::Refused(Refusal::LentSize);
+    }
+    tables::put_kinds(kinds, lentkinds);
+    tables::put_numbers(numbers, lentnumbers);
+    asked
+}
+
+// Questions 7, 8 and 10 to 12 of rows that walk well.
+fn make_plan(kinds: &[u8], numbers: &[i32], lentkinds: &mut [u8], lentnumbers: &mut [i32]) -> Made
+    requires { ⌜ (length (now kinds) ≡ length (now numbers)) × (length (now kinds) ≤ 256) × ((P : Plan) × PlanStands (now kinds) (now numbers) P) ⌝ }
+    ensures { λ r. ⌜ ((P : Plan) → PlanStands (now (kinds .entry)) (now (numbers .entry)) P
+        → RowsInto (afterCheck (answered (length (now (kinds .entry))) (checkPlan P)) (makePlan P)) (madeRows P)
+        (now (lentkinds .entry)) (now (lentnumbers .entry)) r (now (lentkinds .exit)) (now (lentnumbers .exit))) ⌝ }
+{
+    let mut nodes = [0u64; 512];
+    let mut column = [0u16; 256];
+    let plan = plans::type_plan(kinds, numbers, &mut nodes, &mut column);
+    let typing = plan.typing;
+    let Typing::Typed {
+        place,
+        rows: _,
+        len,
+    } = typing
+    else {
+        let Typing::Refused(refusal) = typing else {
+            return Made::Refused(Refusal::LoopsLength);
+        };
+        return Made::Refused(refusal);
+    };
+    let inputs = plan.inputs;
+    let mut made_kinds = [0u8; 4096];
+    let mut made_numbers = [0i32; 4096];
+    let end = put_loops(
+        kinds,
+        numbers,
+        &column,
+        &nodes[..len],
+        &inputs,
+        plan.row,
+        place,
+        &mut made_kinds,
+        &mut made_numbers,
+    );
+    if MOST_ROWS < end {
+        return Made::Refused(Refusal::LoopsLength);
+    }
+    hand_over(
+        &made_kinds[..end],
+        &made_numbers[..end],
+        lentkinds,
+        lentnumbers,
+    )
+}
+
+// Questions 4 to 8 and 10 to 12 of a plan's rows.
+pub fn make_rows(
+    kinds: &[u8],
+    numbers: &[i32],
+    lentkinds: &mut [u8],
+    lentnumbers: &mut [i32],
+) -> Made
+    requires { ⌜ (length (now kinds) ≡ length (now numbers)) × (length (now kinds) ≤ 256) ⌝ }
+    ensures { λ r. ⌜ RowsInto (afterCheck (checkRows (rowsOf (now (kinds .entry)) (now (numbers .entry)))) (makePlan (planOf (rowsOf (now (kinds .entry)) (now (numbers .entry))))))
+        (madeRows (planOf (rowsOf (now (kinds .entry)) (now (numbers .entry)))))
+        (now (lentkinds .entry)) (now (lentnumbers .entry)) r (now (lentkinds .exit)) (now (lentnumbers .exit)) ⌝ }
+{
+    let walked = syntax::walk_plan(kinds, numbers);
+    let Answer::Passed(_) = walked else {
+        let Answer::Refused(refusal) = walked else {
+            return Made::Refused(Refusal::LoopsLength);
+        };
+        return Made::Refused(refusal);
+    };
+    make_plan(kinds, numbers, lentkinds, lentnumbers)
+}
