@@ -1,0 +1,134 @@
+-- What each way out of the entries knows. Assumes nothing.
+use mathlib.Core.Bool.{Bool, true, false, cond}
+use mathlib.Core.Path.{_≡_, refl, sym, ap, ap₂, _∙_}
+use mathlib.Core.List.{List, [], _∷_}
+use Prim.Native.Nat.{ℕ, _≤_, _<_, min}
+use native.Mathlib.Omega.{arith}
+use borrow.Author.Tests.{le-leb, lt-leb}
+use lib.Dec.{leb}
+use lib.IntN.{ℤ}
+use lib.ListN.{length, take, drop, length-map}
+use lib.Seq.{take-at}
+use Rattle.refusals.specs.declared.Refusal.{Refusal}
+use Rattle.refusals.specs.declared.Refusal.the-variants.{UnknownOrder, StoreSize}
+use Rattle.words.specs.Kinds.{Row, rowsOf}
+use Rattle.words.specs.Laws.{rows-length}
+use Rattle.words.specs.declared.Found.{Found}
+use Rattle.lines.specs.Reading.{linesOf, reading, rowsIn, kindsOf, numbersOf, filled, roomFor, headOf, loopsLimits, ReadInto}
+use Rattle.lines.specs.Laws.{rows-read}
+use Rattle.lines.specs.declared.Heads.the-variants.{Words}
+use Rattle.lines.specs.declared.Reading.{Reading}
+use Rattle.lines.specs.declared.Reading.the-variants as read
+use Rattle.meaning.specs.Loops.{Loops}
+use Rattle.meaning.specs.Rows.{loopsRows}
+use Rattle.meaning.specs.Counts.{commandWrites}
+use Rattle.meaning.specs.Limits.{LoopsPass}
+use Rattle.syntax.specs.Reading.{loopsOf}
+use Rattle.syntax.specs.Theorems.{loops-read}
+use Rattle.syntax.proofs.Tables.{rows-take}
+use Rattle.loops.specs.declared.Checked.{Checked}
+use Rattle.loops.specs.declared.Checked.the-variants as check
+use Rattle.loops.specs.Check.{afterReading, checkRows, checkTable, checkText}
+use Rattle.loops.specs.Theorems.{passes-exactly}
+use Rattle.loops.specs.TableTheorems.{few-rows, table-passes-exactly}
+use Rattle.loops.proofs.Texts.{text-few}
+use Rattle.run.specs.declared.Ran.{Ran}
+use Rattle.run.specs.declared.Ran.the-variants.{Finished, Refused}
+use Rattle.run.specs.Interpreter.{stateOf}
+use Rattle.run.specs.Run.{runOf, Outcome, outcome, finished, refused, askedRun, afterCheck, runTable, runText}
+
+-- ---- questions 13 and 14, and the run
+
+module _ (L : Loops) (need order : ℕ) (s : List ℤ) where
+  abbrev enough : Bool → Outcome
+  enough b = cond b (finished (runOf L order s)) (refused StoreSize s)
+
+  pub order-unknown : 2 < order → outcome (Refused UnknownOrder) s ≡ askedRun L need order s
+  unfolding askedRun
+  order-unknown h = ap (λ (b : Bool). cond b (enough (leb need (length s))) (refused UnknownOrder s)) (sym (lt-leb order 2 h))
+
+  order-known : order ≤ 2 → enough (leb need (length s)) ≡ askedRun L need order s
+  unfolding askedRun
+  order-known h = ap (λ (b : Bool). cond b (enough (leb need (length s))) (refused UnknownOrder s)) (sym (le-leb order 2 h))
+
+  pub store-short : order ≤ 2 → length s < need → outcome (Refused StoreSize) s ≡ askedRun L need order s
+  store-short h g = ap enough (sym (lt-leb need (length s) g)) ∙ order-known h
+
+  pub run-finished : order ≤ 2 → need ≤ length s → (r : ℕ) (s′ : List ℤ) → stateOf s′ r ≡ runOf L order s
+      → outcome (Finished r) s′ ≡ askedRun L need order s
+  run-finished h g r s′ e = ap finished e ∙ ap enough (sym (le-leb need (length s) g)) ∙ order-known h
+
+-- the loops whose rows pass are those that the rows are read as
+pub passing-loops : (ks : List ℕ) (ns : List ℤ) (order w n r : ℕ) (s s′ : List ℤ) → length ks ≤ 4096 → checkRows (rowsOf ks ns) ≡ check.Passes w n
+    → ((L : Loops) → rowsOf ks ns ≡ loopsRows L → LoopsPass L → length ks ≤ 4096 → commandWrites (L .command) ≤ 16777216 → stateOf s′ r ≡ runOf L order s)
+    → stateOf s′ r ≡ runOf (loopsOf (rowsOf ks ns)) order s
+passing-loops ks ns order w n r s s′ few e g =
+    let a = passes-exactly (rowsOf ks ns) w n .0 e in
+    g (a .loops) (a .rows) (a .passes) few (omega (arith, a .writesFew, a .writes))
+    ∙ ap (λ (L : Loops). runOf L order s) (sym (ap loopsOf (a .rows) ∙ loops-read (a .loops)))
+
+-- ---- a lent table
+
+module _ (ks : List ℕ) (ns : List ℤ) (order : ℕ) (s : List ℤ) (c : Checked) (e : c ≡ checkTable (rowsOf ks ns)) where
+  abbrev R : List Row
+  R = rowsOf ks ns
+
+  pub table-refused : (q : Refusal) → c ≡ check.Refused q → outcome (Refused q) s ≡ runTable R order s
+  unfolding runTable
+  table-refused q f = ap (λ (x : Checked). afterCheck x (loopsOf R) order s) (sym f ∙ e)
+
+  module _ (w n m : ℕ) (f : c ≡ check.Passes w n) (j : m ≡ min (length ks) (length ns)) where
+    pub table-few : m ≤ 4096
+    table-few = let a = table-passes-exactly R w n .0 (sym e ∙ f) in omega (arith, a .0, j, rows-length ks ns)
+
+    pub table-run : (r : Ran) (s′ : List ℤ)
+        → ((w : ℕ) → checkRows (rowsOf (take m ks) (take m ns)) ≡ check.Passes w n
+        → outcome r s′ ≡ askedRun (loopsOf (rowsOf (take m ks) (take m ns))) n order s)
+        → outcome r s′ ≡ runTable R order s
+    unfolding runTable
+    table-run r s′ g =
+        let t : rowsOf (take m ks) (take m ns) ≡ R = rows-take m ks ns j in
+        let a = table-passes-exactly R w n .0 (sym e ∙ f) in
+        g w (ap checkRows t ∙ sym (few-rows R (a .0)) ∙ sym e ∙ f)
+        ∙ ap (λ (x : List Row). askedRun (loopsOf x) n order s) t
+        ∙ ap (λ (x : Checked). afterCheck x (loopsOf R) order s) (sym f ∙ e)
+
+-- ---- a text
+
+rows-again : (R : List Row) → rowsOf (kindsOf R) (numbersOf R) ≡ R
+unfolding rowsOf
+rows-again [] = refl
+rows-again (r ∷ R) = ap (λ (x : List Row). r ∷ x) (rows-again R)
+
+put-first : {A : Type 0} (b : Bool) (put lent left : List A) (n : ℕ) → b ≡ true → length put ≡ n → left ≡ filled b put lent → take n left ≡ put
+put-first true put lent left n h l q = ap (take n) q ∙ take-at put (drop (length put) lent) n l
+put-first false put lent left n h l q = absurd (let z : _≡_ {A = ℕ} 0 1 = cc in omega arith)
+
+module _ (ws : List (List ℕ)) (t : List ℕ) (order : ℕ) (s : List ℤ) (ks ks′ : List ℕ) (ns ns′ : List ℤ) (d : Reading)
+    (i : ReadInto (headOf ws Words) loopsLimits t ks ns d ks′ ns′) where
+  abbrev rows : List Row
+  rows = rowsIn (headOf ws Words) (linesOf t)
+
+  pub text-refused : (q : Refusal) → d ≡ read.Refused q → outcome (Refused q) s ≡ runText ws t order s
+  unfolding runText checkText
+  text-refused q f = ap (λ (x : Reading). afterCheck (afterReading x (checkRows rows)) (loopsOf rows) order s) (sym f ∙ i .answer)
+
+  module _ (n : ℕ) (f : d ≡ read.Rows n) where
+    pub rows-few : n ≤ 4096
+    rows-few = text-few ws t d n (i .answer) f
+
+    rows-counted : length rows ≡ n
+    rows-counted = rows-read (headOf ws Words) loopsLimits t n (sym (i .answer) ∙ f)
+
+    pub text-run : length ks ≡ 4096 → length ns ≡ 4096 → (r : Ran) (s′ : List ℤ)
+        → outcome r s′ ≡ runTable (rowsOf (take n ks′) (take n ns′)) order s → outcome r s′ ≡ runText ws t order s
+    unfolding runTable runText checkText
+    text-run h g r s′ e =
+        let a : ℕ = length ks in
+        let b : ℕ = length ns in
+        let room : roomFor d a b ≡ true = rw f (simp (le-leb n a (omega (arith, rows-few, h)), le-leb n b (omega (arith, rows-few, g)))) in
+        let x = put-first (roomFor d a b) (kindsOf rows) ks ks′ n room (length-map rows (λ (z : Row). z .0) ∙ rows-counted) (i .kinds-left) in
+        let y = put-first (roomFor d a b) (numbersOf rows) ns ns′ n room (length-map rows (λ (z : Row). z .1) ∙ rows-counted) (i .numbers-left) in
+        let few : length rows ≤ 4096 = omega (arith, rows-few, rows-counted) in
+        e ∙ ap (λ (z : List Row). runTable z order s) (ap₂ rowsOf x y ∙ rows-again rows)
+        ∙ ap (λ (z : Checked). afterCheck z (loopsOf rows) order s) (few-rows rows few ∙ ap (λ (z : Reading). afterReading z (checkRows rows)) (sym f ∙ i .answer))

@@ -1,0 +1,27 @@
+-- `store::bytes::signed` meets its contract: 32 bits from 2,147,483,648 on stand for a negative number.
+use borrow.Author.Needs.{needs}
+use Rattle.store.proofs.Signs as signs
+use Rattle.store.proofs.bytes.signed.Statement.{statement}
+use Rattle.store.proofs.bytes.signed.Tie as tie
+
+cast-result : tie.Need-cast-result
+cast-result c = search needs
+
+returns : tie.Need-returns
+returns c = signs.low-bits (c .before .args .bits) (c .if1 .taken)
+
+sub-result : tie.Need-sub-result
+sub-result c = search needs
+
+cast-result-2 : tie.Need-cast-result-2
+cast-result-2 c = search needs
+
+sub-result-2 : tie.Need-sub-result-2
+sub-result-2 c = signs.high-fits (c .before .args .bits) (c .if1 .left) (c .before .fits .bits .fits)
+
+returns-2 : tie.Need-returns-2
+returns-2 c = signs.high-bits (c .before .args .bits) (c .if1 .left) (c .before .fits .bits .fits)
+
+pub signed-spec : {M : Type 1} → statement M
+signed-spec =
+    tie.close (tie.spec cast-result returns sub-result cast-result-2 sub-result-2 returns-2)

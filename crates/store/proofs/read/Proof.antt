@@ -1,0 +1,34 @@
+-- `store::read` meets its contract: each way out is a law of Puts.
+use borrow.Author.Needs.{needs}
+use Rattle.store.proofs.Puts as puts
+use Rattle.store.proofs.read.Statement.{statement}
+use Rattle.store.proofs.read.Tie as tie
+
+mul-result : tie.Need-mul-result
+mul-result c = search needs
+
+shared-slice-copy-out-result : tie.Need-shared-slice-copy-out-result
+shared-slice-copy-out-result c = search needs
+
+returns : tie.Need-returns
+returns c = puts.read-cells (c .before .before .before .args .cells .now) (c .before .before .before .args .bytes .now) (c .before .before .before .args .at) (record { sfits = c .result .given }) (c .before .if1 .taken)
+
+sub-cell-at : tie.Need-sub-cell-at
+sub-cell-at c = search needs
+
+cell-at-requires : tie.Need-cell-at-requires
+cell-at-requires c κs = search needs
+
+returns-2 : tie.Need-returns-2
+returns-2 c = puts.read-bytes (c .before .before .before .args .cells .now) (c .before .before .before .args .bytes .now) (c .before .before .before .args .at) (c .cell-at .result) (record { sfits = c .cell-at .ok }) (c .before .if1 .left) (c .cell-at .ensures)
+
+pub read-spec : {M : Type 1} → statement M
+read-spec =
+    tie.close
+    (tie.spec
+    mul-result
+    shared-slice-copy-out-result
+    returns
+    sub-cell-at
+    cell-at-requires
+    returns-2)
