@@ -1,0 +1,110 @@
+-- What `fill` knows at each way out. Assumes nothing.
+use mathlib.Core.Path.{_≡_, refl, sym, ap, ap₂, _∙_}
+use mathlib.Core.Bool.{Bool, true, false, cond}
+use mathlib.Core.List.{List, [], _∷_, map}
+use Prim.Native.Nat.{ℕ, _≤_, _<_}
+use native.Mathlib.Omega.{arith}
+use borrow.Author.Tests.{le-leb, lt-leb}
+use lib.Dec.{leb}
+use lib.IntN.{ℤ}
+use lib.ListN.{length, take, drop, length-map}
+use lib.Seq.{take-at, length-take-le}
+use Rattle.refusals.specs.declared.Refusal.{Refusal}
+use Rattle.refusals.specs.declared.Refusal.the-variants.{StoreSize, ValueLines}
+use Rattle.words.specs.Kinds.{Row, rowsOf}
+use Rattle.lines.specs.Reading.{headOf, reading, valuesLimits, roomFor, kindsOf, numbersOf, filled, ReadInto}
+use Rattle.lines.specs.Laws.{rows-read}
+use Rattle.lines.specs.declared.Heads.the-variants.{Cells}
+use Rattle.lines.specs.declared.Reading.{Reading}
+use Rattle.lines.specs.declared.Reading.the-variants.{Rows, Refused}
+use Rattle.meaning.specs.Sequence.{upFrom}
+use Rattle.values.specs.Values.{oneLineEach, asked, afterReading, valueRows, filling, valueOf, accepted, FillInto}
+use Rattle.values.specs.Steps.{stored}
+use Rattle.values.specs.Laws.{test-says}
+use Rattle.values.proofs.Sizes.{few-rows}
+use Rattle.values.proofs.Stored.{values-stored}
+
+rows-again : (rs : List Row) → rowsOf (kindsOf rs) (numbersOf rs) ≡ rs
+unfolding rowsOf
+rows-again [] = refl
+rows-again (r ∷ rs) = ap (λ (x : List Row). r ∷ x) (rows-again rs)
+
+-- the front of a column that was lent with room for it
+front : {A : Type 0} {b : Bool} (put lent : List A) {left : List A} {m : ℕ} → b ≡ true → length put ≡ m → left ≡ filled b put lent → take m left ≡ put
+front put lent {m = m} h l e =
+    ap (take m) (e ∙ ap (λ (x : Bool). filled x put lent) h) ∙ take-at put (drop (length put) lent) m l
+
+module _ (ws : List (List ℕ)) (t : List ℕ) {r : Reading} (cells : List ℕ) (values : List ℤ) {cells′ : List ℕ} {values′ : List ℤ}
+    (read : ReadInto (headOf ws Cells) valuesLimits t cells values r cells′ values′) where
+  abbrev R : List Row
+  R = valueRows ws t
+
+  read-so : {m : ℕ} → r ≡ Rows m → reading (headOf ws Cells) valuesLimits t ≡ Rows m
+  read-so is = sym (read .answer) ∙ is
+
+  pub rows-few : {m : ℕ} → r ≡ Rows m → m ≤ 16384
+  rows-few {m} is = few-rows ws t m (read-so is)
+
+  module _ {A : Type 0} (column : List A) (long : length column ≡ 16384) {m : ℕ} (is : r ≡ Rows m) where
+    pub rows-fit : m ≤ length column
+    rows-fit = omega (arith, rows-few is)
+
+    pub rows-front : length (take m column) ≡ m
+    rows-front = length-take-le m column rows-fit
+
+  module _ (n : ℕ) (store : List ℤ) where
+    abbrev next : Reading → Reading
+    next = asked n (length store) (kindsOf R)
+
+    pub text-refused : {q : Refusal} → r ≡ Refused q → FillInto ws t n store r store
+    unfolding filling
+    text-refused is =
+        record {
+          answer = is ∙ ap (λ (x : Reading). afterReading x next) (sym is ∙ read .answer);
+          store-left = ap (λ (x : Reading). filled (accepted x) (map (valueOf R) (upFrom 0 n)) store) (sym is);
+        }
+
+    module _ {m : ℕ} (is : r ≡ Rows m) where
+      -- question 15's answer, and question 14's
+      abbrev by-lines : Bool → Reading
+      by-lines b = cond b (Rows m) (Refused ValueLines)
+
+      by-store : {b : Bool} → b ≡ leb n (length store) → cond b (by-lines (oneLineEach n (kindsOf R))) (Refused StoreSize) ≡ filling ws t n (length store)
+      unfolding filling
+      by-store e =
+          ap (λ (x : Bool). cond x (by-lines (oneLineEach n (kindsOf R))) (Refused StoreSize)) e
+          ∙ ap (λ (x : Reading). afterReading x next) (sym (read-so is))
+
+      pub store-short : length store < n → FillInto ws t n store (Refused StoreSize) store
+      store-short h = record { answer = by-store (sym (lt-leb n (length store) h)); store-left = refl }
+
+      module _ (room : n ≤ length store) (h : length cells ≡ 16384) (g : length values ≡ 16384) where
+        had-room : roomFor r (length cells) (length values) ≡ true
+        had-room =
+            rw is (simp (le-leb m (length cells) (omega (arith, rows-few is, h)), le-leb m (length values) (omega (arith, rows-few is, g))))
+
+        count : length R ≡ m
+        count = rows-read (headOf ws Cells) valuesLimits t m (read-so is)
+
+        cells-read : take m cells′ ≡ kindsOf R
+        cells-read = front (kindsOf R) cells had-room (length-map R (λ (x : Row). x .0) ∙ count) (read .kinds-left)
+
+        values-read : take m values′ ≡ numbersOf R
+        values-read = front (numbersOf R) values had-room (length-map R (λ (x : Row). x .1) ∙ count) (read .numbers-left)
+
+        tested : {b : Bool} → b ≡ oneLineEach n (take m cells′) → by-lines b ≡ filling ws t n (length store)
+        tested e = ap by-lines (e ∙ ap (oneLineEach n) cells-read) ∙ by-store (sym (le-leb n (length store) room))
+
+        module _ {b : Bool} (test : b ≡ oneLineEach n (take m cells′)) where
+          pub lines-wrong : b ≡ false → FillInto ws t n store (Refused ValueLines) store
+          lines-wrong e = record { answer = tested (sym e ∙ test); store-left = refl }
+
+          pub values-put : {store′ : List ℤ} → b ≡ true → store′ ≡ stored (rowsOf (take m cells′) (take m values′)) store
+              → FillInto ws t n store (Rows m) store′
+          values-put e put =
+              record {
+                answer = tested (sym e ∙ test);
+                store-left = put
+                    ∙ ap (λ (rs : List Row). stored rs store) (ap₂ rowsOf cells-read values-read ∙ rows-again R)
+                    ∙ values-stored R store n (test-says n (kindsOf R) (sym (sym e ∙ test ∙ ap (oneLineEach n) cells-read))) room;
+              }
