@@ -1,0 +1,56 @@
+// The run of the static library beside a plain interpreter in Rust, on the loops of five plans: nanoseconds for each write.
+use std::time::Instant;
+
+mod interpreter;
+
+#[link(name = "vazhdumir", kind = "static")]
+extern "C" {
+    fn vazhdumir_translate(plan: *const u8, plan_len: usize, loops: *mut u8, loops_len: usize) -> u64;
+    fn vazhdumir_need(loops: *const u8, loops_len: usize) -> u64;
+    fn vazhdumir_run(loops: *const u8, loops_len: usize, order: u32, store: *mut u8, store_len: usize) -> u64;
+}
+
+const WRITES: u64 = 10_000_000;
+
+const PLANS: [(&str, &str); 5] = [
+    ("dot product", include_str!("dot.plan")),
+    ("sums", include_str!("sums.plan")),
+    ("used maps", include_str!("maps.plan")),
+    ("zipped and regrouped", include_str!("regrouped.plan")),
+    ("matrix product", include_str!("matrix.plan")),
+];
+
+fn loops_of(plan: &str) -> String {
+    let mut text = vec![0u8; 65536];
+    let bytes = unsafe { vazhdumir_translate(plan.as_ptr(), plan.len(), text.as_mut_ptr(), text.len()) };
+    assert!(bytes >> 56 == 0, "refused: {},{}", bytes >> 56, bytes & 0xff_ffff);
+    text.truncate(bytes as usize);
+    String::from_utf8(text).unwrap()
+}
+
+fn main() {
+    println!("{:22} {:>10} {:>8} {:>8} {:>6}", "plan", "writes", "ours", "plain", "ratio");
+    for (name, plan) in PLANS {
+        let text = loops_of(plan);
+        let loops = interpreter::read(&text);
+        let need = unsafe { vazhdumir_need(text.as_ptr(), text.len()) } as usize;
+        let start: Vec<i32> = (0..need).map(|i| i as i32 % 13 - 6).collect();
+        let (mut plain, mut bytes) = (start.clone(), start.iter().flat_map(|c| c.to_le_bytes()).collect::<Vec<u8>>());
+        let each = interpreter::run(&loops, &mut plain);
+        let turns = WRITES.div_ceil(each);
+        let clock = Instant::now();
+        for _ in 0..turns {
+            let writes = unsafe { vazhdumir_run(text.as_ptr(), text.len(), 0, bytes.as_mut_ptr(), bytes.len()) };
+            assert_eq!(writes, each);
+        }
+        let ours = clock.elapsed().as_nanos() as f64 / (turns * each) as f64;
+        let clock = Instant::now();
+        for _ in 0..turns {
+            assert_eq!(interpreter::run(&loops, &mut plain), each);
+        }
+        let beside = clock.elapsed().as_nanos() as f64 / (turns * each) as f64;
+        let left: Vec<i32> = bytes.chunks_exact(4).map(|b| i32::from_le_bytes(b.try_into().unwrap())).collect();
+        assert_eq!(left, plain);
+        println!("{name:22} {:>10} {ours:>8.1} {beside:>8.1} {:>6.2}", turns * each, ours / beside);
+    }
+}

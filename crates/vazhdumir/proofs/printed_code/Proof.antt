@@ -1,0 +1,32 @@
+use mathlib.Core.Path.{sym, ap, _∙_}
+use borrow.Author.Needs.{needs}
+use Rattle.vazhdumir.proofs.printed_code.Statement.{statement}
+use Rattle.vazhdumir.proofs.printed_code.Tie as tie
+use Rattle.vazhdumir.proofs.printed_code.Reads as reads
+use Rattle.vazhdumir.proofs.printed_code.Lts as lts
+use Rattle.vazhdumir.specs.Codes.{printedCode}
+use Rattle.vazhdumir.proofs.code.Reads as code-reads
+
+-- src/lib.rt:39:23
+enum-known-printed : tie.Need-enum-known-printed
+enum-known-printed c = search needs
+
+-- src/lib.rt:40:25
+enum-known-printed-2 : tie.Need-enum-known-printed-2
+enum-known-printed-2 c = search needs
+
+-- src/lib.rt:40:37
+code-requires : tie.Need-code-requires
+code-requires c κs = search needs
+
+-- src/lib.rt:35:1
+returns : tie.Need-returns
+returns c = search needs
+
+-- src/lib.rt:35:1
+returns-2 : tie.Need-returns-2
+returns-2 c = c .code .ensures ∙ ap printedCode (sym (c .before .before .printed2 .given .1))
+
+pub printed-code-spec : {M : Type 1} → statement M
+printed-code-spec =
+    tie.close (tie.spec enum-known-printed enum-known-printed-2 code-requires returns returns-2)

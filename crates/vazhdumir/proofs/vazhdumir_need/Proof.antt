@@ -1,0 +1,24 @@
+use mathlib.Core.Path.{ap, _∙_}
+use borrow.Author.Needs.{needs}
+use Rattle.vazhdumir.specs.Codes.{neededCode}
+use Rattle.vazhdumir.proofs.vazhdumir_need.Statement.{statement}
+use Rattle.vazhdumir.proofs.vazhdumir_need.Tie as tie
+use Rattle.vazhdumir.proofs.vazhdumir_need.Reads as reads
+use Rattle.vazhdumir.proofs.vazhdumir_need.Lts as lts
+use Rattle.loops.proofs.need_text.Reads as need-text-reads
+use Rattle.vazhdumir.proofs.needed_code.Reads as needed-code-reads
+
+-- src/lib.rt:66:17
+need-text-requires : tie.Need-need-text-requires
+need-text-requires c κs = search needs
+
+-- src/lib.rt:66:5
+needed-code-requires : tie.Need-needed-code-requires
+needed-code-requires c κs = search needs
+
+-- src/lib.rt:62:1
+returns : tie.Need-returns
+returns c = c .needed-code .ensures ∙ ap neededCode (c .before .need-text .ensures)
+
+pub vazhdumir-need-spec : {M : Type 1} → statement M
+vazhdumir-need-spec = tie.close (tie.spec need-text-requires needed-code-requires returns)

@@ -1,0 +1,38 @@
+use borrow.Author.Needs.{needs}
+use Rattle.words.specs.Words.{words}
+use Rattle.run.specs.Run.{runText}
+use Rattle.vazhdumir.proofs.RunLaws.{run-coded}
+use Rattle.vazhdumir.proofs.vazhdumir_run.Statement.{statement}
+use Rattle.vazhdumir.proofs.vazhdumir_run.Tie as tie
+use Rattle.vazhdumir.proofs.vazhdumir_run.Reads as reads
+use Rattle.vazhdumir.proofs.vazhdumir_run.Lts as lts
+use Rattle.run.proofs.run_text.Reads as run-text-reads
+use Rattle.vazhdumir.proofs.ran_code.Reads as ran-code-reads
+
+-- src/lib.rt:133:41
+slice-aggregate-run-text : tie.Need-slice-aggregate-run-text
+slice-aggregate-run-text c = search needs
+
+-- src/lib.rt:133:14
+run-text-requires : tie.Need-run-text-requires
+run-text-requires c κs = search needs
+
+-- src/lib.rt:133:5
+ran-code-requires : tie.Need-ran-code-requires
+ran-code-requires c κs = search needs
+
+-- src/lib.rt:128:1
+same-length : tie.Need-same-length
+same-length c = search needs
+
+-- src/lib.rt:128:1
+returns : tie.Need-returns
+returns c =
+    let a = c .before .before .before .before .before .before .before .before .before .args in
+    let ran = c .before .before .before .before .run-text .ensures in
+    run-coded (a .bytes .now) _ _ (ran .0) (runText words (a .text .now) (a .order)) _ _ (c .ran-code .ensures) (ran .1)
+
+pub vazhdumir-run-spec : {M : Type 1} → statement M
+vazhdumir-run-spec =
+    tie.close
+    (tie.spec slice-aggregate-run-text run-text-requires ran-code-requires same-length returns)

@@ -1,0 +1,148 @@
+// The entries for firmware written in C.
+ghost use mathlib.Core.Path.{_≡_};
+ghost use Prim.Native.Nat.{ℕ};
+ghost use Rattle.words.specs.Words.{words};
+ghost use Rattle.plans.specs.Entry.{checkText as checkPlanText};
+ghost use Rattle.loops.specs.Check.{checkText, needOf};
+ghost use Rattle.words.specs.Kinds.{rowsOf};
+ghost use Rattle.store.specs.Cells.{cellsOf};
+ghost use Rattle.run.specs.Run.{runText, runTable};
+ghost use Rattle.vazhdumir.specs.Codes.{refusalCode, acceptedCode, checkedCode, neededCode, readCode, ReadCoded, printedCode, TextCoded, ranCode, RunCoded};
+use lines::Printing;
+use lines::Reading;
+use loops::Checked;
+use loops::Needed;
+use refusals::Refusal;
+use run::Ran;
+use syntax::Answer;
+
+// The greatest line that an answer holds.
+const MOST_LINE: usize = 72057594037927935;
+
+fn code(refusal: Refusal) -> u64
+    ensures { λ r. ⌜ r ≡ refusalCode refusal ⌝ }
+{
+    let number = refusals::number(refusal) as u64;
+    let line = refusals::line(refusal);
+    if MOST_LINE < line {
+        return number * 72057594037927936 + MOST_LINE as u64;
+    }
+    number * 72057594037927936 + line as u64
+}
+
+fn accepted_code(answer: Answer) -> u64
+    ensures { λ r. ⌜ r ≡ acceptedCode answer ⌝ }
+{
+    match answer {
+        Answer::Passed(_) => 0,
+        Answer::Refused(refusal) => code(refusal),
+    }
+}
+
+fn checked_code(checked: Checked) -> u64
+    ensures { λ r. ⌜ r ≡ checkedCode checked ⌝ }
+{
+    match checked {
+        Checked::Passes { writes, need: _ } => writes as u64,
+        Checked::Refused(refusal) => code(refusal),
+    }
+}
+
+fn needed_code(needed: Needed) -> u64
+    ensures { λ r. ⌜ r ≡ neededCode needed ⌝ }
+{
+    match needed {
+        Needed::Cells(cells) => cells as u64,
+        Needed::Refused(refusal) => code(refusal),
+    }
+}
+
+fn read_code(read: Reading) -> u64
+    ensures { λ r. ⌜ r ≡ readCode read ⌝ }
+{
+    match read {
+        Reading::Rows(rows) => rows as u64,
+        Reading::Refused(refusal) => code(refusal),
+    }
+}
+
+fn printed_code(printed: Printing) -> u64
+    ensures { λ r. ⌜ r ≡ printedCode printed ⌝ }
+{
+    match printed {
+        Printing::Bytes(bytes) => bytes as u64,
+        Printing::Refused(refusal) => code(refusal),
+    }
+}
+
+fn ran_code(ran: Ran) -> u64
+    ensures { λ r. ⌜ r ≡ ranCode ran ⌝ }
+{
+    match ran {
+        Ran::Finished { writes } => writes as u64,
+        Ran::Refused(refusal) => code(refusal),
+    }
+}
+
+// Checks a plan's text.
+#[no_mangle]
+pub extern "C" fn vazhdumir_check_plan(text: &[u8]) -> u64
+    ensures { λ r. ⌜ r ≡ acceptedCode (checkPlanText words (now (text .entry))) ⌝ }
+{
+    accepted_code(plans::check_text(text))
+}
+
+// Translates a plan's text; the text of the loops goes to the front of the lent one: how many bytes were put.
+#[no_mangle]
+pub extern "C" fn vazhdumir_translate(text: &[u8], lent: &mut [u8]) -> u64
+    ensures { λ r. ⌜ TextCoded words (now (text .entry)) (now (lent .entry)) r (now (lent .exit)) ⌝ }
+{
+    printed_code(translate::translate_text(text, lent))
+}
+
+// Checks a text of loops: the writes that every run of them makes.
+#[no_mangle]
+pub extern "C" fn vazhdumir_check_loops(text: &[u8]) -> u64
+    ensures { λ r. ⌜ r ≡ checkedCode (checkText words (now (text .entry))) ⌝ }
+{
+    checked_code(loops::check_text(text))
+}
+
+// The cells that a text of loops needs.
+#[no_mangle]
+pub extern "C" fn vazhdumir_need(text: &[u8]) -> u64
+    ensures { λ r. ⌜ r ≡ neededCode (needOf (checkText words (now (text .entry)))) ⌝ }
+{
+    needed_code(loops::need_text(text))
+}
+
+// Reads a text of loops into a lent table: how many rows were put.
+#[no_mangle]
+pub extern "C" fn vazhdumir_read_loops(text: &[u8], kinds: &mut [u8], numbers: &mut [i32]) -> u64
+    ensures { λ r. ⌜ ReadCoded words (now (text .entry)) (now (kinds .entry)) (now (numbers .entry)) r (now (kinds .exit)) (now (numbers .exit)) ⌝ }
+{
+    read_code(loops::read_text(text, kinds, numbers))
+}
+
+// Runs a text of loops on a store in bytes, every `par` in the order named: how many writes were made.
+#[no_mangle]
+pub extern "C" fn vazhdumir_run(text: &[u8], order: u32, bytes: &mut [u8]) -> u64
+    ensures { λ r. ⌜ RunCoded (runText words (now (text .entry)) order (cellsOf (now (bytes .entry)))) (now (bytes .entry)) r (now (bytes .exit)) ⌝ }
+{
+    let mut none = [0i32; 0];
+    ran_code(run::run_text(text, order, &mut none, bytes))
+}
+
+// The same of a lent table.
+#[no_mangle]
+pub extern "C" fn vazhdumir_run_rows(
+    kinds: &[u8],
+    numbers: &[i32],
+    order: u32,
+    bytes: &mut [u8],
+) -> u64
+    ensures { λ r. ⌜ RunCoded (runTable (rowsOf (now (kinds .entry)) (now (numbers .entry))) order (cellsOf (now (bytes .entry)))) (now (bytes .entry)) r (now (bytes .exit)) ⌝ }
+{
+    let mut none = [0i32; 0];
+    ran_code(run::run_rows(kinds, numbers, order, &mut none, bytes))
+}
