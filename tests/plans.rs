@@ -1,0 +1,282 @@
+// Random plans of every shape, the same for the same seed: terms grown from the type that they are to have, and texts damaged in
+// one place.
+
+// A generator of numbers (xorshift with a multiplier).
+pub struct Numbers(u64);
+
+impl Numbers {
+    pub fn new(seed: u64) -> Numbers {
+        Numbers(seed.wrapping_mul(0x9e37_79b9_7f4a_7c15) | 1)
+    }
+
+    pub fn next(&mut self) -> u64 {
+        self.0 ^= self.0 >> 12;
+        self.0 ^= self.0 << 25;
+        self.0 ^= self.0 >> 27;
+        self.0.wrapping_mul(0x2545_f491_4f6c_dd1d) >> 16
+    }
+
+    pub fn below(&mut self, n: u64) -> u64 {
+        self.next() % n
+    }
+
+    fn one_of<'a, T>(&mut self, list: &'a [T]) -> &'a T {
+        &list[self.below(list.len() as u64) as usize]
+    }
+}
+
+#[derive(Clone, PartialEq)]
+enum Type {
+    Number,
+    Array(u64, Box<Type>),
+    Pair(Box<Type>, Box<Type>),
+}
+
+struct Grower {
+    numbers: Numbers,
+    inputs: Vec<Type>,
+    variables: Vec<Type>,
+    rows: Vec<(&'static str, i64)>,
+}
+
+impl Grower {
+    fn put(&mut self, word: &'static str, number: u64) {
+        self.rows.push((word, number as i64));
+    }
+
+    fn a_length(&mut self) -> u64 {
+        *self.numbers.one_of(&[1, 1, 2, 2, 3, 4, 6])
+    }
+
+    fn a_type(&mut self, depth: u64) -> Type {
+        match self.numbers.below(if depth == 0 { 1 } else { 4 }) {
+            0 => Type::Number,
+            1 => {
+                let (first, second) = (self.a_type(depth - 1), self.a_type(depth - 1));
+                Type::Pair(Box::new(first), Box::new(second))
+            }
+            _ => {
+                let length = self.a_length();
+                Type::Array(length, Box::new(self.a_type(depth - 1)))
+            }
+        }
+    }
+
+    fn spell(&mut self, t: &Type) {
+        match t {
+            Type::Number => self.put("num", 0),
+            Type::Array(n, element) => {
+                self.put("arr", *n);
+                self.spell(element);
+            }
+            Type::Pair(first, second) => {
+                self.put("two", 0);
+                self.spell(first);
+                self.spell(second);
+            }
+        }
+    }
+
+    // An input or a variable of the type, if there is one.
+    fn name(&mut self, t: &Type) -> bool {
+        let mut names: Vec<(&'static str, u64)> = Vec::new();
+        for (k, input) in self.inputs.iter().enumerate() {
+            if input == t {
+                names.push(("in", k as u64));
+            }
+        }
+        for (d, variable) in self.variables.iter().rev().enumerate() {
+            if variable == t {
+                names.push(("var", d as u64));
+            }
+        }
+        if names.is_empty() {
+            return false;
+        }
+        let (word, number) = *self.numbers.one_of(&names);
+        self.put(word, number);
+        true
+    }
+
+    // The smallest term of a type.
+    fn leaf(&mut self, t: &Type) {
+        if self.name(t) {
+            return;
+        }
+        match t {
+            Type::Number => {
+                let values = [0, 1, -1, 7, -7, 2147483647, -2147483648];
+                let value = *self.numbers.one_of(&values);
+                self.rows.push(("lit", value));
+            }
+            Type::Pair(first, second) => {
+                self.put("pair", 0);
+                self.leaf(first);
+                self.leaf(second);
+            }
+            Type::Array(n, element) => self.map_over(*n, element, 0),
+        }
+    }
+
+    // A map of that length: over any array of that length that is at hand, or over the first group of an input.
+    fn map_over(&mut self, n: u64, element: &Type, budget: u64) {
+        let word = *self.numbers.one_of(&["mappar", "mapseq"]);
+        self.put(word, 0);
+        let at_hand: Vec<Type> =
+            self.inputs.iter().chain(&self.variables).filter(|t| matches!(t, Type::Array(m, _) if *m == n)).cloned().collect();
+        let inner = if at_hand.is_empty() {
+            self.first_group(n);
+            Type::Number
+        } else {
+            let array = self.numbers.one_of(&at_hand).clone();
+            self.term(&array, budget / 2);
+            let Type::Array(_, inner) = array else { unreachable!() };
+            *inner
+        };
+        self.variables.push(inner);
+        self.term(element, budget / 2);
+        self.variables.pop();
+    }
+
+    // The first n numbers of input 0 or 1, which have 12 and 60: refused where n divides neither.
+    fn first_group(&mut self, n: u64) {
+        self.put("idx", 0);
+        self.put("split", n);
+        self.put("in", if 12 % n == 0 { 0 } else { 1 });
+    }
+
+    fn term(&mut self, t: &Type, budget: u64) {
+        if budget == 0 || self.rows.len() > 200 {
+            return self.leaf(t);
+        }
+        let rest = budget - 1;
+        match self.numbers.below(10) {
+            0 => self.leaf(t),
+            1 => {
+                let other = self.a_type(1);
+                let first = self.numbers.below(2) == 0;
+                self.put(if first { "fst" } else { "snd" }, 0);
+                let whole = if first {
+                    Type::Pair(Box::new(t.clone()), Box::new(other))
+                } else {
+                    Type::Pair(Box::new(other), Box::new(t.clone()))
+                };
+                self.term(&whole, rest);
+            }
+            2 => {
+                let length = self.a_length();
+                let k = self.numbers.below(length);
+                self.put("idx", k);
+                self.term(&Type::Array(length, Box::new(t.clone())), rest);
+            }
+            3 if self.variables.len() < 14 => self.reduction(t, rest),
+            _ => self.made(t, rest),
+        }
+    }
+
+    fn reduction(&mut self, t: &Type, budget: u64) {
+        let (length, element) = (self.a_length(), self.a_type(1));
+        self.put("redseq", 0);
+        self.term(t, budget / 3);
+        self.term(&Type::Array(length, Box::new(element.clone())), budget / 3);
+        self.variables.push(element);
+        self.variables.push(t.clone());
+        self.term(t, budget / 3);
+        self.variables.pop();
+        self.variables.pop();
+    }
+
+    // A term whose first word makes the type.
+    fn made(&mut self, t: &Type, budget: u64) {
+        match t {
+            Type::Number => {
+                let word = *self.numbers.one_of(&["neg", "add", "sub", "mul", "div", "min", "max"]);
+                self.put(word, 0);
+                self.term(t, budget / 2);
+                if word != "neg" {
+                    self.term(t, budget / 2);
+                }
+            }
+            Type::Pair(first, second) => {
+                self.put("pair", 0);
+                self.term(first, budget / 2);
+                self.term(second, budget / 2);
+            }
+            Type::Array(n, element) => self.made_array(*n, element, budget),
+        }
+    }
+
+    fn made_array(&mut self, n: u64, element: &Type, budget: u64) {
+        match (self.numbers.below(4), element) {
+            (0, Type::Pair(first, second)) => {
+                self.put("zip", 0);
+                self.term(&Type::Array(n, first.clone()), budget / 2);
+                self.term(&Type::Array(n, second.clone()), budget / 2);
+            }
+            (1, Type::Array(m, inner)) => {
+                self.put("split", *m);
+                self.term(&Type::Array(n * m, inner.clone()), budget);
+            }
+            (2, _) => {
+                let groups = *self.numbers.one_of(&[1, 2, 3]);
+                let groups = if n % groups == 0 { groups } else { 1 };
+                self.put("join", 0);
+                let group = Type::Array(n / groups, Box::new(element.clone()));
+                self.term(&Type::Array(groups, Box::new(group)), budget);
+            }
+            _ if self.variables.len() < 15 => self.map_over(n, element, budget),
+            _ => self.leaf(&Type::Array(n, Box::new(element.clone()))),
+        }
+    }
+}
+
+fn text(rows: &[(&'static str, i64)]) -> Vec<u8> {
+    rows.iter().map(|(word, number)| format!("{word},{number}\n")).collect::<String>().into_bytes()
+}
+
+// A plan's text; most are accepted, some are refused by their size.
+pub fn plan(seed: u64) -> Vec<u8> {
+    let mut g = Grower { numbers: Numbers::new(seed), inputs: Vec::new(), variables: Vec::new(), rows: Vec::new() };
+    g.inputs = vec![Type::Array(12, Box::new(Type::Number)), Type::Array(60, Box::new(Type::Number))];
+    for _ in 0..g.numbers.below(4) {
+        let input = g.a_type(3);
+        g.inputs.push(input);
+    }
+    g.put("plan", g.inputs.len() as u64);
+    for input in g.inputs.clone() {
+        g.spell(&input);
+    }
+    let (whole, budget) = (g.a_type(3), g.numbers.below(60));
+    g.term(&whole, budget);
+    text(&g.rows)
+}
+
+// The same, damaged in one place.
+pub fn damaged(seed: u64) -> Vec<u8> {
+    damage(&plan(seed), &mut Numbers::new(seed ^ 0x5555))
+}
+
+// A text damaged in one place: a line lost, doubled or exchanged, a number or a byte changed.
+pub fn damage(whole: &[u8], numbers: &mut Numbers) -> Vec<u8> {
+    let mut lines: Vec<Vec<u8>> = whole.split_inclusive(|b| *b == 10).map(|l| l.to_vec()).collect();
+    let at = numbers.below(lines.len() as u64) as usize;
+    match numbers.below(5) {
+        0 => drop(lines.remove(at)),
+        1 => lines.insert(at, lines[at].clone()),
+        2 => {
+            let other = numbers.below(lines.len() as u64) as usize;
+            lines.swap(at, other);
+        }
+        3 => {
+            let comma = lines[at].iter().position(|b| *b == b',').unwrap();
+            lines[at].truncate(comma + 1);
+            let number = *numbers.one_of(&["0", "1", "2", "3", "5", "-1", "4096", "4097", "-0", "01", "2147483648"]);
+            lines[at].extend(number.bytes().chain([10]));
+        }
+        _ => {
+            let byte = numbers.below(lines[at].len() as u64) as usize;
+            lines[at][byte] = *numbers.one_of(b"a0,-\n z9");
+        }
+    }
+    lines.concat()
+}
