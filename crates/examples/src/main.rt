@@ -1,6 +1,8 @@
-// Runs the worked examples of document 01's readings: file NNN.plan, NNN.loops or NNN.need holds the text of example NNN. For
-// each, its answer is printed: of a plan and of loops `ok`, of a need `ok` and the cells; or the refusal's number and line.
+// Runs the worked examples of document 01's readings: file NNN.plan, NNN.loops or NNN.need holds the text of example NNN;
+// NNN.two and NNN.three hold a plan that is read into a table of two or three rows. For each, its answer is printed: of a plan and
+// of loops `ok`, of a need `ok` and the cells; or the refusal's number and line.
 use libc::STDOUT_FILENO;
+use lines::Reading;
 use loops::Checked;
 use loops::Needed;
 use refusals::Refusal;
@@ -10,6 +12,8 @@ fn main() {
     let mut example: u8 = 0;
     while example < 210 {
         run_plan(example);
+        run_two(example);
+        run_three(example);
         run_loops(example);
         run_need(example);
         example += 1;
@@ -47,6 +51,59 @@ fn run_plan(example: u8) {
             io::write_all(STDOUT_FILENO, b" ok\n");
         }
         Answer::Refused(refusal) => refuse(refusal),
+    }
+}
+
+// Reads a plan's example into a table of two rows, if there is one of this number.
+fn run_two(example: u8) {
+    let mut path = *b"000.two";
+    path[0] = digit(example, 0);
+    path[1] = digit(example, 1);
+    path[2] = digit(example, 2);
+    let file = os::open_read(&path);
+    if file < 0 {
+        return;
+    }
+    let mut text = [0u8; 4097];
+    let size = io::read_full(file, &mut text);
+    libc::close(file);
+    let mut kinds = [0u8; 2];
+    let mut numbers = [0i32; 2];
+    show(
+        example,
+        plans::read_text(&text[..size], &mut kinds, &mut numbers),
+    );
+}
+
+// Reads a plan's example into a table of three rows, if there is one of this number.
+fn run_three(example: u8) {
+    let mut path = *b"000.three";
+    path[0] = digit(example, 0);
+    path[1] = digit(example, 1);
+    path[2] = digit(example, 2);
+    let file = os::open_read(&path);
+    if file < 0 {
+        return;
+    }
+    let mut text = [0u8; 4097];
+    let size = io::read_full(file, &mut text);
+    libc::close(file);
+    let mut kinds = [0u8; 3];
+    let mut numbers = [0i32; 3];
+    show(
+        example,
+        plans::read_text(&text[..size], &mut kinds, &mut numbers),
+    );
+}
+
+// The answer of a reading.
+fn show(example: u8, read: Reading) {
+    io::print_decimal(STDOUT_FILENO, example as u64);
+    match read {
+        Reading::Rows(_) => {
+            io::write_all(STDOUT_FILENO, b" ok\n");
+        }
+        Reading::Refused(refusal) => refuse(refusal),
     }
 }
 

@@ -16,6 +16,12 @@ loop-holds c = search needs
 run-plan-requires : tie.Need-run-plan-requires Inv-loop μ-loop
 run-plan-requires c κs = search needs
 
+run-two-requires : tie.Need-run-two-requires Inv-loop μ-loop
+run-two-requires c κs = search needs
+
+run-three-requires : tie.Need-run-three-requires Inv-loop μ-loop
+run-three-requires c κs = search needs
+
 run-loops-requires : tie.Need-run-loops-requires Inv-loop μ-loop
 run-loops-requires c κs = search needs
 
@@ -42,6 +48,8 @@ main-spec =
     μ-loop
     loop-holds
     run-plan-requires
+    run-two-requires
+    run-three-requires
     run-loops-requires
     run-need-requires
     add-example
