@@ -1,7 +1,7 @@
 /* Vazhdumir for firmware: plans, the loops made from them, and their run.
  *
- * Link with libvazhdumir.a (`rt staticlib vazhdumir`). Nothing is allocated and nothing is kept between calls; an entry uses the
- * caller's stack, up to about one megabyte for texts and tables of the largest size.
+ * Link with libvazhdumir.a (`rt staticlib vazhdumir`). Nothing is allocated and nothing is kept between calls. An entry uses the
+ * caller's stack, more of it the deeper the rows nest: loops of 4,096 lines, nested 4,091 deep, were checked and run on x86-64 with 2 MiB.
  *
  * Every entry answers every input with one 64-bit number. If its highest byte is 0, the call did its work, and the rest is the
  * value named below. Otherwise the highest byte is the refusal's number (docs/REFUSALS.md) and the rest its line, and nothing that
