@@ -6,6 +6,7 @@ pub mod Filled
 -- The table of references
 pub mod Nodes
 pub mod Growth
+pub mod Readings
 -- Paths and offsets
 pub mod Steps
 pub mod Indices

@@ -6,7 +6,7 @@ ghost use Prim.Native.Nat.{_<_};
 ghost use lib.ListN.{length};
 ghost use Rattle.emission.specs.Nodes.{nodeOf, kindIn, typeIn, numberIn, leftIn, rightIn};
 ghost use Rattle.emission.specs.References.{classOf};
-ghost use Rattle.emission.specs.Laws.Growth.{Pushed};
+ghost use Rattle.emission.specs.Growth.{Pushed};
 use words::kinds::*;
 
 // Kinds of nodes that are no word: the acceptors of the two operands of a `zip`. The others are named by words: `in`, `loc` and

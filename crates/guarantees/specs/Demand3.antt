@@ -29,7 +29,8 @@ use Rattle.syntax.specs.Reading.{loopsOf}
 use Rattle.syntax.specs.Theorems.{loops-read}
 use Rattle.translate.specs.Entry.{planIn, makeText, rowsMade, TextInto}
 use Rattle.translate.specs.Theorems.{text-put}
-use Rattle.run.specs.Run.{runOf, finished, runText}
+use Rattle.run.specs.Run.{finished, runText}
+use Rattle.interpreter.specs.Orders.{runOf}
 use Rattle.run.specs.Theorems.{run-is-run, text-finished}
 
 -- the loops whose rows a text's lines are

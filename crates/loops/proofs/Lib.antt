@@ -1,10 +1,5 @@
-pub mod Tables
-pub mod Offsets
 pub mod Sums
-pub mod Readings
-pub mod Sets
-pub mod Weighs
 pub mod Needs
-pub mod Judged
+pub mod Limits
 pub mod Texts
 pub mod LentTables

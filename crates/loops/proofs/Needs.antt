@@ -10,7 +10,7 @@ use Rattle.meaning.specs.Terms.{LoopKind}
 use Rattle.meaning.specs.Loops.{Offset, Place, Value, Command, Loops, plus, times, over, rest, seq, loop, new}
 use Rattle.meaning.specs.Rows.{offsetRows, placeRows, valueRows, commandRows, allCellsRows, loopsRows}
 use Rattle.meaning.specs.Layout.{room, allCells, need}
-use Rattle.loops.specs.Rows.{rowCells, cellsIn}
+use Rattle.loops.specs.Needs.{rowCells, cellsIn}
 
 cells-append : (a b : List Row) → cellsIn (a ++ b) ≡ cellsIn a + cellsIn b
 unfolding cellsIn

@@ -1,4 +1,4 @@
--- The cells of inputs and the need, row by row. Assumes nothing.
+-- The need, row by row. Assumes nothing.
 use mathlib.Core.Path.{_≡_, sym, ap, _∙_}
 use mathlib.Core.List.{List}
 use Prim.Native.Nat.{ℕ, _+_, _≤_, _<_}
@@ -10,20 +10,11 @@ use lib.IntN.{ℤ, pos}
 use mir.Syntax.{w32}
 use mir.Val.{SFits, toZ, ofZ}
 use mir.ValLaws.{toZ-ofZ}
-use lib.ListN.{length, getD, drop, List·getD-map, List·getD-eq-default}
+use lib.ListN.{length, getD, drop}
 use lib.Seq.{drop-cons, drop-length}
 use Rattle.words.specs.Kinds.{Row, rowsOf, word-cells, word-new}
-use Rattle.meaning.specs.Runs.{entry}
 use Rattle.syntax.specs.Ranges.{asNatural}
-use Rattle.loops.specs.Rows.{cellsOf, rowCells, cellsIn}
-
--- ---- an input's cells
-
-pub input-there : (l : List ℤ) (k : ℕ) {n : ℕ} → n ≡ asNatural (getD l k (pos 0)) → n ≡ entry (cellsOf l) k
-input-there l k e = e ∙ sym (List·getD-map asNatural l k (pos 0))
-
-pub input-not-there : (l : List ℤ) (k : ℕ) → length l ≤ k → 0 ≡ entry (cellsOf l) k
-input-not-there l k h = input-there l k (sym (ap asNatural (List·getD-eq-default l (pos 0) h)))
+use Rattle.loops.specs.Needs.{rowCells, cellsIn}
 
 -- ---- the need
 

@@ -24,7 +24,7 @@ use Rattle.loops.specs.declared.Needed.{Needed}
 use Rattle.loops.specs.declared.Needed.the-variants.{Cells, Refused as NoNeed}
 use Rattle.loops.specs.declared.Checked.{Checked}
 use Rattle.loops.specs.declared.Checked.the-variants.{Passes, Refused}
-use Rattle.loops.specs.Bounds.{askBounds}
+use Rattle.bounds.specs.Bounds.{askBounds}
 
 -- ---- loops as a tree
 

@@ -1,5 +1,4 @@
 -- The laws of the check of loops. A reader need not believe any of it.
-pub mod Offsets
 pub mod Passing
 pub mod Literals
 pub mod TranslatedLiterals

@@ -1,46 +1,25 @@
 -- Reading loops into a lent table: the check of the text, and question 12 of document 01 last. Definitions only; assumes nothing.
-use mathlib.Core.Bool.{cond, _&&_}
-use mathlib.Core.Path.{_≡_}
-use mathlib.Core.List.{List, _++_}
+use mathlib.Core.List.{List}
 use Prim.Native.Nat.{ℕ}
-use lib.Dec.{leb}
 use lib.IntN.{ℤ}
-use lib.ListN.{length, drop}
-use Rattle.refusals.specs.declared.Refusal.the-variants.{LentSize}
-use Rattle.words.specs.Kinds.{Row}
-use Rattle.lines.specs.Reading.{linesOf, rowsIn, headOf, kindsOf, numbersOf}
-use Rattle.lines.specs.declared.Heads.the-variants.{Words}
+use lib.ListN.{length}
+use Rattle.lines.specs.Lent.{askRoom, textRows, TableInto}
 use Rattle.lines.specs.declared.Reading.{Reading}
 use Rattle.lines.specs.declared.Reading.the-variants.{Rows, Refused}
 use Rattle.loops.specs.declared.Checked.{Checked}
 use Rattle.loops.specs.declared.Checked.the-variants as checked
 use Rattle.loops.specs.Check.{checkText}
 
--- "Has each lent table at least the rows .. that are to be put in it?" A table has as many as the shorter of its slices.
-abbrev pub askRoom : ℕ → ℕ → ℕ → Reading
-askRoom rows kinds numbers = cond (leb rows kinds && leb rows numbers) (Rows rows) (Refused LentSize)
-
 -- on with question 12, unless there was a "no"
 abbrev pub afterCheck : Checked → Reading → Reading
 afterCheck (checked.Passes w n) next = next
 afterCheck (checked.Refused q) next = Refused q
 
--- The rows of a text; ws is the table of words.
-abbrev pub textRows : List (List ℕ) → List ℕ → List Row
-textRows ws t = rowsIn (headOf ws Words) (linesOf t)
-
--- How many rows are put into slices of these lengths, or the first "no".
+-- How many rows are put into slices of these lengths, or the first "no"; ws is the table of words.
 unfoldable pub readText : List (List ℕ) → List ℕ → ℕ → ℕ → Reading
 readText ws t kinds numbers = afterCheck (checkText ws t) (askRoom (length (textRows ws t)) kinds numbers)
 
--- "All lent buffers keep their bytes" on a refusal. Else a column of the rows stands in front, and what lies past it is as it was.
-abbrev pub columnLeft : {A : Type 0} → Reading → List A → List A → List A
-columnLeft (Rows n) column held = column ++ drop (length column) held
-columnLeft (Refused q) column held = held
-
 -- What the entry promises of its answer r and of the two slices, as lent and as left.
-pub record LoopsInto (ws : List (List ℕ)) (t : List ℕ) (kinds : List ℕ) (numbers : List ℤ)
-    (r : Reading) (kinds′ : List ℕ) (numbers′ : List ℤ) : Type 0 where
-  pub answer : r ≡ readText ws t (length kinds) (length numbers)
-  pub kinds-left : kinds′ ≡ columnLeft r (kindsOf (textRows ws t)) kinds
-  pub numbers-left : numbers′ ≡ columnLeft r (numbersOf (textRows ws t)) numbers
+abbrev pub LoopsInto : List (List ℕ) → List ℕ → List ℕ → List ℤ → Reading → List ℕ → List ℤ → Type 0
+LoopsInto ws t kinds numbers r kinds′ numbers′ =
+    TableInto (readText ws t (length kinds) (length numbers)) (textRows ws t) kinds numbers r kinds′ numbers′

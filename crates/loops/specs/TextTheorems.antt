@@ -1,12 +1,12 @@
 -- What it means that a loops text passes the check, and what is read into a lent table. It rests on `checkText` of Check, `readText` of
 -- Reading, `Accepted` and `FirstNo` of Theorems, and on the reading of `lines`. ws is any table of words. Assumes nothing.
 use mathlib.Core.Bool.{Bool, true, false, cond, _&&_}
-use mathlib.Core.Path.{_≡_, refl, sym, ap, _∙_, subst}
+use mathlib.Core.Path.{_≡_, refl, sym, ap, _∙_}
 use mathlib.Core.List.{List, []}
 use mathlib.Core.Logic.{_↔_, _⊎_, inl, inr}
-use Prim.Native.Nat.{ℕ, _≤_, _<_, min}
+use Prim.Native.Nat.{ℕ, _*_, _≤_, _<_, min}
 use native.Mathlib.Omega.{arith}
-use borrow.Author.Tests.{leb-true, leb-false, le-leb, lt-leb}
+use borrow.Author.Tests.{leb-true, leb-false}
 use lib.Dec.{leb}
 use lib.ListN.{length}
 use mir.Syntax.{w32}
@@ -17,8 +17,9 @@ use Rattle.words.specs.Kinds.{Row}
 use Rattle.words.specs.Words.{words}
 use Rattle.words.specs.Laws.{words-distinct, words-formed}
 use Rattle.lines.specs.Reading.{reading, headOf, loopsLimits}
+use Rattle.lines.specs.Lent.{textRows, askRoom}
 use Rattle.lines.specs.Printing.{textOf}
-use Rattle.lines.specs.Laws.{Each, rows-back, reads-back, rows-read}
+use Rattle.lines.specs.Laws.{Each, Printable, rows-back, reads-back, rows-read}
 use Rattle.lines.specs.declared.Heads.the-variants.{Words}
 use Rattle.lines.specs.declared.Reading.{Reading}
 use Rattle.lines.specs.declared.Reading.the-variants as read
@@ -34,13 +35,14 @@ use Rattle.meaning.specs.Counts.{planWrites}
 use Rattle.meaning.specs.Limits.{PlanWithin, TouchesBelow}
 use Rattle.meaning.specs.Translation.{translation}
 use Rattle.meaning.specs.Theorems.{own-loops-pass}
+use Rattle.syntax.specs.InRange.{LoopsInRange}
 use Rattle.loops.specs.declared.Checked.{Checked}
 use Rattle.loops.specs.declared.Checked.the-variants.{Passes, Refused}
 use Rattle.loops.specs.Check.{checkRows, afterReading, checkText}
-use Rattle.loops.specs.Reading.{askRoom, afterCheck, textRows, readText}
+use Rattle.loops.specs.Reading.{afterCheck, readText}
 use Rattle.loops.specs.Theorems.{Accepted, FirstNo, RunsSafely, passes-exactly, refused-exactly, safe, runs-safely, own-pass}
 use Rattle.loops.specs.Laws.Passing.{pass-loops}
-use Rattle.loops.specs.Laws.Literals.{plan-literals}
+use Rattle.loops.specs.Laws.Literals.{CommandLiterals, plan-literals}
 use Rattle.loops.specs.Laws.TranslatedLiterals.{translation-literals}
 use Rattle.loops.specs.Laws.Printed.{loops-printable, loops-size}
 
@@ -196,20 +198,35 @@ some-row : (L : Loops) → 0 < length (loopsRows L)
 unfolding loopsRows
 some-row L = omega arith
 
--- "The translator's own always pass": the loops made from any plan within the limits, whose numbers are 32-bit numbers, as a text. They
--- have at most 4,096 lines (10) and 16,777,216 writes (11).
-pub own-text-passes : (P : Plan) (t : DataType) → HasType (P .inputs) [] (P .term) t → PlanWithin P
-    → Each (λ (r : Row). SFits w32 (r .1)) (planRows P)
-    → length (loopsRows (translation P)) ≤ 4096 → planWrites P ≤ 16777216
-    → checkText words (textOf words (loopsRows (translation P))) ≡ Passes (planWrites P) (need (translation P))
-own-text-passes P t typed within numbers short few =
-    let L : Loops = translation P in
-    let h = pass-loops L (own-loops-pass P t typed within) .0 in
-    let g = translation-literals (SFits w32) (record { sfits = omega arith }) P (plan-literals (SFits w32) P numbers) in
-    let p = loops-printable L h g in
-    let T : List ℕ = textOf words (loopsRows L) in
-    let back : textRows words T ≡ loopsRows L = rows-back words 6 words-distinct words-formed (loopsRows L) p in
-    let reads : Reads words T =
-    reads-back words 6 words-distinct words-formed loopsLimits (loopsRows L) p (some-row L) (omega (arith, loops-size L h g, short)) short
-    ∙ ap (λ (S : List Row). read.Rows (length S)) (sym back) in
-    read-text words T reads ∙ ap checkRows back ∙ own-pass P t typed within few
+-- The loops made from any plan within the limits, whose numbers are 32-bit numbers, as a text.
+module _ (P : Plan) (t : DataType) (typed : HasType (P .inputs) [] (P .term) t) (within : PlanWithin P)
+    (numbers : Each (λ (r : Row). SFits w32 (r .1)) (planRows P)) where
+  abbrev own : List Row
+  own = loopsRows (translation P)
+
+  own-in-range : LoopsInRange (translation P)
+  own-in-range = pass-loops (translation P) (own-loops-pass P t typed within) .0
+
+  own-literals : CommandLiterals (SFits w32) (translation P .command)
+  own-literals = translation-literals (SFits w32) (record { sfits = omega arith }) P (plan-literals (SFits w32) P numbers)
+
+  own-printable : Each (Printable words) own
+  own-printable = loops-printable (translation P) own-in-range own-literals
+
+  -- at most 16 bytes a line
+  pub own-text-size : length (textOf words own) ≤ 16 * length own
+  own-text-size = loops-size (translation P) own-in-range own-literals
+
+  -- it reads back
+  pub own-text-back : textRows words (textOf words own) ≡ own
+  own-text-back = rows-back words 6 words-distinct words-formed own own-printable
+
+  -- "The translator's own always pass": where they have at most 4,096 lines (10) and 16,777,216 writes (11).
+  pub own-text-passes : length own ≤ 4096 → planWrites P ≤ 16777216
+      → checkText words (textOf words own) ≡ Passes (planWrites P) (need (translation P))
+  own-text-passes short few =
+      let T : List ℕ = textOf words own in
+      let reads : Reads words T =
+      reads-back words 6 words-distinct words-formed loopsLimits own own-printable (some-row (translation P)) (omega (arith, own-text-size, short)) short
+      ∙ ap (λ (S : List Row). read.Rows (length S)) (sym own-text-back) in
+      read-text words T reads ∙ ap checkRows own-text-back ∙ own-pass P t typed within few

@@ -35,7 +35,7 @@ use Rattle.syntax.specs.InRange.{LoopsInRange}
 use Rattle.syntax.specs.Theorems.{WalksWell, all-passed, loops-walk, loops-read, loops-tree}
 use Rattle.loops.specs.declared.Checked.{Checked}
 use Rattle.loops.specs.declared.Checked.the-variants.{Passes, Refused}
-use Rattle.loops.specs.Bounds.{askBounds}
+use Rattle.bounds.specs.Bounds.{askBounds}
 use Rattle.loops.specs.Check.{askWrites, unless, checkLoops, afterWalk, checkRows}
 use Rattle.loops.specs.Laws.Passing.{loops-pass, pass-loops}
 

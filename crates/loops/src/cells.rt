@@ -3,7 +3,7 @@ ghost use mathlib.Core.Path.{_≡_};
 ghost use Prim.Native.Nat.{_≤_};
 ghost use lib.ListN.{length};
 ghost use Rattle.words.specs.Kinds.{rowsOf};
-ghost use Rattle.loops.specs.Rows.{rowCells, cellsIn};
+ghost use Rattle.loops.specs.Needs.{rowCells, cellsIn};
 use syntax::ranges;
 use words::kinds::*;
 

@@ -9,15 +9,12 @@ ghost use Rattle.meaning.specs.Rows.{loopsRows};
 ghost use Rattle.syntax.specs.InRange.{LoopsInRange};
 ghost use Rattle.loops.specs.Check.{checkLoops, checkRows, checkTable, checkText, needOf};
 ghost use Rattle.loops.specs.Reading.{LoopsInto};
-use commands::Weighed;
+use bound_check::Asked;
 use lines::Reading;
 use refusals::Refusal;
 use syntax::Answer;
 
-mod assignments;
-mod bounds;
 mod cells;
-mod commands;
 
 // The writes of loops that pass and the cells that they need; or the first "no".
 pub enum Checked {
@@ -32,13 +29,13 @@ pub enum Needed {
 }
 
 // Questions 9 and 11 of a table that walks well.
-fn judge(kinds: &[u8], numbers: &[i32]) -> Checked
+fn check_limits(kinds: &[u8], numbers: &[i32]) -> Checked
     requires { ⌜ (length (now kinds) ≡ length (now numbers)) × (length (now kinds) ≤ 4096) ⌝ }
     ensures { λ r. ⌜ ((L : Loops) → rowsOf (now (kinds .entry)) (now (numbers .entry)) ≡ loopsRows L → LoopsInRange L → r ≡ checkLoops L) ⌝ }
 {
-    let weighed = commands::weigh_loops(kinds, numbers);
-    let Weighed::Passed { rows: _, writes } = weighed else {
-        let Weighed::Refused(refusal) = weighed else {
+    let asked = bound_check::ask_loops(kinds, numbers);
+    let Asked::Passed { rows: _, writes } = asked else {
+        let Asked::Refused(refusal) = asked else {
             return Checked::Refused(Refusal::WriteCount);
         };
         return Checked::Refused(refusal);
@@ -64,7 +61,7 @@ fn check_rows(kinds: &[u8], numbers: &[i32]) -> Checked
         };
         return Checked::Refused(refusal);
     };
-    judge(kinds, numbers)
+    check_limits(kinds, numbers)
 }
 
 // The check of a lent table, whose rows are as many as the shorter slice has: questions 2 (of the kinds), 3 to 6, 9 and 11.

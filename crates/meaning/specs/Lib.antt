@@ -1,4 +1,4 @@
--- What a plan is worth, what loops do, and that they agree.
+-- What a plan is worth, what loops do, and that they agree: document 01, 'Lines' (types, terms, loops), 'Translation', 'Counts', 'Value and run'.
 
 -- The definitions, in document 01's order: what a reader has to believe
 pub mod Types
@@ -21,8 +21,6 @@ pub mod Counts
 pub mod Rows
 pub mod Limits
 pub mod Demand3
--- Computed tests of them
-pub mod Tests
 -- Their laws, and what is proved
 pub mod Laws
 pub mod Theorems

@@ -13,13 +13,13 @@ use Rattle.syntax.specs.declared.Answer.the-variants as answer
 use Rattle.syntax.specs.Walk.{walkTable}
 use Rattle.syntax.specs.Reading.{planOf}
 use Rattle.syntax.specs.Theorems.{WalksWell, all-passed, plan-tree}
-use Rattle.plans.specs.Check.{Verdict, checkPlan}
-use Rattle.plans.specs.Entry.{answered, checkRows}
-use Rattle.plans.specs.Laws.Rows.{walked-rows, unwalked-rows}
-use Rattle.plans.specs.Typed.{PlanStands, PlanRoom, PlanAnswered}
-use Rattle.plans.specs.declared.TypedPlan.{TypedPlan}
-use Rattle.plans.specs.declared.Typing.the-variants.{Typed, Refused}
-use Rattle.plans.proofs.PlanLaws.{plan-refused, plan-typed}
+use Rattle.typing.specs.Check.{Verdict, checkPlan}
+use Rattle.typing.specs.Entry.{answered, checkRows}
+use Rattle.typing.specs.Laws.Rows.{walked-rows, unwalked-rows}
+use Rattle.type_check.specs.Typed.{PlanStands, PlanRoom, PlanAnswered}
+use Rattle.type_check.specs.declared.TypedPlan.{TypedPlan}
+use Rattle.type_check.specs.declared.Typing.the-variants.{Typed, Refused}
+use Rattle.type_check.proofs.PlanLaws.{plan-refused, plan-typed}
 
 pub walk-no : (R : List Row) (a : Answer) (q : Refusal) → a ≡ walkTable sort.Plan R → a ≡ answer.Refused q → a ≡ checkRows R
 walk-no R a q e f = f ∙ sym (unwalked-rows R q (sym e ∙ f))

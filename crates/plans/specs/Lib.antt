@@ -1,22 +1,4 @@
--- The check of a plan.
+-- What the entries of the check of a plan promise: document 01, questions 1 to 8 (crate `typing`), and 12 where a table is lent.
 
--- The definitions, in document 01's order: what a reader has to believe
-pub mod Check
-pub mod Entry
-pub mod Accepted
-pub mod Lengths
--- Its questions as one list, in the order in which they are put
-pub mod Questions
-pub mod TypeQuestions
-pub mod EntryQuestions
--- How code meets it
-pub mod Rules
-pub mod Scopes
-pub mod Terms
-pub mod Typed
+-- The definitions: what a reader has to believe
 pub mod Reading
--- Laws, and what is proved
-pub mod Laws
-pub mod Theorems
--- Computed examples
-pub mod Examples

@@ -1,20 +1,19 @@
 -- What each way out of the entries knows. Assumes nothing.
-use mathlib.Core.Bool.{Bool, true, false, cond}
-use mathlib.Core.Path.{_≡_, refl, sym, ap, ap₂, _∙_}
-use mathlib.Core.List.{List, [], _∷_}
+use mathlib.Core.Bool.{Bool, cond}
+use mathlib.Core.Path.{_≡_, sym, ap, _∙_}
+use mathlib.Core.List.{List, []}
 use Prim.Native.Nat.{ℕ, _≤_, _<_, min}
 use native.Mathlib.Omega.{arith}
 use borrow.Author.Tests.{le-leb, lt-leb}
 use lib.Dec.{leb}
 use lib.IntN.{ℤ}
-use lib.ListN.{length, take, drop, length-map}
-use lib.Seq.{take-at}
+use lib.ListN.{length, take}
 use Rattle.refusals.specs.declared.Refusal.{Refusal}
 use Rattle.refusals.specs.declared.Refusal.the-variants.{UnknownOrder, StoreSize}
 use Rattle.words.specs.Kinds.{Row, rowsOf}
 use Rattle.words.specs.Laws.{rows-length}
-use Rattle.words.specs.declared.Found.{Found}
-use Rattle.lines.specs.Reading.{linesOf, reading, rowsIn, kindsOf, numbersOf, filled, roomFor, headOf, loopsLimits, ReadInto}
+use Rattle.lines.specs.Reading.{linesOf, rowsIn, headOf, loopsLimits, ReadInto}
+use Rattle.lines.specs.TableLaws.{read-few, rows-held}
 use Rattle.lines.specs.Laws.{rows-read}
 use Rattle.lines.specs.declared.Heads.the-variants.{Words}
 use Rattle.lines.specs.declared.Reading.{Reading}
@@ -31,11 +30,11 @@ use Rattle.loops.specs.declared.Checked.the-variants as check
 use Rattle.loops.specs.Check.{afterReading, checkRows, checkTable, checkText}
 use Rattle.loops.specs.Theorems.{passes-exactly}
 use Rattle.loops.specs.TableTheorems.{few-rows, table-passes-exactly}
-use Rattle.loops.proofs.Texts.{text-few}
+use Rattle.interpreter.specs.Orders.{runOf}
+use Rattle.interpreter.specs.Interpreter.{stateOf}
 use Rattle.run.specs.declared.Ran.{Ran}
 use Rattle.run.specs.declared.Ran.the-variants.{Finished, Refused}
-use Rattle.run.specs.Interpreter.{stateOf}
-use Rattle.run.specs.Run.{runOf, Outcome, outcome, finished, refused, askedRun, afterCheck, runTable, runText}
+use Rattle.run.specs.Run.{Outcome, outcome, finished, refused, askedRun, afterCheck, runTable, runText}
 
 -- ---- questions 13 and 14, and the run
 
@@ -59,12 +58,12 @@ module _ (L : Loops) (need order : ℕ) (s : List ℤ) where
   run-finished h g r s′ e = ap finished e ∙ ap enough (sym (le-leb need (length s) g)) ∙ order-known h
 
 -- the loops whose rows pass are those that the rows are read as
-pub passing-loops : (ks : List ℕ) (ns : List ℤ) (order w n r : ℕ) (s s′ : List ℤ) → length ks ≤ 4096 → checkRows (rowsOf ks ns) ≡ check.Passes w n
-    → ((L : Loops) → rowsOf ks ns ≡ loopsRows L → LoopsPass L → length ks ≤ 4096 → commandWrites (L .command) ≤ 16777216 → stateOf s′ r ≡ runOf L order s)
+pub passing-loops : (ks : List ℕ) (ns : List ℤ) (order w n r : ℕ) (s s′ : List ℤ) → checkRows (rowsOf ks ns) ≡ check.Passes w n
+    → ((L : Loops) → rowsOf ks ns ≡ loopsRows L → LoopsPass L → commandWrites (L .command) ≤ 16777216 → stateOf s′ r ≡ runOf L order s)
     → stateOf s′ r ≡ runOf (loopsOf (rowsOf ks ns)) order s
-passing-loops ks ns order w n r s s′ few e g =
+passing-loops ks ns order w n r s s′ e g =
     let a = passes-exactly (rowsOf ks ns) w n .0 e in
-    g (a .loops) (a .rows) (a .passes) few (omega (arith, a .writesFew, a .writes))
+    g (a .loops) (a .rows) (a .passes) (omega (arith, a .writesFew, a .writes))
     ∙ ap (λ (L : Loops). runOf L order s) (sym (ap loopsOf (a .rows) ∙ loops-read (a .loops)))
 
 -- ---- a lent table
@@ -95,15 +94,6 @@ module _ (ks : List ℕ) (ns : List ℤ) (order : ℕ) (s : List ℤ) (c : Check
 
 -- ---- a text
 
-rows-again : (R : List Row) → rowsOf (kindsOf R) (numbersOf R) ≡ R
-unfolding rowsOf
-rows-again [] = refl
-rows-again (r ∷ R) = ap (λ (x : List Row). r ∷ x) (rows-again R)
-
-put-first : {A : Type 0} (b : Bool) (put lent left : List A) (n : ℕ) → b ≡ true → length put ≡ n → left ≡ filled b put lent → take n left ≡ put
-put-first true put lent left n h l q = ap (take n) q ∙ take-at put (drop (length put) lent) n l
-put-first false put lent left n h l q = absurd (let z : _≡_ {A = ℕ} 0 1 = cc in omega arith)
-
 module _ (ws : List (List ℕ)) (t : List ℕ) (order : ℕ) (s : List ℤ) (ks ks′ : List ℕ) (ns ns′ : List ℤ) (d : Reading)
     (i : ReadInto (headOf ws Words) loopsLimits t ks ns d ks′ ns′) where
   abbrev rows : List Row
@@ -115,7 +105,7 @@ module _ (ws : List (List ℕ)) (t : List ℕ) (order : ℕ) (s : List ℤ) (ks 
 
   module _ (n : ℕ) (f : d ≡ read.Rows n) where
     pub rows-few : n ≤ 4096
-    rows-few = text-few ws t d n (i .answer) f
+    rows-few = read-few (headOf ws Words) loopsLimits t n (sym (i .answer) ∙ f)
 
     rows-counted : length rows ≡ n
     rows-counted = rows-read (headOf ws Words) loopsLimits t n (sym (i .answer) ∙ f)
@@ -124,11 +114,6 @@ module _ (ws : List (List ℕ)) (t : List ℕ) (order : ℕ) (s : List ℤ) (ks 
         → outcome r s′ ≡ runTable (rowsOf (take n ks′) (take n ns′)) order s → outcome r s′ ≡ runText ws t order s
     unfolding runTable runText checkText
     text-run h g r s′ e =
-        let a : ℕ = length ks in
-        let b : ℕ = length ns in
-        let room : roomFor d a b ≡ true = rw f (simp (le-leb n a (omega (arith, rows-few, h)), le-leb n b (omega (arith, rows-few, g)))) in
-        let x = put-first (roomFor d a b) (kindsOf rows) ks ks′ n room (length-map rows (λ (z : Row). z .0) ∙ rows-counted) (i .kinds-left) in
-        let y = put-first (roomFor d a b) (numbersOf rows) ns ns′ n room (length-map rows (λ (z : Row). z .1) ∙ rows-counted) (i .numbers-left) in
         let few : length rows ≤ 4096 = omega (arith, rows-few, rows-counted) in
-        e ∙ ap (λ (z : List Row). runTable z order s) (ap₂ rowsOf x y ∙ rows-again rows)
+        e ∙ ap (λ (z : List Row). runTable z order s) (rows-held (headOf ws Words) loopsLimits t d n ks ks′ ns ns′ f (omega (arith, h)) (omega (arith, g)) i)
         ∙ ap (λ (z : Checked). afterCheck z (loopsOf rows) order s) (few-rows rows few ∙ ap (λ (z : Reading). afterReading z (checkRows rows)) (sym f ∙ i .answer))

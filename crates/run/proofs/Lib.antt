@@ -1,12 +1,1 @@
-pub mod Operands
-pub mod Operations
-pub mod Offsets
-pub mod Values
-pub mod Commands
-pub mod Turns
-pub mod Runs
-pub mod Rounds
-pub mod Passing
-pub mod Inputs
-pub mod WholeLoops
 pub mod Entries

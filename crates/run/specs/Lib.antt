@@ -1,11 +1,6 @@
--- What the run entries answer, and what store they leave.
+-- What the run entries answer, and what store they leave: document 01, 'Value and run', second part, and questions 13 and 14.
 
 -- The definitions: what a reader has to believe
-pub mod Orders
 pub mod Run
--- What the contracts of parts say besides
-pub mod Exact
-pub mod Commands
-pub mod Interpreter
 -- What is proved
 pub mod Theorems

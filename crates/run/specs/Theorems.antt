@@ -1,7 +1,7 @@
--- What it means that loops are run. It rests on Run and Orders, on `RunOf` and `runLoops` of `meaning`, and on the check of `loops`. Assumes
+-- What it means that loops are run. It rests on Run, on `runOf` of `interpreter`, on `RunOf` and `runLoops` of `meaning`, and on the check of `loops`. Assumes
 -- nothing.
 use mathlib.Core.Bool.{Bool, true, false, cond}
-use mathlib.Core.Path.{_≡_, refl, sym, ap, _∙_}
+use mathlib.Core.Path.{_≡_, refl, ap, _∙_}
 use mathlib.Core.List.{List}
 use Prim.Native.Nat.{ℕ, _≤_}
 use native.Mathlib.Omega.{arith}
@@ -23,10 +23,9 @@ use Rattle.syntax.specs.Reading.{loopsOf}
 use Rattle.loops.specs.declared.Checked.{Checked}
 use Rattle.loops.specs.declared.Checked.the-variants as check
 use Rattle.loops.specs.Check.{checkTable, checkText}
-use Rattle.run.specs.declared.Ran.{Ran}
-use Rattle.run.specs.declared.Ran.the-variants.{Finished, Refused}
-use Rattle.run.specs.Orders.{named}
-use Rattle.run.specs.Run.{runOf, Outcome, outcome, finished, refused, askedRun, afterCheck, runTable, runText}
+use Rattle.interpreter.specs.Orders.{named, runOf}
+use Rattle.run.specs.declared.Ran.the-variants.{Refused}
+use Rattle.run.specs.Run.{Outcome, finished, refused, askedRun, afterCheck, runTable, runText}
 
 -- The run that an entry makes is one of the runs of the loops.
 pub run-is-run : (L : Loops) (order : ℕ) (s : List ℤ) → RunOf clamped32 L s (runOf L order s)

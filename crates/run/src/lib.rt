@@ -1,5 +1,5 @@
-// The interpreter of loops over rows, and the entries that run them: the questions of the check of loops, then 13, then 14 of
-// document 01. A store is lent as cells and bytes, either of which may be empty.
+// The entries that run loops: the questions of the check of loops, then 13, then 14 of document 01. A store is lent as cells and bytes,
+// either of which may be empty.
 ghost use mathlib.Core.Path.{_≡_};
 ghost use Prim.Native.Nat.{ℕ, min, _≤_};
 ghost use lib.ListN.{length};
@@ -13,14 +13,6 @@ ghost use Rattle.run.specs.Run.{outcome, askedRun, runTable, runText};
 use lines::Reading;
 use loops::Checked;
 use refusals::Refusal;
-
-mod command;
-mod interpret;
-mod offset;
-mod order;
-mod sums;
-mod value;
-mod whole;
 
 // The writes of a run; or the first "no".
 pub enum Ran {
@@ -49,9 +41,8 @@ fn run_passing(
     if store::count(cells, bytes) < need {
         return Ran::Refused(Refusal::StoreSize);
     }
-    Ran::Finished {
-        writes: whole::run_loops(kinds, numbers, order, cells, bytes),
-    }
+    let writes = interpreter::run_loops(kinds, numbers, order, cells, bytes);
+    Ran::Finished { writes }
 }
 
 // The number of rows of a lent table: as many as the shorter slice has.

@@ -16,13 +16,8 @@ use Rattle.syntax.specs.Ranges.{asNatural}
 use Rattle.syntax.specs.InRange.{TermInRange}
 use Rattle.syntax.specs.Standing.{TermStands, termKind, termNumber, operandCount, firstOperand, secondOperand, thirdOperand, secondOpens}
 use Rattle.syntax.proofs.Steps.{part-all, rows-part}
+use Rattle.syntax.proofs.Front.{part, part-length, head-row}
 use Rattle.syntax.proofs.TermRows.{headNumber, rowsBehind, term-head, number-head, behindFirst, first-rows, behindSecond, second-rows, third-rows, none-behind, one-behind, two-behind}
-
-abbrev pub part : {A : Type 0} → ℕ → List A → List A
-part a l = take (length l - a) (drop a l)
-
-pub part-length : {A : Type 0} (a : ℕ) (l : List A) → length (part a l) ≡ length l - a
-part-length a l = ap length (part-all l a) ∙ length-drop a l
 
 -- ---- how many operands a word has
 
@@ -157,12 +152,6 @@ third-range K w (Term.second e) h r = absurd (omega arith)
 third-range K w (Term.index k e) h r = absurd (omega arith)
 
 -- ---- what stands in front
-
-pub head-row : (ks : List ℕ) (ns : List ℤ) (r : Row) (R : List Row) → rowsOf ks ns ≡ r ∷ R → (getD ks 0 0 ≡ r .0) × (getD ns 0 (pos 0) ≡ r .1)
-unfolding rowsOf
-head-row [] ns r R e = absurd (let z : _≡_ {A = ℕ} 0 1 = cc in omega arith)
-head-row (k ∷ ks) [] r R e = absurd (let z : _≡_ {A = ℕ} 0 1 = cc in omega arith)
-head-row (k ∷ ks) (n ∷ ns) r R e = let h : _≡_ {A = Row} (k, n) r = cc in (ap (λ (x : Row). x .0) h, ap (λ (x : Row). x .1) h)
 
 module _ (ks : List ℕ) (ns : List ℤ) (K v : ℕ) (e : Term) (S : TermStands ks ns K v e) where
   heads : (getD ks 0 0 ≡ termKind e) × (getD ns 0 (pos 0) ≡ headNumber e)

@@ -1,6 +1,6 @@
 -- Question 5 of document 01: "Number in range ..?" Definitions only; assumes nothing.
 use mathlib.Core.Bool.{Bool, true, false, cond, _&&_}
-use mathlib.Core.List.{List, [], _∷_}
+use mathlib.Core.List.{List, [], _∷_, map}
 use Prim.Native.Nat.{ℕ}
 use lib.Dec.{eqb, ltb, leb}
 use lib.IntN.{ℤ, pos, negsuc}
@@ -49,3 +49,7 @@ inRange s names k n =
     (cond (eqb k word-loc) (ltb n (names .regions))
     (cond (eqb k word-lit) (literalInRange s n)
     (eqb n 0))))))))
+
+-- the cells that stand in `cells` rows
+abbrev pub cellsOf : List ℤ → List ℕ
+cellsOf zs = map asNatural zs

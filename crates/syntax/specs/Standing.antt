@@ -1,4 +1,4 @@
--- A term's first row and its operands, and what it is that a term's rows stand in front of kinds and numbers. Definitions only;
+-- What it is that rows stand at the front of kinds and numbers; a term's first row and its operands. Definitions only;
 -- assumes nothing.
 use mathlib.Core.Path.{_≡_}
 use mathlib.Core.List.{List, _++_}
@@ -9,6 +9,11 @@ use Rattle.words.specs.Kinds.{Row, rowsOf, word-in, word-var, word-lit, word-ne
 use Rattle.meaning.specs.Terms.{Term}
 use Rattle.meaning.specs.Rows.{operationWord, mapWord, termRows}
 use Rattle.syntax.specs.InRange.{TermInRange}
+
+-- these rows stand at the front of a table
+pub record Begins (kinds : List ℕ) (numbers : List ℤ) (rows : List Row) : Type 0 where
+  pub behind : List Row
+  pub front : rowsOf kinds numbers ≡ rows ++ behind
 
 -- the rows of the term e stand in front, with numbers in range where so many inputs and variables are in force
 pub record TermStands (ks : List ℕ) (ns : List ℤ) (inputs variables : ℕ) (e : Term) : Type 0 where

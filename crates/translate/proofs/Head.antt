@@ -17,17 +17,18 @@ use Rattle.meaning.specs.Translation.{writeTerm, planType, translation}
 use Rattle.syntax.specs.Ranges.{asNatural}
 use Rattle.syntax.specs.Standing.{TermStands}
 use Rattle.syntax.proofs.Steps.{part-all, rows-part}
-use Rattle.syntax.proofs.Standing.{part, part-length, head-row}
+use Rattle.syntax.proofs.Front.{part, part-length, head-row}
 use Rattle.type_table.specs.Table.{typeAt}
 use Rattle.type_table.specs.Columns.{Noted}
 use Rattle.emission.specs.Nodes.{nodeOf, leftIn, rightIn}
 use Rattle.emission.specs.References.{acceptorAt, acceptorOver, noAcceptor}
 use Rattle.emission.specs.Table.{Table, putRow, putRows}
 use Rattle.emission.specs.Laws.Nodes.{kind-node, type-node, left-node, right-node}
-use Rattle.emission.specs.Laws.Growth.{Pushed, node-pushed}
+use Rattle.emission.specs.Growth.{Pushed}
+use Rattle.emission.specs.Laws.Growth.{node-pushed}
 use Rattle.emission.specs.Laws.Table.{put-append}
-use Rattle.translate.specs.declared.walk.State.{State}
-use Rattle.translate.specs.Walk.{Stands, Room, nodesWritten, ReadyToWrite}
+use Rattle.steps.specs.declared.State.{State}
+use Rattle.walk.specs.Walk.{Stands, Room, nodesWritten, ReadyToWrite}
 use Rattle.translate.specs.Entry.{madeRows}
 use Rattle.translate.specs.Making.{cellsAt, PlanNoted, SomePlanNoted}
 

@@ -1,19 +1,20 @@
 -- What is lent: what each way out of the entries knows. Assumes nothing.
 use mathlib.Core.Bool.{Bool, true, false, cond, _&&_}
-use mathlib.Core.Path.{_≡_, refl, sym, ap, ap₂, _∙_, subst}
+use mathlib.Core.Path.{_≡_, refl, sym, ap, _∙_, subst}
 use mathlib.Core.List.{List, [], _∷_, _++_}
-use Prim.Native.Nat.{ℕ, _+_, _≤_, _<_}
+use Prim.Native.Nat.{ℕ, _≤_, _<_}
 use native.Mathlib.Nat.{zero-add}
 use native.Mathlib.Omega.{arith}
 use borrow.Author.Tests.{le-leb, lt-leb}
 use lib.Dec.{leb}
 use lib.IntN.{ℤ}
-use lib.ListN.{length, take, drop, length-map}
-use lib.Seq.{sets, sets-eq, take-at}
+use lib.ListN.{length, take, drop}
+use lib.Seq.{sets, sets-eq}
 use Rattle.refusals.specs.declared.Refusal.{Refusal}
 use Rattle.refusals.specs.declared.Refusal.the-variants.{LentSize}
 use Rattle.words.specs.Kinds.{Row, rowsOf}
 use Rattle.lines.specs.Reading.{kindsOf, numbersOf, filled}
+use Rattle.lines.specs.TableLaws.{rows-in-front}
 use Rattle.lines.specs.Printing.{textOf, fitting, printing, PrintInto}
 use Rattle.loops.specs.declared.Checked.{Checked}
 use Rattle.loops.specs.declared.Checked.the-variants as check
@@ -24,7 +25,6 @@ use Rattle.translate.specs.declared.Made.the-variants.{Rows, Refused}
 use Rattle.translate.specs.Entry.{rowsMade, makeText, lentTable, isMade, lentText, isPrinted, RowsInto, TextInto}
 use Rattle.translate.specs.Making.{byCheck}
 use Rattle.translate.specs.Laws.Answers.{no-rows, text-count}
-use Rattle.translate.proofs.MadeLaws.{rows-again}
 
 -- what was put is in front, and the rest as lent
 front-filled : {A : Type 0} (held after put : List A) → length put ≤ length held → after ≡ sets held 0 put → after ≡ put ++ drop (length put) held
@@ -110,21 +110,11 @@ module _ (ws : List (List ℕ)) (t : List ℕ) (r : Made) (ks ks′ : List ℕ) 
       pub few-rows : m ≤ 4096
       few-rows = text-count ws t m (sym own-answer ∙ f) .1
 
-      kinds-made : take m ks′ ≡ kindsOf R
-      kinds-made =
-          ap (take m) (I .kinds-left ∙ ap (λ (v : Made). filled (isMade v) (kindsOf R) ks) f)
-          ∙ take-at (kindsOf R) _ m (length-map R (λ (x : Row). x .0) ∙ count)
-
-      numbers-made : take m ns′ ≡ numbersOf R
-      numbers-made =
-          ap (take m) (I .numbers-left ∙ ap (λ (v : Made). filled (isMade v) (numbersOf R) ns) f)
-          ∙ take-at (numbersOf R) _ m (length-map R (λ (x : Row). x .1) ∙ count)
-
       pub text-filled : (text′ : List ℕ) (p : Printing) → PrintInto ws (rowsOf (take m ks′) (take m ns′)) text p text′
           → TextInto ws (makeText ws t) R text p text′
       unfolding printing
       text-filled text′ p J =
-          let rows : rowsOf (take m ks′) (take m ns′) ≡ R = ap₂ rowsOf kinds-made numbers-made ∙ rows-again R in
+          let rows : rowsOf (take m ks′) (take m ns′) ≡ R = rows-in-front (isMade r) R m ks ks′ ns ns′ (ap isMade f) count (I .kinds-left) (I .numbers-left) in
           let K : PrintInto ws R text p text′ = subst (λ (T : List Row). PrintInto ws T text p text′) rows J in
           record {
             answer = K .answer ∙ ap (λ (v : Made). lentText v (printing (textOf ws R) (length text))) (sym f ∙ own-answer);

@@ -4,9 +4,3 @@ pub mod MadeLaws
 pub mod ReadPlan
 pub mod LentLaws
 pub mod Copies
-pub mod StepLaws
-pub mod RowCounts
-pub mod TermRows
-pub mod Calls
-pub mod WriteCalls
-pub mod ReduceCalls

@@ -16,6 +16,7 @@ use Rattle.words.specs.Kinds.{Row, rowsOf}
 use Rattle.words.specs.Laws.{rows-length}
 use Rattle.words.specs.declared.Sort.the-variants as sort
 use Rattle.lines.specs.Reading.{kindsOf, numbersOf}
+use Rattle.lines.specs.TableLaws.{rows-again}
 use Rattle.meaning.specs.Types.{DataType}
 use Rattle.meaning.specs.Terms.{Plan}
 use Rattle.meaning.specs.Typing.{HasType}
@@ -31,13 +32,13 @@ use Rattle.syntax.specs.Theorems.{all-passed, plan-tree}
 use Rattle.emission.specs.Table.{Table, table, putRow, putRows}
 use Rattle.emission.specs.Laws.Filled.{endOf, rows-fit, rows-too-many}
 use Rattle.loops.specs.Check.{checkTable}
-use Rattle.plans.specs.Check.{Verdict, typed, refused, checkPlan}
-use Rattle.plans.specs.Entry.{answered, checkRows}
-use Rattle.plans.specs.Typed.{PlanStands, PlanTyped, PlanAnswered}
-use Rattle.plans.specs.Laws.Plans.{plan-accepted}
-use Rattle.plans.specs.Laws.Rows.{walked-rows, unwalked-rows}
-use Rattle.plans.specs.declared.TypedPlan.{TypedPlan}
-use Rattle.plans.specs.declared.Typing.the-variants as typing
+use Rattle.typing.specs.Check.{Verdict, typed, refused, checkPlan}
+use Rattle.typing.specs.Entry.{answered, checkRows}
+use Rattle.type_check.specs.Typed.{PlanStands, PlanTyped, PlanAnswered}
+use Rattle.typing.specs.Laws.Plans.{plan-accepted}
+use Rattle.typing.specs.Laws.Rows.{walked-rows, unwalked-rows}
+use Rattle.type_check.specs.declared.TypedPlan.{TypedPlan}
+use Rattle.type_check.specs.declared.Typing.the-variants as typing
 use Rattle.translate.specs.declared.Made.{Made}
 use Rattle.translate.specs.declared.Made.the-variants.{Refused}
 use Rattle.translate.specs.Entry.{madeRows, makePlan, afterCheck, lentTable, RowsInto}
@@ -63,11 +64,6 @@ into-as {v} {w} {R} {S} {ks} {ks′} {ns} {ns′} {r} e f I =
     subst (λ (T : List Row). RowsInto w T ks ns r ks′ ns′) f (subst (λ (x : Made). RowsInto x R ks ns r ks′ ns′) e I)
 
 -- ---- rows that stand at the front
-
-pub rows-again : (R : List Row) → rowsOf (kindsOf R) (numbersOf R) ≡ R
-unfolding rowsOf
-rows-again [] = refl
-rows-again (r ∷ R) = ap (λ (x : List Row). r ∷ x) (rows-again R)
 
 front : {A : Type 0} (l vs : List A) → length vs ≤ length l → take (length vs) (sets l 0 vs) ≡ vs
 front l vs h =
@@ -166,8 +162,8 @@ module _ (ks : List ℕ) (ns : List ℤ) (P : Plan) (S : PlanStands ks ns P) (si
     abbrev R : List Row
     R = madeRows P
 
-    judged : (v : Made) → v ≡ makePlan P → v ≡ afterCheck (answered (length ks) (checkPlan P)) (makePlan P)
-    judged v h = h ∙ ap (λ (x : Verdict). afterCheck (answered (length ks) x) (makePlan P)) (sym e)
+    limits : (v : Made) → v ≡ makePlan P → v ≡ afterCheck (answered (length ks) (checkPlan P)) (makePlan P)
+    limits v h = h ∙ ap (λ (x : Verdict). afterCheck (answered (length ks) x) (makePlan P)) (sym e)
 
     -- they fit, or the end is past the last row
     fits-end : length R ≤ 4096 → end ≡ length R
@@ -187,7 +183,7 @@ module _ (ks : List ℕ) (ns : List ℤ) (P : Plan) (S : PlanStands ks ns P) (si
         → RowsInto (afterCheck (answered (length ks) (checkPlan P)) (makePlan P)) R lk ln (Refused LoopsLength) lk ln
     loops-long lk ln h =
         refused-into _ R LoopsLength lk ln
-        (by-length (λ g. absurd (omega (arith, h, fits-end g))) (λ g. judged (Refused LoopsLength) (sym (plan-long P g))))
+        (by-length (λ g. absurd (omega (arith, h, fits-end g))) (λ g. limits (Refused LoopsLength) (sym (plan-long P g))))
 
     module _ (h : end ≤ 4096) where
       short : length R ≤ 4096
@@ -215,7 +211,7 @@ module _ (ks : List ℕ) (ns : List ℤ) (P : Plan) (S : PlanStands ks ns P) (si
           let l : length (take end k′) ≡ length R = ap length kinds-front ∙ length-map R (λ (x : Row). x .0) in
           let a : rowsOf (take end k′) (take end n′) ≡ R = ap₂ rowsOf kinds-front numbers-front ∙ rows-again R in
           into-as
-          (judged _ (ap₂ (λ (i : ℕ) (S : List Row). byCheck i (checkTable S)) l a ∙ writes-asked P t (plan-typed .0) (plan-typed .1) short)) a I
+          (limits _ (ap₂ (λ (i : ℕ) (S : List Row). byCheck i (checkTable S)) l a ∙ writes-asked P t (plan-typed .0) (plan-typed .1) short)) a I
 
 -- ---- rows
 

@@ -21,7 +21,7 @@ use Rattle.meaning.specs.Translation.{translation}
 use Rattle.syntax.specs.declared.Answer.{Answer}
 use Rattle.syntax.specs.declared.Answer.the-variants as check
 use Rattle.syntax.specs.Reading.{planOf}
-use Rattle.plans.specs.Entry.{checkText}
+use Rattle.typing.specs.Entry.{checkText}
 use Rattle.translate.specs.declared.Made.{Made}
 use Rattle.translate.specs.declared.Made.the-variants.{Rows, Refused}
 
@@ -53,7 +53,7 @@ planIn ws t = planOf (rowsIn (lookUp ws) (linesOf t))
 abbrev pub rowsMade : List (List ℕ) → List ℕ → List Row
 rowsMade ws t = madeRows (planIn ws t)
 
--- Questions 1 to 8 by the check of `plans`; then 10 and 11.
+-- Questions 1 to 8 by the check of `typing`; then 10 and 11.
 unfoldable pub makeText : List (List ℕ) → List ℕ → Made
 makeText ws t = afterCheck (checkText ws t) (makePlan (planIn ws t))
 

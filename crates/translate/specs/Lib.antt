@@ -1,12 +1,10 @@
--- The translation of a plan's text.
+-- The translation of a plan's text: document 01, questions 1 to 8 and 10 to 12.
 
 -- The definitions: what a reader has to believe
 pub mod Entry
--- Its questions as one list, in the order in which they are put
+pub mod Accepted
 pub mod Questions
 -- What the contracts of parts say besides
-pub mod Walk
-pub mod Steps
 pub mod Making
 -- Their laws, and what is proved
 pub mod Laws

@@ -14,7 +14,7 @@ use Rattle.type_table.specs.Columns.{Names, Noted}
 use Rattle.loops.specs.declared.Checked.{Checked}
 use Rattle.loops.specs.declared.Checked.the-variants as check
 use Rattle.loops.specs.declared.Checked.the-variants.{Passes}
-use Rattle.plans.specs.Typed.{PlanStands}
+use Rattle.type_check.specs.Typed.{PlanStands}
 use Rattle.translate.specs.declared.Made.{Made}
 use Rattle.translate.specs.declared.Made.the-variants.{Rows, Refused}
 

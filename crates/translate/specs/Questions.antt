@@ -9,8 +9,8 @@ use Rattle.refusals.specs.declared.Refusal.the-variants.{LoopsLength, WriteCoun
 use Rattle.lines.specs.Printing.{textOf}
 use Rattle.meaning.specs.Terms.{Plan}
 use Rattle.meaning.specs.Counts.{planWrites}
-use Rattle.plans.specs.Questions.{Question, question}
-use Rattle.plans.specs.EntryQuestions.{textQuestions}
+use Rattle.typing.specs.Questions.{Question, question}
+use Rattle.typing.specs.EntryQuestions.{textQuestions}
 use Rattle.translate.specs.Entry.{madeRows, planIn}
 
 -- "Do the made loops take at most 4,096 lines? 10", "At most 16,777,216 writes? 11"
@@ -18,7 +18,7 @@ abbrev pub madeQuestions : Plan → List Question
 madeQuestions P =
     question (leb (length (madeRows P)) 4096) LoopsLength ∷ question (leb (planWrites P) 16777216) WriteCount ∷ []
 
--- 1 to 8, by the check of `plans`, then 10 and 11
+-- 1 to 8, by the check of `typing`, then 10 and 11
 abbrev pub makeQuestions : List (List ℕ) → List ℕ → List Question
 makeQuestions ws t = textQuestions ws t ++ madeQuestions (planIn ws t)
 

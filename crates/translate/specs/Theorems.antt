@@ -1,11 +1,11 @@
 -- What is proved of the translator's entries, in one place. It rests on `makeText`, `RowsInto` and `TextInto` (Entry), which are what
--- `translate_rows` and `translate_text` promise for every input; on the list of questions in order (Questions); on `translation`,
--- `loopsRows`, `planWrites` and `need` of `meaning`, `checkText` of `plans` and of `loops`, and `linesOf` and `rowsIn` of `lines`. The proofs
--- stand in Laws.
+-- `translate_rows` and `translate_text` promise for every input; on the list of questions in order (Questions); on the plan of a text
+-- (Accepted); on `translation`, `loopsRows`, `planWrites` and `need` of `meaning`, `checkText` of `typing` and of `loops`, and `linesOf` and
+-- `rowsIn` of `lines`. The proofs stand in Laws.
 use mathlib.Core.Bool.{Bool, true, false, cond, _&&_}
-use mathlib.Core.Path.{_≡_, refl, sym, ap, ap₂, _∙_, subst}
-use mathlib.Core.List.{List, [], _∷_}
-use mathlib.Core.Logic.{_↔_, ⊎-elim}
+use mathlib.Core.Path.{_≡_, refl, sym, ap, _∙_, subst}
+use mathlib.Core.List.{List, []}
+use mathlib.Core.Logic.{_↔_}
 use Prim.Native.Nat.{ℕ, _≤_}
 use native.Mathlib.Omega.{arith}
 use borrow.Author.Tests.{le-leb, leb-true}
@@ -19,6 +19,7 @@ use Rattle.words.specs.Kinds.{Row, rowsOf}
 use Rattle.words.specs.Words.{words, lookUp}
 use Rattle.lines.specs.Reading.{linesOf, rowsIn, kindsOf, numbersOf}
 use Rattle.lines.specs.Printing.{textOf, printing}
+use Rattle.lines.specs.TableLaws.{rows-in-front}
 use Rattle.lines.specs.declared.Printing.{Printing}
 use Rattle.lines.specs.declared.Printing.the-variants as print
 use Rattle.meaning.specs.Terms.{Plan}
@@ -28,19 +29,21 @@ use Rattle.meaning.specs.Rows.{loopsRows}
 use Rattle.meaning.specs.Translation.{translation}
 use Rattle.syntax.specs.declared.Answer.{Answer}
 use Rattle.syntax.specs.declared.Answer.the-variants as check
-use Rattle.plans.specs.Entry.{checkText}
-use Rattle.plans.specs.Questions.{Question, ask, FirstNo}
-use Rattle.plans.specs.EntryQuestions.{textQuestions}
-use Rattle.plans.specs.Laws.Questions.{yes-or-no, all-asked, first-asked, ask-append, ask-through}
-use Rattle.plans.specs.Theorems.{text-first-no}
+use Rattle.typing.specs.Entry.{checkText}
+use Rattle.typing.specs.Questions.{Question, ask, FirstNo}
+use Rattle.typing.specs.EntryQuestions.{textQuestions}
+use Rattle.typing.specs.Laws.Questions.{ask-append, ask-through, refused-exactly}
+use Rattle.typing.specs.Theorems.{text-first-no}
 use Rattle.loops.specs.declared.Checked.the-variants.{Passes}
 use Rattle.loops.specs.Check as loops
+use Rattle.loops.specs.TextTheorems.{own-text-size, own-text-back, own-text-passes}
 use Rattle.translate.specs.declared.Made.{Made}
 use Rattle.translate.specs.declared.Made.the-variants.{Rows, Refused}
 use Rattle.translate.specs.Entry.{madeRows, makePlan, afterCheck, planIn, rowsMade, makeText, lentTable, lentText, RowsInto, TextInto}
+use Rattle.translate.specs.Accepted.{TextPlan}
 use Rattle.translate.specs.Questions.{madeQuestions, makeQuestions, tableQuestions, lentTextQuestions}
 use Rattle.translate.specs.Laws.Answers.{no-rows, text-made, text-count}
-use Rattle.translate.specs.Laws.Texts.{TextPlan, text-plan, text-short, text-back, text-checked}
+use Rattle.translate.specs.Laws.Texts.{text-plan}
 
 -- ---- demand 1: the first "no"
 
@@ -87,17 +90,6 @@ module _ (ws : List (List ℕ)) (t : List ℕ) where
       ∙ sym (ask-append print.Refused (makeQuestions ws t) _ (print.Bytes (length (textOf ws R))))
 
 -- So each number is given exactly on its condition.
-module _ {A : Type 0} (no′ : Refusal → A) (end : A) (one : (p q : Refusal) → no′ p ≡ no′ q → p ≡ q)
-    (other : (q : Refusal) → end ≡ no′ q → ⊥) where
-  refused-exactly : (qs : List Question) (q : Refusal) → (ask no′ qs end ≡ no′ q) ↔ FirstNo qs q
-  refused-exactly qs q = (
-    (λ e.
-        ⊎-elim (λ h. absurd (other q (sym (all-asked no′ qs end h) ∙ e)))
-        (λ f. subst (FirstNo qs) (one (f .0) q (sym (first-asked no′ qs end (f .0) (f .1)) ∙ e)) (f .1))
-        (yes-or-no qs)),
-    (λ f. first-asked no′ qs end q f),
-  )
-
 same-refusal : {p q : Refusal} → Refused p ≡ Refused q → p ≡ q
 same-refusal e = cc
 
@@ -148,11 +140,6 @@ lent-rows (Rows i) k n m e = go (leb i k && leb i n) e
     go false f = no-rows f
 lent-rows (Refused q) k n m e = no-rows e
 
-rows-again : (R : List Row) → rowsOf (kindsOf R) (numbersOf R) ≡ R
-unfolding rowsOf
-rows-again [] = refl
-rows-again (r ∷ R) = ap (λ (x : List Row). r ∷ x) (rows-again R)
-
 pub rows-put : (t kinds kinds′ : List ℕ) (numbers numbers′ : List ℤ) (n : ℕ) → RowsInto (makeText words t) (rowsMade words t) kinds numbers (Rows n) kinds′ numbers′
     → RowsMade t kinds kinds′ numbers numbers′ n (planIn words t)
 rows-put t kinds kinds′ numbers numbers′ n I =
@@ -164,9 +151,7 @@ rows-put t kinds kinds′ numbers numbers′ n I =
     let y : length (numbersOf S) ≡ n = length-map S (λ (r : Row). r .1) ∙ c .0 in
     record {
       plan = text-plan t (passed .0) (passed .1);
-      rows =
-          ap₂ rowsOf (ap (take n) (I .kinds-left) ∙ take-at (kindsOf S) _ n x) (ap (take n) (I .numbers-left) ∙ take-at (numbersOf S) _ n y)
-          ∙ rows-again S;
+      rows = rows-in-front true S n kinds kinds′ numbers numbers′ refl (c .0) (I .kinds-left) (I .numbers-left);
       count = sym (c .0);
       few = c .1;
       writes = c .2;
@@ -206,15 +191,15 @@ text-put t text text′ n I = go (makeText words t) refl (I .answer)
         let c = text-count words t m f in
         let passed = text-made words t m f .0 in
         let p = text-plan t (passed .0) (passed .1) in
-        let short = text-short Q (p .type) (p .well-typed) (p .within) (p .numbers) in
+        let short = own-text-size Q (p .type) (p .well-typed) (p .within) (p .numbers) in
         let l = count e in
         let front : take n text′ ≡ S = ap (take n) (I .text-left) ∙ take-at S _ n l in
         record {
           plan = p;
-          rows = ap (λ (u : List ℕ). rowsIn (lookUp words) (linesOf u)) front ∙ text-back Q (p .type) (p .well-typed) (p .within) (p .numbers);
+          rows = ap (λ (u : List ℕ). rowsIn (lookUp words) (linesOf u)) front ∙ own-text-back Q (p .type) (p .well-typed) (p .within) (p .numbers);
           passes =
               ap (loops.checkText words) front
-              ∙ text-checked Q (p .type) (p .well-typed) (p .within) (p .numbers) (omega (arith, c .0, c .1)) (c .2);
+              ∙ own-text-passes Q (p .type) (p .well-typed) (p .within) (p .numbers) (omega (arith, c .0, c .1)) (c .2);
           few = omega (arith, l, short, c .0, c .1);
           behind = ap (drop n) (I .text-left) ∙ drop-at S _ n l ∙ ap (λ (i : ℕ). drop i text) l;
         }
@@ -253,5 +238,5 @@ room-for-all t bytes q h e = go (makeText words t) refl e
         let c = text-count words t m f in
         let passed = text-made words t m f .0 in
         let p = text-plan t (passed .0) (passed .1) in
-        let short = text-short Q (p .type) (p .well-typed) (p .within) (p .numbers) in
+        let short = own-text-size Q (p .type) (p .well-typed) (p .within) (p .numbers) in
         printed-refused (sym (ap (λ (b : Bool). cond b (print.Bytes (length S)) (print.Refused LentSize)) (le-leb (length S) bytes (omega (arith, h, short, c .0, c .1)))) ∙ e)

@@ -6,12 +6,8 @@ use lines::Printing;
 use lines::Reading;
 use refusals::Refusal;
 
-mod bodies;
 mod making;
-mod parts;
-mod steps;
 mod tables;
-mod walk;
 
 // How many rows the loops have that were made from a plan; or the first "no".
 pub enum Made {

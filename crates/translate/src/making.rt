@@ -12,23 +12,23 @@ ghost use Rattle.syntax.specs.Reading.{planOf};
 ghost use Rattle.type_table.specs.Table.{typeAt, Sound};
 ghost use Rattle.emission.specs.Table.{table, putRow, putRows};
 ghost use Rattle.loops.specs.Check.{checkTable};
-ghost use Rattle.plans.specs.Check.{checkPlan};
-ghost use Rattle.plans.specs.Entry.{answered, checkRows};
-ghost use Rattle.plans.specs.Typed.{PlanStands};
+ghost use Rattle.typing.specs.Check.{checkPlan};
+ghost use Rattle.typing.specs.Entry.{answered, checkRows};
+ghost use Rattle.type_check.specs.Typed.{PlanStands};
 ghost use Rattle.translate.specs.Entry.{madeRows, makePlan, afterCheck, RowsInto};
 ghost use Rattle.translate.specs.Making.{cellsAt, PlanNoted, SomePlanNoted, byCheck};
 use crate::Made;
 use crate::tables;
-use crate::walk;
-use crate::walk::State;
 use emission::references;
 use emission::rows::MOST_ROWS;
 use emission::rows::put_count;
 use loops::Checked;
-use plans::Typing;
 use refusals::Refusal;
+use steps::State;
 use syntax::Answer;
 use syntax::ranges;
+use type_check::Typing;
+use walk::writes;
 use words::kinds::*;
 
 // Node 0 stands for nothing; node 1 is the output.
@@ -106,7 +106,7 @@ fn put_loops(
         len: OUTPUT + 1,
         to,
     };
-    let written = walk::write_term(
+    let written = writes::write_term(
         &kinds[row..],
         &numbers[row..],
         &column[row..],
@@ -165,7 +165,7 @@ fn make_plan(kinds: &[u8], numbers: &[i32], lentkinds: &mut [u8], lentnumbers: &
 {
     let mut nodes = [0u64; 512];
     let mut column = [0u16; 256];
-    let plan = plans::type_plan(kinds, numbers, &mut nodes, &mut column);
+    let plan = type_check::type_plan(kinds, numbers, &mut nodes, &mut column);
     let typing = plan.typing;
     let Typing::Typed {
         place,

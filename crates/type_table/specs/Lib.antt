@@ -1,4 +1,8 @@
+-- A table in which a type is named by its place: document 01, 'Lines', the types. No contract of an entry rests on it.
+
+-- What the contracts of parts say
 pub mod Nodes
 pub mod Table
 pub mod Columns
+-- Their laws
 pub mod Laws

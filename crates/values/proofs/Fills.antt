@@ -1,19 +1,20 @@
 -- What `fill` knows at each way out. Assumes nothing.
-use mathlib.Core.Path.{_≡_, refl, sym, ap, ap₂, _∙_}
+use mathlib.Core.Path.{_≡_, refl, sym, ap, _∙_}
 use mathlib.Core.Bool.{Bool, true, false, cond}
-use mathlib.Core.List.{List, [], _∷_, map}
+use mathlib.Core.List.{List, [], map}
 use Prim.Native.Nat.{ℕ, _≤_, _<_}
 use native.Mathlib.Omega.{arith}
 use borrow.Author.Tests.{le-leb, lt-leb}
 use lib.Dec.{leb}
 use lib.IntN.{ℤ}
-use lib.ListN.{length, take, drop, length-map}
-use lib.Seq.{take-at, length-take-le}
+use lib.ListN.{length, take, length-map}
+use lib.Seq.{length-take-le}
 use Rattle.refusals.specs.declared.Refusal.{Refusal}
 use Rattle.refusals.specs.declared.Refusal.the-variants.{StoreSize, ValueLines}
 use Rattle.words.specs.Kinds.{Row, rowsOf}
-use Rattle.lines.specs.Reading.{headOf, reading, valuesLimits, roomFor, kindsOf, numbersOf, filled, ReadInto}
+use Rattle.lines.specs.Reading.{headOf, reading, valuesLimits, roomFor, kindsOf, filled, ReadInto}
 use Rattle.lines.specs.Laws.{rows-read}
+use Rattle.lines.specs.TableLaws.{in-front, rows-in-front}
 use Rattle.lines.specs.declared.Heads.the-variants.{Cells}
 use Rattle.lines.specs.declared.Reading.{Reading}
 use Rattle.lines.specs.declared.Reading.the-variants.{Rows, Refused}
@@ -23,16 +24,6 @@ use Rattle.values.specs.Steps.{stored}
 use Rattle.values.specs.Laws.{test-says}
 use Rattle.values.proofs.Sizes.{few-rows}
 use Rattle.values.proofs.Stored.{values-stored}
-
-rows-again : (rs : List Row) → rowsOf (kindsOf rs) (numbersOf rs) ≡ rs
-unfolding rowsOf
-rows-again [] = refl
-rows-again (r ∷ rs) = ap (λ (x : List Row). r ∷ x) (rows-again rs)
-
--- the front of a column that was lent with room for it
-front : {A : Type 0} {b : Bool} (put lent : List A) {left : List A} {m : ℕ} → b ≡ true → length put ≡ m → left ≡ filled b put lent → take m left ≡ put
-front put lent {m = m} h l e =
-    ap (take m) (e ∙ ap (λ (x : Bool). filled x put lent) h) ∙ take-at put (drop (length put) lent) m l
 
 module _ (ws : List (List ℕ)) (t : List ℕ) {r : Reading} (cells : List ℕ) (values : List ℤ) {cells′ : List ℕ} {values′ : List ℤ}
     (read : ReadInto (headOf ws Cells) valuesLimits t cells values r cells′ values′) where
@@ -87,10 +78,12 @@ module _ (ws : List (List ℕ)) (t : List ℕ) {r : Reading} (cells : List ℕ) 
         count = rows-read (headOf ws Cells) valuesLimits t m (read-so is)
 
         cells-read : take m cells′ ≡ kindsOf R
-        cells-read = front (kindsOf R) cells had-room (length-map R (λ (x : Row). x .0) ∙ count) (read .kinds-left)
+        cells-read =
+            in-front (roomFor r (length cells) (length values)) (kindsOf R) cells cells′ m had-room (length-map R (λ (x : Row). x .0) ∙ count) (read .kinds-left)
 
-        values-read : take m values′ ≡ numbersOf R
-        values-read = front (numbersOf R) values had-room (length-map R (λ (x : Row). x .1) ∙ count) (read .numbers-left)
+        rows-put : rowsOf (take m cells′) (take m values′) ≡ R
+        rows-put =
+            rows-in-front (roomFor r (length cells) (length values)) R m cells cells′ values values′ had-room count (read .kinds-left) (read .numbers-left)
 
         tested : {b : Bool} → b ≡ oneLineEach n (take m cells′) → by-lines b ≡ filling ws t n (length store)
         tested e = ap by-lines (e ∙ ap (oneLineEach n) cells-read) ∙ by-store (sym (le-leb n (length store) room))
@@ -105,6 +98,6 @@ module _ (ws : List (List ℕ)) (t : List ℕ) {r : Reading} (cells : List ℕ) 
               record {
                 answer = tested (sym e ∙ test);
                 store-left = put
-                    ∙ ap (λ (rs : List Row). stored rs store) (ap₂ rowsOf cells-read values-read ∙ rows-again R)
+                    ∙ ap (λ (rs : List Row). stored rs store) rows-put
                     ∙ values-stored R store n (test-says n (kindsOf R) (sym (sym e ∙ test ∙ ap (oneLineEach n) cells-read))) room;
               }

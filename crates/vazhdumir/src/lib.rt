@@ -2,7 +2,7 @@
 ghost use mathlib.Core.Path.{_≡_};
 ghost use Prim.Native.Nat.{ℕ};
 ghost use Rattle.words.specs.Words.{words};
-ghost use Rattle.plans.specs.Entry.{checkText as checkPlanText};
+ghost use Rattle.typing.specs.Entry.{checkText as checkPlanText};
 ghost use Rattle.loops.specs.Check.{checkText, needOf};
 ghost use Rattle.words.specs.Kinds.{rowsOf};
 ghost use Rattle.store.specs.Cells.{cellsOf};

@@ -10,73 +10,41 @@ use Rattle.meaning.specs.Types.{DataType, number, array, levels}
 use Rattle.meaning.specs.Loops.{Offset}
 use Rattle.meaning.specs.Paths.{Path}
 use Rattle.meaning.specs.Expressions.{Expression, Acceptor}
-use Rattle.meaning.specs.Translation.{assign, noExpression}
+use Rattle.meaning.specs.Translation.{assign}
 use Rattle.meaning.specs.Rows.{commandRows}
 use Rattle.meaning.specs.Limits.{TypeWithin}
 use Rattle.type_table.specs.Table.{typeAt, Sound}
 use Rattle.type_table.specs.Laws.{length-within}
-use Rattle.emission.specs.Nodes.{nodeOf, kindIn, numberIn, leftIn, rightIn}
 use Rattle.emission.specs.Table.{Table, putRow, putRows}
 use Rattle.emission.specs.Changes.{changeOf, pathOf}
-use Rattle.emission.specs.References.{nodeAt, classOf, rearranged, expressionBy, expressionOver, expressionAt, noAcceptor, written, acceptorBy, acceptorOver, acceptorAt}
+use Rattle.emission.specs.References.{classOf, rearranged, expressionAt, written, acceptorAt}
 use Rattle.emission.specs.Laws.Table.{put-append}
-use Rattle.emission.specs.Laws.Nodes.{kind-node, number-node, left-node, right-node}
-use Rattle.emission.specs.Laws.Growth.{Grown, Pushed, grown-more, node-kept, node-pushed}
+use Rattle.emission.specs.Growth.{Grown, BothPushed}
+use Rattle.emission.specs.Laws.Growth.{grown-more}
+use Rattle.emission.specs.Laws.Readings.{readBy, writeBy, pushed-reads, pushed-writes, reads-on, writes-on}
 use Rattle.emission.specs.Laws.Values.{valueAt}
 use Rattle.emission.specs.Laws.Places.{placeAt}
 use Rattle.emission.specs.declared.references.Class.{Class}
 use Rattle.emission.specs.declared.references.Class.the-variants.{Rearranged}
-
--- two nodes of one kind: over v, and then over q
-pub record BothPushed (T U : List ℕ) (len k n v q : ℕ) : Type 0 where
-  pub between : List ℕ
-  pub over-value : Pushed T between len (nodeOf k 0 n v 0)
-  pub over-target : Pushed between U (len + 1) (nodeOf k 0 n q 0)
 
 module _ (T U : List ℕ) (len k n v q : ℕ) (B : BothPushed T U len k n v q) where
   pub both-grown : Grown T U len
   both-grown = grown-more T (B .between) U len (len + 1) (omega arith) (B .over-value .grown) (B .over-target .grown)
 
   module _ (hl : len + 1 < 4096) (hn : n < 65536) (hv : v < len) (hq : q < len) where
-    -- what a node is made of, by its fields
-    module _ {A : Type 0} (nothing : A) (make : ℕ → A → A → A) where
-      value-node : nodeAt nothing make U len ≡ make (nodeOf k 0 n v 0) (nodeAt nothing make T v) (nodeAt nothing make T 0)
-      value-node =
-          let w : ℕ = nodeOf k 0 n v 0 in
-          let el : leftIn w ≡ v = left-node k 0 n v 0 (omega arith) hn (omega arith) (omega arith) in
-          let er : rightIn w ≡ 0 = right-node k 0 n v 0 (omega arith) hn (omega arith) (omega arith) in
-          node-kept nothing make (B .between) U (len + 1) len (omega arith) (B .over-target .grown)
-          ∙ node-pushed nothing make T (B .between) len w (B .over-value) (omega (arith, el)) (omega (arith, er))
-          ∙ ap₂ (λ (i j : ℕ). make w (nodeAt nothing make T i) (nodeAt nothing make T j)) el er
-
-      target-node : nodeAt nothing make U (len + 1) ≡ make (nodeOf k 0 n q 0) (nodeAt nothing make T q) (nodeAt nothing make T 0)
-      target-node =
-          let w : ℕ = nodeOf k 0 n q 0 in
-          let el : leftIn w ≡ q = left-node k 0 n q 0 (omega arith) hn (omega arith) (omega arith) in
-          let er : rightIn w ≡ 0 = right-node k 0 n q 0 (omega arith) hn (omega arith) (omega arith) in
-          node-pushed nothing make (B .between) U (len + 1) w (B .over-target) (omega (arith, el)) (omega (arith, er))
-          ∙ ap₂ (λ (i j : ℕ). make w (nodeAt nothing make (B .between) i) (nodeAt nothing make (B .between) j)) el er
-          ∙ ap₂ (make w) (node-kept nothing make T (B .between) len q hq (B .over-value .grown)) (node-kept nothing make T (B .between) len 0 (omega arith) (B .over-value .grown))
-
     -- a step from what is read, and from where it is written
     pub step-read : (Y : List ℕ) (N : List ℤ) → classOf k ≡ Rearranged
         → expressionAt Y N U len ≡ rearranged (changeOf k) n (expressionAt Y N T v) (expressionAt Y N T 0)
     step-read Y N e =
-        let w : ℕ = nodeOf k 0 n v 0 in
-        let ek : kindIn w ≡ k = kind-node k 0 n v 0 (omega arith) hn (omega arith) (omega arith) in
-        let en : numberIn w ≡ n = number-node k 0 n v 0 (omega arith) hn (omega arith) (omega arith) in
-        value-node noExpression (expressionOver Y N)
-        ∙ ap (λ (y : Class). expressionBy y Y N w (expressionAt Y N T v) (expressionAt Y N T 0)) (ap classOf ek ∙ e)
-        ∙ ap₂ (λ (y z : ℕ). rearranged (changeOf y) z (expressionAt Y N T v) (expressionAt Y N T 0)) ek en
+        reads-on (B .between) U (len + 1) len (omega arith) (B .over-target .grown) Y N
+        ∙ pushed-reads T (B .between) len k 0 n v 0 (B .over-value) (omega arith) (omega arith) hn hv (omega arith) Y N
+        ∙ ap (λ (y : Class). readBy y Y N k 0 n (expressionAt Y N T v) (expressionAt Y N T 0)) e
 
     pub step-written : (Y : List ℕ) → classOf k ≡ Rearranged → acceptorAt Y U (len + 1) ≡ written (changeOf k) n (acceptorAt Y T q)
     step-written Y e =
-        let w : ℕ = nodeOf k 0 n q 0 in
-        let ek : kindIn w ≡ k = kind-node k 0 n q 0 (omega arith) hn (omega arith) (omega arith) in
-        let en : numberIn w ≡ n = number-node k 0 n q 0 (omega arith) hn (omega arith) (omega arith) in
-        target-node noAcceptor (acceptorOver Y)
-        ∙ ap (λ (y : Class). acceptorBy y Y w (acceptorAt Y T q)) (ap classOf ek ∙ e)
-        ∙ ap₂ (λ (y z : ℕ). written (changeOf y) z (acceptorAt Y T q)) ek en
+        pushed-writes (B .between) U (len + 1) k 0 n q 0 (B .over-target) hl (omega arith) hn (omega arith) (omega arith) Y
+        ∙ ap (λ (y : Class). writeBy y Y k 0 n (acceptorAt Y (B .between) q)) e
+        ∙ ap (written (changeOf k) n) (writes-on T (B .between) len q hq (B .over-value .grown) Y)
 
 -- no change makes no path
 pub no-changes : (C : List ℕ) → pathOf C 0 ≡ []
@@ -148,8 +116,8 @@ module _ (Y : List ℕ) (N : List ℤ) (T : List ℕ) (t v q c r : ℕ) (o o′ 
         ∙ ap (putRows (assignRows (typeAt Y a) (Expression.first E) (Acceptor.first P) c r)) p in
         m
         ∙ ap₂ (λ (F : Expression) (Q : Acceptor). putRows (assignRows (typeAt Y b) F Q c r) o₂)
-        (step-read W X len word-snd 0 v q D hl (omega arith) hv hq Y N refl ∙ ap Expression.second (node-kept noExpression (expressionOver Y N) T W len v hv G))
-        (step-written W X len word-snd 0 v q D hl (omega arith) hv hq Y refl ∙ ap Acceptor.second (node-kept noAcceptor (acceptorOver Y) T W len q hq G))
+        (step-read W X len word-snd 0 v q D hl (omega arith) hv hq Y N refl ∙ ap Expression.second (reads-on T W len v hv G Y N))
+        (step-written W X len word-snd 0 v q D hl (omega arith) hv hq Y refl ∙ ap Acceptor.second (writes-on T W len q hq G Y))
         ∙ ap (putRows (assignRows (typeAt Y b) (Expression.second E) (Acceptor.second P) c r)) first
         ∙ sym (put-append (assignRows (typeAt Y a) (Expression.first E) (Acceptor.first P) c r) (assignRows (typeAt Y b) (Expression.second E) (Acceptor.second P) c r) (putRow o (word-seq, pos 0)))
         ∙ sym (ap (λ (u : DataType). putRows (assignRows u E P c r) o) is)

@@ -3,16 +3,12 @@ use mathlib.Core.Path.{_≡_, refl, ap, ap₂, sym, _∙_}
 use mathlib.Core.List.{List}
 use Prim.Native.Nat.{ℕ, _<_, _≤_}
 use native.Mathlib.Omega.{arith}
-use lib.ListN.{getD, length, set, take, length-set}
+use lib.ListN.{length, set, take, length-set}
 use lib.Seq.{take-take, take-set-le, getD-set-same}
 use Rattle.emission.specs.Nodes.{leftIn, rightIn}
 use Rattle.emission.specs.References.{nodeAt}
+use Rattle.emission.specs.Growth.{Grown, Pushed}
 use Rattle.emission.specs.Laws.Nodes.{node-made, node-agrees}
-
--- U is T up to node len
-pub record Grown (T U : List ℕ) (len : ℕ) : Type 0 where
-  pub same : take len U ≡ take len T
-  pub size : length U ≡ 4096
 
 pub grown-none : (T : List ℕ) (len : ℕ) → length T ≡ 4096 → Grown T T len
 grown-none T len h = record { same = refl; size = h }
@@ -22,11 +18,6 @@ grown-more T U W m n h p q = record {
   same = sym (take-take m n W h) ∙ ap (take m) (q .same) ∙ take-take m n U h ∙ p .same;
   size = q .size;
 }
-
--- U is T up to node len, which is w
-pub record Pushed (T U : List ℕ) (len w : ℕ) : Type 0 where
-  pub grown : Grown T U len
-  pub node : getD U len 0 ≡ w
 
 pub pushed : (T U : List ℕ) (len w w′ : ℕ) → len < 4096 → length T ≡ 4096 → w ≡ w′ → U ≡ set T len w → Pushed T U len w′
 pushed T U len w w′ h s e u =

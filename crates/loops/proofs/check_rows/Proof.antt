@@ -2,7 +2,7 @@
 use mathlib.Core.Path.{sym, _∙_}
 use borrow.Author.Needs.{needs}
 use Rattle.words.specs.Kinds.{rowsOf}
-use Rattle.loops.proofs.Judged as judged
+use Rattle.loops.proofs.Limits as limits
 use Rattle.loops.proofs.check_rows.Statement.{statement}
 use Rattle.loops.proofs.check_rows.Tie as tie
 
@@ -29,17 +29,17 @@ returns-2 c =
     let a = c .before .before .before .before .before .before .before .before .args in
     let walk-loops = c .before .before .before .before .before .before .walk-loops in
     let walked = c .before .before .before .before .walked in
-    judged.rows-refused (rowsOf (a .kinds .now) (a .numbers .now)) _ (sym (walk-loops .ensures) ∙ walked .given .1 ∙ c .before .walked2 .given .1)
+    limits.rows-refused (rowsOf (a .kinds .now) (a .numbers .now)) _ (sym (walk-loops .ensures) ∙ walked .given .1 ∙ c .before .walked2 .given .1)
 
-judge-requires : tie.Need-judge-requires
-judge-requires c κs = search needs
+check-limits-requires : tie.Need-check-limits-requires
+check-limits-requires c κs = search needs
 
 returns-3 : tie.Need-returns-3
 returns-3 c =
     let a = c .before .before .before .before .before .args in
     let walk-loops = c .before .before .before .walk-loops in
-    judged.rows-judged (rowsOf (a .kinds .now) (a .numbers .now)) _ (c .judge .result)
-    (sym (walk-loops .ensures) ∙ c .before .enum-told .given .1) (c .judge .ensures)
+    limits.rows-limits (rowsOf (a .kinds .now) (a .numbers .now)) _ (c .check-limits .result)
+    (sym (walk-loops .ensures) ∙ c .before .enum-told .given .1) (c .check-limits .ensures)
 
 pub check-rows-spec : {M : Type 1} → statement M
 check-rows-spec =
@@ -52,5 +52,5 @@ check-rows-spec =
     enum-told-2
     returns
     returns-2
-    judge-requires
+    check-limits-requires
     returns-3)

@@ -11,8 +11,8 @@ use Rattle.meaning.specs.Loops.{Place, Value, Command, Loops, seq, loop, new, O
 use Rattle.meaning.specs.Runs.{entry}
 use Rattle.meaning.specs.Limits.{IsCount, counterBound, ValuePasses, PlacePasses, CommandPasses, LoopsPass, OffsetPasses}
 use Rattle.syntax.specs.InRange.{OffsetInRange, PlaceInRange, ValueInRange, CommandInRange, AllCounts, LoopsInRange}
-use Rattle.loops.specs.Bounds.{firstNo, askValue, askPlace, askSet, askCommand, askBounds}
-use Rattle.loops.specs.Laws.Offsets.{offset-fits, offset-asked, some-none}
+use Rattle.bounds.specs.Bounds.{firstNo, askValue, askPlace, askSet, askCommand, askBounds}
+use Rattle.bounds.specs.Laws.{offset-fits, offset-asked, some-none}
 
 none-first : (a b : Option Refusal) → firstNo a b ≡ none → (a ≡ none) × (b ≡ none)
 none-first none b e = (refl, e)

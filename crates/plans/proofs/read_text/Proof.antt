@@ -4,6 +4,7 @@ use native.Mathlib.Omega.{arith}
 use lib.ListN.{length}
 use borrow.Author.Needs.{needs}
 use Rattle.words.specs.Words.{words}
+use Rattle.lines.specs.TableLaws as table
 use Rattle.plans.proofs.Texts as texts
 use Rattle.plans.proofs.read_text.Statement.{statement}
 use Rattle.plans.proofs.read_text.Tie as tie
@@ -70,7 +71,7 @@ returns-4 c =
     let read-plan = c .before .before .before .before .before .before .before .read-plan in
     let read = c .before .before .read in
     texts.put-short words (a .text .now) (check-text .result) (check-text .ensures) _ (enum-told .given .1) _ _ _ _ (read-plan .result) (read-plan .ensures) (read .given .0 .0) (read .given .1)
-    (texts.short-kinds (read .given .0 .0) (length (a .kinds .now)) (length (a .numbers .now)) (omega arith))
+    (table.short-kinds (read .given .0 .0) (length (a .kinds .now)) (length (a .numbers .now)) (omega arith))
 
 same-length-5 : tie.Need-same-length-5
 same-length-5 c = search needs
@@ -86,7 +87,7 @@ returns-5 c =
     let read-plan = c .before .before .before .before .before .before .before .before .read-plan in
     let read = c .before .before .before .read in
     texts.put-short words (a .text .now) (check-text .result) (check-text .ensures) _ (enum-told .given .1) _ _ _ _ (read-plan .result) (read-plan .ensures) (read .given .0 .0) (read .given .1)
-    (texts.short-numbers (read .given .0 .0) (length (a .kinds .now)) (length (a .numbers .now)) (omega arith))
+    (table.short-numbers (read .given .0 .0) (length (a .kinds .now)) (length (a .numbers .now)) (omega arith))
 
 same-length-7 : tie.Need-same-length-7
 same-length-7 c = search needs
@@ -102,7 +103,7 @@ returns-6 c =
     let read-plan = c .before .before .before .before .before .before .before .before .read-plan in
     let read = c .before .before .before .read in
     texts.put-all words (a .text .now) (check-text .result) (check-text .ensures) _ (enum-told .given .1) _ _ _ _ (read-plan .result) (read-plan .ensures) (read .given .0 .0) (read .given .1)
-    (texts.room-for (read .given .0 .0) (length (a .kinds .now)) (length (a .numbers .now)) (omega arith) (omega arith))
+    (table.room-for (read .given .0 .0) (length (a .kinds .now)) (length (a .numbers .now)) (omega arith) (omega arith))
 
 pub read-text-spec : {M : Type 1} → statement M
 read-text-spec =

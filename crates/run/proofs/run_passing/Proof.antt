@@ -41,7 +41,8 @@ returns-3 : tie.Need-returns-3
 returns-3 c =
     let run-loops = c .before .before .before .run-loops in
     let a = c .before .before .before .before .before .before .before .before .before .before .before .before .before .args in
-    (run-loops .ensures .0, λ w e. entries.run-finished (loopsOf (rowsOf (a .kinds .now) (a .numbers .now))) (a .need) (a .order) (storeOf (a .cells .now) (a .bytes .now)) (c .before .before .before .before .before .before .before .before .before .before .if1 .left) (omega (arith, c .before .before .before .before .before .before .before .count .ensures, c .before .before .before .before .before .before .if2 .left)) (run-loops .result) (storeOf (run-loops .last .1 .1 .1 .0) (run-loops .last .1 .1 .1 .1 .0)) (entries.passing-loops (a .kinds .now) (a .numbers .now) (a .order) w (a .need) (run-loops .result) (storeOf (a .cells .now) (a .bytes .now)) (storeOf (run-loops .last .1 .1 .1 .0) (run-loops .last .1 .1 .1 .1 .0)) (c .before .before .before .before .before .before .before .before .before .before .before .before .before .pre .1) e (run-loops .ensures .1)))
+    let pre = c .before .before .before .before .before .before .before .before .before .before .before .before .before .pre in
+    (run-loops .ensures .0, λ w e. entries.run-finished (loopsOf (rowsOf (a .kinds .now) (a .numbers .now))) (a .need) (a .order) (storeOf (a .cells .now) (a .bytes .now)) (c .before .before .before .before .before .before .before .before .before .before .if1 .left) (omega (arith, c .before .before .before .before .before .before .before .count .ensures, c .before .before .before .before .before .before .if2 .left)) (run-loops .result) (storeOf (run-loops .last .1 .1 .1 .0) (run-loops .last .1 .1 .1 .1 .0)) (entries.passing-loops (a .kinds .now) (a .numbers .now) (a .order) w (a .need) (run-loops .result) (storeOf (a .cells .now) (a .bytes .now)) (storeOf (run-loops .last .1 .1 .1 .0) (run-loops .last .1 .1 .1 .1 .0)) e (run-loops .ensures .1 (pre .0) (pre .1))))
 
 pub run-passing-spec : {M : Type 1} → statement M
 run-passing-spec =

@@ -21,7 +21,7 @@ use Rattle.meaning.specs.Translation.{translation}
 use Rattle.meaning.specs.Theorems.{own-loops-pass, own-writes}
 use Rattle.syntax.specs.declared.Answer.{Answer}
 use Rattle.syntax.specs.declared.Answer.the-variants as check
-use Rattle.plans.specs.Entry.{checkText}
+use Rattle.typing.specs.Entry.{checkText}
 use Rattle.loops.specs.declared.Checked.the-variants.{Passes, Refused as NoPass}
 use Rattle.loops.specs.Check.{askWrites, unless, checkLoops, checkTable}
 use Rattle.loops.specs.Laws.Passing.{pass-loops}

@@ -7,13 +7,13 @@ use lib.IntN.{pos}
 use borrow.Author.Needs.{needs}
 use Rattle.words.specs.Kinds as kinds
 use Rattle.words.specs.Kinds.{rowsOf}
-use Rattle.loops.specs.Rows as parts
+use Rattle.loops.specs.Needs as needed
 use Rattle.loops.proofs.Sums as sums
 use Rattle.loops.proofs.cells.need.Statement.{statement}
 use Rattle.loops.proofs.cells.need.Tie as tie
 
 abbrev Inv-loop : tie.InvT-loop
-Inv-loop kinds numbers sum₀ i₀ sum i = (i ≤ length kinds) × (sum ≤ 2147483648 * i) × (sum + parts.cellsIn (sums.rowsFrom kinds numbers i) ≡ parts.cellsIn (rowsOf kinds numbers))
+Inv-loop kinds numbers sum₀ i₀ sum i = (i ≤ length kinds) × (sum ≤ 2147483648 * i) × (sum + needed.cellsIn (sums.rowsFrom kinds numbers i) ≡ needed.cellsIn (rowsOf kinds numbers))
 
 abbrev μ-loop : tie.MeasureT-loop
 μ-loop kinds numbers sum₀ i₀ sum i = length kinds - i
@@ -48,7 +48,7 @@ loop-again c =
     let turn = c .before .before .before .before .loop in (
       omega arith,
       omega (arith, c .row-cells .ensures .1),
-      ap (λ (x : ℕ). turn .sum + x + parts.cellsIn (sums.rowsFrom (a .kinds .now) (a .numbers .now) (turn .i + 1)))
+      ap (λ (x : ℕ). turn .sum + x + needed.cellsIn (sums.rowsFrom (a .kinds .now) (a .numbers .now) (turn .i + 1)))
           (sums.row-read (getD (a .kinds .now) (turn .i) 0) (getD (a .numbers .now) (turn .i) (pos 0)) (record { sfits = c .before .row-cells-arg .given }) (c .row-cells .ensures .0))
           ∙ sums.sum-again (a .kinds .now) (a .numbers .now) (turn .i) (turn .sum)
           (c .before .before .before .loop-test .taken)

@@ -5,7 +5,7 @@ use Prim.Native.Nat.{ℕ, _<_}
 use borrow.Fn.Kinds.{In}
 use borrow.Fn.PlainCycle.{Measures, is, falls, and}
 use lib.ListN.{length}
-use Rattle.syntax.proofs.Standing.{part-length}
+use Rattle.syntax.proofs.Front.{part-length}
 use Rattle.translate.proofs.Head.{cells-none, cells-more, places-behind}
 use Rattle.translate.proofs.making.put_inputs.Reads as put-inputs
 use Rattle.translate.proofs.making.put_inputs.Kinds as put-inputs-kinds

@@ -1,0 +1,5 @@
+pub mod Inputs
+pub mod Readings
+pub mod Sets
+pub mod Commands
+pub mod WholeLoops

@@ -1,0 +1,142 @@
+-- `bound_check::ask_loops` meets its contract: the parts of a table that holds the rows of loops lie where LoopsTable says.
+use mathlib.Core.Path.{_≡_, refl}
+use native.Mathlib.Omega.{arith}
+use Prim.Native.Nat.{_+_, _-_}
+use lib.ListN.{length, getD}
+use lib.IntN.{pos}
+use borrow.Author.Needs.{needs}
+use Rattle.syntax.proofs.Numbers.{natural-of}
+use Rattle.syntax.proofs.LoopsTable as table
+use Rattle.bound_check.proofs.WholeLoops as whole
+use Rattle.bound_check.proofs.ask_loops.Statement.{statement}
+use Rattle.bound_check.proofs.ask_loops.Tie as tie
+
+returns : tie.Need-returns
+returns c =
+    let a = c .before .before .args in
+    λ L e h. absurd
+    (table.table-filled (a .kinds .now) (a .numbers .now) (c .before .before .pre .0) L e (c .if1 .taken))
+
+shared-slice-copy-out-natural : tie.Need-shared-slice-copy-out-natural
+shared-slice-copy-out-natural c = search needs
+
+natural-requires : tie.Need-natural-requires
+natural-requires c κs = search needs
+
+add-if2 : tie.Need-add-if2
+add-if2 c = search needs
+
+returns-2 : tie.Need-returns-2
+returns-2 c =
+    let a = c .before .before .before .before .before .args in
+    let pre = c .before .before .before .before .before .pre in
+    let natural = c .before .natural in
+    λ L e h. let k : natural .result ≡ length (L .inputs) = table.inputs-counted (a .kinds .now)
+    (a .numbers .now) (pre .0) L e
+    (natural-of (getD (a .numbers .now) 0 (pos 0)) (record { sfits = c .before .before .natural-arg .given }) (natural .ensures .0))
+    in absurd (omega (arith, table.table-long (a .kinds .now) (a .numbers .now) (pre .0) L e, c .if2 .taken, k))
+
+add-end : tie.Need-add-end
+add-end c = search needs
+
+mul-natural : tie.Need-mul-natural
+mul-natural c = search needs
+
+shared-slice-copy-out-natural-2 : tie.Need-shared-slice-copy-out-natural-2
+shared-slice-copy-out-natural-2 c = search needs
+
+natural-requires-2 : tie.Need-natural-requires-2
+natural-requires-2 c κs = search needs
+
+add-first : tie.Need-add-first
+add-first c = search needs
+
+sub-ask-command : tie.Need-sub-ask-command
+sub-ask-command c = search needs
+
+part-ask-command-start : tie.Need-part-ask-command-start
+part-ask-command-start c = search needs
+
+part-ask-command-end : tie.Need-part-ask-command-end
+part-ask-command-end c = search needs
+
+mul-ask-command : tie.Need-mul-ask-command
+mul-ask-command c = search needs
+
+sub-ask-command-2 : tie.Need-sub-ask-command-2
+sub-ask-command-2 c = search needs
+
+part-ask-command-start-2 : tie.Need-part-ask-command-start-2
+part-ask-command-start-2 c = search needs
+
+part-ask-command-end-2 : tie.Need-part-ask-command-end-2
+part-ask-command-end-2 c = search needs
+
+slice-aggregate-ask-command : tie.Need-slice-aggregate-ask-command
+slice-aggregate-ask-command c = search needs
+
+slice-aggregate-ask-command-2 : tie.Need-slice-aggregate-ask-command-2
+slice-aggregate-ask-command-2 c = search needs
+
+sub-ask-command-3 : tie.Need-sub-ask-command-3
+sub-ask-command-3 c = search needs
+
+part-ask-command-start-3 : tie.Need-part-ask-command-start-3
+part-ask-command-start-3 c = search needs
+
+part-ask-command-end-3 : tie.Need-part-ask-command-end-3
+part-ask-command-end-3 c = search needs
+
+add-ask-command : tie.Need-add-ask-command
+add-ask-command c = search needs
+
+ask-command-requires : tie.Need-ask-command-requires
+ask-command-requires c κs = search needs
+
+returns-3 : tie.Need-returns-3
+returns-3 c =
+    let a = c .before .before .before .before .before .before .before .before .before .before .before .before .before .before .before .args in
+    let pre = c .before .before .before .before .before .before .before .before .before .before .before .before .before .before .before .pre in
+    let natural-arg = c .before .before .before .before .before .before .before .before .before .before .before .before .natural-arg in
+    let natural = c .before .before .before .before .before .before .before .before .before .before .before .natural in
+    let natural-arg2 = c .before .before .before .before .before .before .before .before .before .natural-arg2 in
+    let natural2 = c .before .before .before .before .before .before .before .before .natural2 in
+    let ask-command = c .before .before .ask-command in
+    λ L e h. let k : natural .result ≡ length (L .inputs) = table.inputs-counted (a .kinds .now) (a .numbers .now)
+    (pre .0) L e
+    (natural-of (getD (a .numbers .now) 0 (pos 0)) (record { sfits = natural-arg .given }) (natural .ensures .0))
+    in whole.asked (a .kinds .now) (a .numbers .now) (pre .0) L e h (2 + natural .result) (omega (arith, k)) _ _
+    _ (natural2 .result) (2 + natural .result + 1) refl refl
+    (table.inputs-there (a .kinds .now) (a .numbers .now) (pre .0) L e (1 + natural .result - 1) (omega (arith, k)))
+    (table.output-there (a .kinds .now) (a .numbers .now) (pre .0) L e (natural2 .result) (1 + natural .result) (omega (arith, k)) (natural-of (getD (a .numbers .now) (1 + natural .result) (pos 0)) (record { sfits = natural-arg2 .given }) (natural2 .ensures .0)))
+    (omega (arith, k)) (ask-command .result) (ask-command .ensures .1 .1)
+
+pub ask-loops-spec : {M : Type 1} → statement M
+ask-loops-spec =
+    tie.close
+    (tie.spec
+    returns
+    shared-slice-copy-out-natural
+    natural-requires
+    add-if2
+    returns-2
+    add-end
+    mul-natural
+    shared-slice-copy-out-natural-2
+    natural-requires-2
+    add-first
+    sub-ask-command
+    part-ask-command-start
+    part-ask-command-end
+    mul-ask-command
+    sub-ask-command-2
+    part-ask-command-start-2
+    part-ask-command-end-2
+    slice-aggregate-ask-command
+    slice-aggregate-ask-command-2
+    sub-ask-command-3
+    part-ask-command-start-3
+    part-ask-command-end-3
+    add-ask-command
+    ask-command-requires
+    returns-3)

@@ -1,0 +1,214 @@
+-- `loops::assignments::assignment` meets its contract: the place first, and then the value behind it.
+use mathlib.Core.Path.{refl, ap}
+use native.Mathlib.Omega.{arith}
+use Prim.Native.Nat.{_≤_}
+use lib.ListN.{length, getD}
+use lib.IntN.{pos}
+use borrow.Author.Needs.{needs}
+use Rattle.syntax.specs.declared.Answer.the-variants.{Passed}
+use Rattle.syntax.proofs.Numbers.{natural-of}
+use Rattle.syntax.specs.Walk.{passed}
+use Rattle.syntax.specs.Ranges.{cellsOf}
+use Rattle.bound_check.specs.Rows as parts
+use Rattle.syntax.proofs.Front as table
+use Rattle.bound_check.proofs.Sets as sets
+use Rattle.bound_check.proofs.assignments.assignment.Statement.{statement}
+use Rattle.bound_check.proofs.assignments.assignment.Tie as tie
+
+returns : tie.Need-returns
+returns c =
+    let a = c .before .before .before .before .args in (
+      omega arith,
+      sets.set-none (a .kinds .now) (a .numbers .now) (a .counters .now) (a .regions .now)
+          (cellsOf (a .inputs .now)) (a .output) (a .line) (Passed 0) (c .if1 .taken),
+    )
+
+shared-slice-read-kind : tie.Need-shared-slice-read-kind
+shared-slice-read-kind c = search needs
+
+shared-slice-copy-out-natural : tie.Need-shared-slice-copy-out-natural
+shared-slice-copy-out-natural c = search needs
+
+natural-requires : tie.Need-natural-requires
+natural-requires c κs = search needs
+
+place-cells-requires : tie.Need-place-cells-requires
+place-cells-requires c κs = search needs
+
+reading-requires : tie.Need-reading-requires
+reading-requires c κs = (
+  c .before .before .before .before .before .before .before .before .pre .0,
+  omega (arith, c .before .before .before .before .if1 .left),
+)
+
+enum-known-placed : tie.Need-enum-known-placed
+enum-known-placed c = search needs
+
+enum-told : tie.Need-enum-told
+enum-told c = search needs
+
+returns-2 : tie.Need-returns-2
+returns-2 c =
+    let a = c .before .before .before .before .before .before .before .before .before .before .before .args in
+    let natural = c .before .before .before .before .natural in
+    let place-cells = c .before .before .before .place-cells in
+    let reading = c .before .before .reading in (
+      reading .ensures .0,
+      sets.place-fails (a .kinds .now) (a .numbers .now) (a .counters .now) (a .regions .now)
+          (cellsOf (a .inputs .now)) (a .output) (a .line) _ (natural .result) (place-cells .result) refl
+          (natural-of (getD (a .numbers .now) 0 (pos 0)) (record { sfits = c .before .before .before .before .before .natural-arg .given }) (natural .ensures .0))
+          (place-cells .ensures .0) (place-cells .ensures .1) (reading .result) (reading .ensures .1) _
+          (c .enum-told .given .1),
+    )
+
+sub-value : tie.Need-sub-value
+sub-value c =
+    let h : c .before .placed .given .0 .0 ≤ length
+    (c .before .before .before .before .before .before .before .before .before .before .before .before .args .kinds .now)
+    = omega (arith, ap passed (c .before .placed .given .1), c .before .before .before .reading .ensures .0) in
+    search needs
+
+part-value-start : tie.Need-part-value-start
+part-value-start c =
+    let h : c .before .placed .given .0 .0 ≤ length
+    (c .before .before .before .before .before .before .before .before .before .before .before .before .args .kinds .now)
+    = omega (arith, ap passed (c .before .placed .given .1), c .before .before .before .reading .ensures .0) in
+    search needs
+
+part-value-end : tie.Need-part-value-end
+part-value-end c = search needs
+
+mul-value : tie.Need-mul-value
+mul-value c =
+    let h : c .before .before .placed .given .0 .0 ≤ length
+    (c .before .before .before .before .before .before .before .before .before .before .before .before .before .args .kinds .now)
+    = omega
+    (arith, ap passed (c .before .before .placed .given .1), c .before .before .before .before .reading .ensures .0) in
+    record
+    { fits = omega (arith, c .before .before .before .before .before .before .before .before .before .before .before .before .before .good .1 .0 .1, c .before .before .before .before .before .before .before .before .before .before .before .before .before .pre .0) }
+
+sub-value-2 : tie.Need-sub-value-2
+sub-value-2 c =
+    let h : c .before .before .placed .given .0 .0 ≤ length
+    (c .before .before .before .before .before .before .before .before .before .before .before .before .before .args .kinds .now)
+    = omega
+    (arith, ap passed (c .before .before .placed .given .1), c .before .before .before .before .reading .ensures .0) in
+    omega
+    (arith, c .before .before .before .before .before .before .before .before .before .before .before .before .before .pre .0)
+
+part-value-start-2 : tie.Need-part-value-start-2
+part-value-start-2 c =
+    let h : c .before .before .placed .given .0 .0 ≤ length
+    (c .before .before .before .before .before .before .before .before .before .before .before .before .before .args .kinds .now)
+    = omega
+    (arith, ap passed (c .before .before .placed .given .1), c .before .before .before .before .reading .ensures .0) in
+    omega
+    (arith, c .before .before .before .before .before .before .before .before .before .before .before .before .before .pre .0)
+
+part-value-end-2 : tie.Need-part-value-end-2
+part-value-end-2 c = search needs
+
+add-value : tie.Need-add-value
+add-value c =
+    let h : c .before .before .before .placed .given .0 .0 ≤ length
+    (c .before .before .before .before .before .before .before .before .before .before .before .before .before .before .args .kinds .now)
+    = omega
+    (arith, ap passed (c .before .before .before .placed .given .1), c .before .before .before .before .before .reading .ensures .0)
+    in
+    search needs
+
+value-requires : tie.Need-value-requires
+value-requires c κs =
+    let a = c .before .before .before .before .before .before .before .before .before .before .before .before .before .before .args in
+    let pre = c .before .before .before .before .before .before .before .before .before .before .before .before .before .before .pre in
+    let placed = c .before .before .before .placed in
+    let h : c .before .before .before .placed .given .0 .0 ≤ length
+    (c .before .before .before .before .before .before .before .before .before .before .before .before .before .before .args .kinds .now)
+    = omega (arith, ap passed (placed .given .1), c .before .before .before .before .before .reading .ensures .0) in (
+      omega
+          (arith, pre .0, table.part-length (placed .given .0 .0) (a .kinds .now), table.part-length (placed .given .0 .0) (a .numbers .now)),
+      omega
+          (arith, pre .1, table.part-length (placed .given .0 .0) (a .kinds .now), table.part-length (placed .given .0 .0) (a .numbers .now)),
+    )
+
+enum-known-valued : tie.Need-enum-known-valued
+enum-known-valued c = search needs
+
+enum-told-2 : tie.Need-enum-told-2
+enum-told-2 c = search needs
+
+returns-3 : tie.Need-returns-3
+returns-3 c =
+    let a = c .before .before .before .before .before .before .before .before .before .before .before .before .before .before .before .before .before .args in
+    let natural = c .before .before .before .before .before .before .before .before .before .before .natural in
+    let place-cells = c .before .before .before .before .before .before .before .before .before .place-cells in
+    let reading = c .before .before .before .before .before .before .before .before .reading in
+    let placed = c .before .before .before .before .before .before .placed in
+    let value = c .before .before .value in (
+      omega
+          (arith, value .ensures .0, table.part-length (placed .given .0 .0) (a .kinds .now), table.part-length (placed .given .0 .0) (a .numbers .now)),
+      sets.value-fails (a .kinds .now) (a .numbers .now) (a .counters .now) (a .regions .now)
+          (cellsOf (a .inputs .now)) (a .output) (a .line) _ (natural .result) (place-cells .result) refl
+          (natural-of (getD (a .numbers .now) 0 (pos 0)) (record { sfits = c .before .before .before .before .before .before .before .before .before .before .before .natural-arg .given }) (natural .ensures .0))
+          (place-cells .ensures .0) (place-cells .ensures .1) (reading .result) (reading .ensures .1) (placed .given .0 .0)
+          (placed .given .1) (value .result) (value .ensures .1) _ (c .enum-told2 .given .1),
+    )
+
+add-t14 : tie.Need-add-t14
+add-t14 c =
+    let a = c .before .before .before .before .before .before .before .before .before .before .before .before .before .before .before .before .before .before .args in
+    let placed = c .before .before .before .before .before .before .before .placed in
+    let h : c .before .before .before .before .before .before .before .placed .given .0 .0 ≤ length
+    (c .before .before .before .before .before .before .before .before .before .before .before .before .before .before .before .before .before .before .args .kinds .now)
+    = omega
+    (arith, ap passed (placed .given .1), c .before .before .before .before .before .before .before .before .before .reading .ensures .0)
+    in
+    record
+    { fits = omega (arith, ap passed (c .before .valued .given .1), c .before .before .before .value .ensures .0, table.part-length (placed .given .0 .0) (a .kinds .now), table.part-length (placed .given .0 .0) (a .numbers .now), c .before .before .before .before .before .before .before .before .before .before .before .before .before .before .before .before .before .before .pre .1) }
+
+returns-4 : tie.Need-returns-4
+returns-4 c =
+    let a = c .before .before .before .before .before .before .before .before .before .before .before .before .before .before .before .before .before .before .args in
+    let natural = c .before .before .before .before .before .before .before .before .before .before .before .natural in
+    let place-cells = c .before .before .before .before .before .before .before .before .before .before .place-cells in
+    let reading = c .before .before .before .before .before .before .before .before .before .reading in
+    let placed = c .before .before .before .before .before .before .before .placed in
+    let value = c .before .before .before .value in
+    let valued = c .before .valued in (
+      let h : placed .given .0 .0 ≤ length (a .kinds .now) = omega
+          (arith, ap passed (placed .given .1), reading .ensures .0) in omega
+          (arith, ap passed (valued .given .1), value .ensures .0, table.part-length (placed .given .0 .0) (a .kinds .now), table.part-length (placed .given .0 .0) (a .numbers .now)),
+      sets.set-both (a .kinds .now) (a .numbers .now) (a .counters .now) (a .regions .now)
+          (cellsOf (a .inputs .now)) (a .output) (a .line) _ (natural .result) (place-cells .result) refl
+          (natural-of (getD (a .numbers .now) 0 (pos 0)) (record { sfits = c .before .before .before .before .before .before .before .before .before .before .before .before .natural-arg .given }) (natural .ensures .0))
+          (place-cells .ensures .0) (place-cells .ensures .1) (reading .result) (reading .ensures .1) (placed .given .0 .0)
+          (placed .given .1) (value .result) (value .ensures .1) (valued .given .0 .0) (valued .given .1),
+    )
+
+pub assignment-spec : {M : Type 1} → statement M
+assignment-spec =
+    tie.close
+    (tie.spec
+    returns
+    shared-slice-read-kind
+    shared-slice-copy-out-natural
+    natural-requires
+    place-cells-requires
+    reading-requires
+    enum-known-placed
+    enum-told
+    returns-2
+    sub-value
+    part-value-start
+    part-value-end
+    mul-value
+    sub-value-2
+    part-value-start-2
+    part-value-end-2
+    add-value
+    value-requires
+    enum-known-valued
+    enum-told-2
+    returns-3
+    add-t14
+    returns-4)

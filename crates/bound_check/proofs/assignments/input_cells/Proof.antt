@@ -1,0 +1,31 @@
+-- `loops::assignments::input_cells` meets its contract: the number that is read is the row's.
+use lib.ListN.{getD}
+use lib.IntN.{pos}
+use borrow.Author.Needs.{needs}
+use Rattle.syntax.proofs.Numbers.{natural-of}
+use Rattle.bound_check.proofs.Inputs as inputs
+use Rattle.bound_check.proofs.assignments.input_cells.Statement.{statement}
+use Rattle.bound_check.proofs.assignments.input_cells.Tie as tie
+
+mul-natural : tie.Need-mul-natural
+mul-natural c = search needs
+
+shared-slice-copy-out-natural : tie.Need-shared-slice-copy-out-natural
+shared-slice-copy-out-natural c = search needs
+
+natural-requires : tie.Need-natural-requires
+natural-requires c κs = search needs
+
+returns : tie.Need-returns
+returns c =
+    let a = c .before .before .before .args in
+    inputs.input-there (a .inputs .now) (a .k)
+    (natural-of (getD (a .inputs .now) (a .k) (pos 0)) (record { sfits = c .before .natural-arg .given }) (c .natural .ensures .0))
+
+returns-2 : tie.Need-returns-2
+returns-2 c = inputs.input-not-there (c .before .args .inputs .now) (c .before .args .k) (c .if1 .left)
+
+pub input-cells-spec : {M : Type 1} → statement M
+input-cells-spec =
+    tie.close
+    (tie.spec mul-natural shared-slice-copy-out-natural natural-requires returns returns-2)

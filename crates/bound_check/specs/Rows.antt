@@ -1,0 +1,52 @@
+-- What the contracts of the check's parts say besides: rows at the front of a table, and answers with their rows. Definitions only;
+-- assumes nothing.
+use mathlib.Core.Bool.{Bool, true, cond}
+use mathlib.Core.Path.{_≡_}
+use mathlib.Core.List.{List, [], _∷_, _++_, map}
+use mathlib.Core.Option.{Option, none, some}
+use Prim.Native.Nat.{ℕ, _+_, _-_, _≤_, min}
+use lib.Dec.{eqb}
+use lib.IntN.{ℤ}
+use Rattle.refusals.specs.declared.Refusal.{Refusal}
+use Rattle.words.specs.Kinds.{Row, rowsOf, word-cells, word-for, word-par, word-new}
+use Rattle.meaning.specs.Loops.{Offset, Command, seq, loop, new}
+use Rattle.meaning.specs.Limits.{bound}
+use Rattle.syntax.specs.declared.Answer.{Answer}
+use Rattle.syntax.specs.declared.Answer.the-variants as walk
+use Rattle.syntax.specs.Ranges.{asNatural}
+use Rattle.bound_check.specs.declared.Asked.{Asked}
+use Rattle.bound_check.specs.declared.Asked.the-variants.{Passed, Refused}
+use Rattle.bounds.specs.Bounds.{everyRowBounded}
+
+-- an answer to question 9 on so many rows
+abbrev pub counted : ℕ → Option Refusal → Answer
+counted rows none = walk.Passed rows
+counted rows (some q) = walk.Refused q
+
+-- a command's answer, with its writes
+abbrev pub asking : ℕ → ℕ → Option Refusal → Asked
+asking rows writes none = Passed rows (min writes 16777217)
+asking rows writes (some q) = Refused q
+
+abbrev pub askedRows : Asked → ℕ
+askedRows (Passed rows writes) = rows
+askedRows (Refused q) = 0
+
+abbrev pub askedWrites : Asked → ℕ
+askedWrites (Passed rows writes) = writes
+askedWrites (Refused q) = 0
+
+-- a `set` and its one write
+abbrev pub onceOf : Answer → Asked
+onceOf (walk.Passed rows) = Passed (1 + rows) 1
+onceOf (walk.Refused q) = Refused q
+
+abbrev pub isLoop : ℕ → Bool
+isLoop k = cond (eqb k word-for) true (eqb k word-par)
+
+-- there is room for so many counters and regions more
+abbrev pub HasRoom : ℕ → ℕ → Command → Type 0
+HasRoom k r (Command.assignment p v) = Unit {0}
+HasRoom k r (seq c d) = HasRoom k r c × HasRoom k r d
+HasRoom k r (loop kind n b) = (1 ≤ k) × HasRoom (k - 1) r b
+HasRoom k r (new n b) = (1 ≤ r) × HasRoom k (r - 1) b

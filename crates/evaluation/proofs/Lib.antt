@@ -1,0 +1,4 @@
+pub mod Tables
+pub mod Operations
+pub mod Offsets
+pub mod Values

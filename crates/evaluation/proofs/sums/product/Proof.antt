@@ -1,0 +1,17 @@
+-- `evaluation::sums::product` meets its contract: the product of two numbers of 32 bits has 64.
+use borrow.Author.Needs.{needs}
+use Rattle.evaluation.proofs.Operations as operations
+use Rattle.evaluation.proofs.sums.product.Statement.{statement}
+use Rattle.evaluation.proofs.sums.product.Tie as tie
+
+mul-capped : tie.Need-mul-capped
+mul-capped c = record { fits = operations.product-fits (search needs) (search needs) }
+
+capped-requires : tie.Need-capped-requires
+capped-requires c κs = search needs
+
+returns : tie.Need-returns
+returns c = search needs
+
+pub product-spec : {M : Type 1} → statement M
+product-spec = tie.close (tie.spec mul-capped capped-requires returns)

@@ -1,0 +1,30 @@
+-- `evaluation::value::reading` meets its contract.
+use mathlib.Core.Path.{ap, _∙_}
+use Prim.Native.Nat.{ℕ, _+_}
+use native.Mathlib.Omega.{arith}
+use borrow.Author.Needs.{needs}
+use lib.IntN.{pos}
+use lib.ListN.{getD}
+use Rattle.store.specs.Store.{storeOf}
+use Rattle.evaluation.proofs.Operations.{back}
+use Rattle.evaluation.proofs.value.reading.Statement.{statement}
+use Rattle.evaluation.proofs.value.reading.Tie as tie
+
+evaluate-requires : tie.Need-evaluate-requires
+evaluate-requires c κs = search needs
+
+cast-cell : tie.Need-cast-cell
+cast-cell c = search needs
+
+add-cell : tie.Need-add-cell
+add-cell c = search needs
+
+read-requires : tie.Need-read-requires
+read-requires c κs = search needs
+
+returns : tie.Need-returns
+returns c = let a = c .before .before .before .before .args in
+    (omega arith, λ o b f. (back _ (c .read .ok) ∙ c .read .ensures ∙ ap (λ (j : ℕ). getD (storeOf (a .cells .now) (a .bytes .now)) (a .base + j) (pos 0)) (c .before .before .evaluate .ensures .1 o b f .0), c .before .before .evaluate .ensures .1 o b f .1))
+
+pub reading-spec : {M : Type 1} → statement M
+reading-spec = tie.close (tie.spec evaluate-requires cast-cell add-cell read-requires returns)

@@ -1,0 +1,185 @@
+-- The bench cards P1 to P10 of document 01: one list, from the plans' texts, and one proof.
+-- "P1 to P10 form one list with a single proof".
+--
+-- It rests on these definitions, which are what the entries promise for every input:
+--   typing      checkText: `check_text` of `plans`
+--   translate   makeText, planIn, rowsMade; textOf of `lines`: `translate_text`
+--   loops       checkText: `check_text`
+--   run         runText: `run_text`
+--   refusals    numberOf, lineOf: document 01's number and line of a refusal
+-- "Where arrays differ in length only, the fact is shown for every length": `split-any-length` (P3), `index-any-length` (P4) and
+-- `cells-any-length` (P9) of `typing`, Theorems.
+use mathlib.Core.Path.{_≡_, refl}
+use mathlib.Core.Bool.{cond}
+use mathlib.Core.List.{List, [], _∷_, _++_, map}
+use Prim.Native.Nat.{ℕ}
+use Prim.Native.String.{String, _++_ as append}
+use lib.Dec.{eqb}
+use lib.IntN.{ℤ, pos, negsuc}
+use lib.ListN.{length, take, drop}
+use Rattle.arithmetic.specs.Arithmetic.{clamp, sum, difference, product, negation, quotient, lesser, greater, operate}
+use Rattle.refusals.specs.declared.Refusal.{Refusal}
+use Rattle.refusals.specs.Refusals.{numberOf, lineOf}
+use Rattle.words.specs.Words.{bytes, table, words, sameLetters, lookFrom, operandsOf}
+use Rattle.numerals.specs.Numerals.{allDigits, value, leadingZero, unsigned, notBelowZero, belowZero, numberOf as numeralOf, lastDigits, digits, decimal}
+use Rattle.lines.specs.Reading.{linesOf, placeOf, lineOf as rowOf, rowsIn, formed, reading}
+use Rattle.lines.specs.Printing.{written, textOf}
+use Rattle.meaning.specs.Loops.{Loops}
+use Rattle.meaning.specs.Layout.{allCells, room, firstRoom, secondRoom, roundRoom, regionRoom, bodyRoom, need}
+use Rattle.meaning.specs.Runs.{run as runCommand, runLoops}
+use Rattle.meaning.specs.NamedOrders.{evens, odds, forward, backward, evensThenOdds, always}
+use Rattle.meaning.specs.Rows.{typeRows, termRows, allTypeRows, planRows, offsetRows, valueRows, placeRows, commandRows, allCellsRows, loopsRows}
+use Rattle.meaning.specs.Translation.{assign, writeMap, useReduce, useWritten, writeTerm, useTerm, translation}
+use Rattle.syntax.specs.declared.Answer.{Answer}
+use Rattle.syntax.specs.declared.Answer.the-variants as plan
+use Rattle.syntax.specs.Ranges.{oneOf, inRange}
+use Rattle.syntax.specs.Names.{openedBy}
+use Rattle.syntax.specs.Operands.{operandOf, operandsDue}
+use Rattle.syntax.specs.Walk.{askRow, walkFrom, listedFrom, walkTable}
+use Rattle.syntax.specs.Reading.{operandsAmong, readRows, choose, planOf, loopsOf}
+use Rattle.typing.specs.Check.{check, checkType, checkTypes, checkPlan}
+use Rattle.typing.specs.Entry.{checkRows, checkText}
+use Rattle.loops.specs.declared.Checked.{Checked}
+use Rattle.loops.specs.declared.Checked.the-variants as loops
+use Rattle.bounds.specs.Bounds.{everyRowBounded, askOffset, askValue, askPlace, askSet, askCommand, askBounds}
+use Rattle.loops.specs.Check.{checkLoops, checkRows as checkLoopsRows, checkText as checkLoopsText}
+use Rattle.translate.specs.declared.Made.{Made}
+use Rattle.translate.specs.declared.Made.the-variants as make
+use Rattle.translate.specs.Entry.{makePlan, makeText, rowsMade}
+use Rattle.run.specs.declared.Ran.{Ran}
+use Rattle.run.specs.declared.Ran.the-variants as ran
+use Rattle.run.specs.Run.{Outcome, askedRun, runText}
+use Rattle.interpreter.specs.Orders.{runOf}
+use Rattle.guarantees.specs.Demand3.{loopsIn}
+
+-- ---- what is asked and what is answered
+
+-- a text's lines, written with blanks between them
+abbrev text : String → List ℕ
+text s = map (λ (b : ℕ). cond (eqb b 32) 10 b) (bytes s) ++ (10 ∷ [])
+
+-- What is put to the entries, beginning from a plan's text.
+pub data Asked : Type 0 where
+  -- its check
+  checked : String → Asked
+  -- its translation, and the check of the loops made
+  translated : String → Asked
+  -- the run of the loops made, in an order, on a store
+  run : String → ℕ → List ℤ → Asked
+
+-- What is answered.
+pub data Answered : Type 0 where
+  -- a refusal's number and line
+  refused : ℕ → ℕ → Answered
+  -- the plan passes
+  passes : Answered
+  -- the loops' text, its lines, their writes and their need
+  made : List ℕ → ℕ → ℕ → ℕ → Answered
+  -- the writes and the output cells
+  finished : ℕ → List ℤ → Answered
+
+-- the loops' text that is made from a plan's
+abbrev madeFrom : String → List ℕ
+madeFrom s = textOf words (rowsMade words (text s))
+
+abbrev ofPlan : Answer → Answered
+ofPlan (plan.Passed n) = passes
+ofPlan (plan.Refused q) = refused (numberOf q) (lineOf q)
+
+abbrev ofLoops : List ℕ → ℕ → Checked → Answered
+ofLoops u lines (loops.Passes w n) = made u lines w n
+ofLoops u lines (loops.Refused q) = refused (numberOf q) (lineOf q)
+
+abbrev ofTranslation : List ℕ → Made → Answered
+ofTranslation u (make.Rows n) = ofLoops u n (checkLoopsText words u)
+ofTranslation u (make.Refused q) = refused (numberOf q) (lineOf q)
+
+-- "inputs, output, and every `new` row's cells once. The store holds them in that order"
+abbrev outputCells : Loops → List ℤ → List ℤ
+outputCells L s = take (L .output) (drop (allCells (L .inputs)) s)
+
+abbrev ofRun : Loops → Ran → List ℤ → Answered
+ofRun L (ran.Finished w) s = finished w (outputCells L s)
+ofRun L (ran.Refused q) s = refused (numberOf q) (lineOf q)
+
+abbrev afterRun : Loops → Outcome → Answered
+afterRun L o = ofRun L (o .answer) (o .store)
+
+abbrev answered : Asked → Answered
+answered (checked s) = ofPlan (checkText words (text s))
+answered (translated s) = ofTranslation (madeFrom s) (makeText words (text s))
+answered (run s order store) = afterRun (loopsIn (madeFrom s)) (runText words (madeFrom s) order store)
+
+-- ---- the cards
+
+-- a card's name, what is asked and what is to be answered
+abbrev pub Card : Type 0
+Card = String × Asked × Answered
+
+-- in each of the orders 0, 1 and 2
+abbrev eachOrder : String → String → List ℤ → Answered → List Card
+eachOrder name s store a = (name, run s 0 store, a) ∷ (name, run s 1 store, a) ∷ (name, run s 2 store, a) ∷ []
+
+abbrev numbers : List ℕ → List ℤ
+numbers l = map pos l
+
+-- document 01's example
+abbrev example : String
+example = "plan,1 arr,2 num,0 redseq,0 lit,0 in,0 add,0 var,0 var,1"
+
+abbrev exampleLoops : String
+exampleLoops =
+    append "loops,1 cells,2 cells,1 new,1 seq,0 set,0 loc,0 lit,0 lit,0 seq,0 for,2 new,1 seq,0 set,0 loc,0 lit,0 add,0 loc,1 lit,0 "
+    "in,0 times,1 ctr,0 set,0 loc,1 lit,0 loc,0 lit,0 set,0 out,0 lit,0 loc,0 lit,0"
+
+abbrev groups : String
+groups = "plan,1 arr,6 num,0 mappar,0 split,2 in,0 redseq,0 lit,0 var,0 add,0 var,0 var,1"
+
+abbrev exchange : String
+exchange = "plan,1 arr,1 num,0 redseq,0 pair,0 lit,1 lit,2 in,0 pair,0 snd,0 var,0 fst,0 var,0"
+
+abbrev pub cards : List Card
+cards =
+    -- "(P1) 32 lines, 6 writes, need 5. With these loops and the values `0,4` `1,5` the runner prints `0,9` `writes,6`."
+    ("P1", translated example, made (text exampleLoops) 32 6 5)
+    ∷ eachOrder "P1" example (numbers (4 ∷ 5 ∷ 0 ∷ 0 ∷ 0 ∷ [])) (finished 6 (numbers (9 ∷ [])))
+    -- "P2 `split,2` over 10..15, groups summed: 21, 25, 29."
+    ++ eachOrder "P2" groups (numbers (10 ∷ 11 ∷ 12 ∷ 13 ∷ 14 ∷ 15 ∷ 0 ∷ 0 ∷ 0 ∷ 0 ∷ 0 ∷ []))
+    (finished 18 (numbers (21 ∷ 25 ∷ 29 ∷ [])))
+    -- "P3 `split,3` of 7: 7."
+    ++ ("P3", checked "plan,1 arr,7 num,0 split,3 in,0", refused 7 4)
+    -- "P4 `idx,1` of two passes, `idx,2`: 7."
+    ∷ ("P4", checked "plan,1 arr,2 num,0 idx,1 in,0", passes)
+    ∷ ("P4", checked "plan,1 arr,2 num,0 idx,2 in,0", refused 7 4)
+    -- "P5 −7 `div` 2 = −3; 7 `div` 0 = 0."; `negsuc n` is −(n + 1)
+    ∷ eachOrder "P5" "plan,0 div,0 lit,-7 lit,2" (numbers (0 ∷ [])) (finished 1 (negsuc 2 ∷ []))
+    ++ eachOrder "P5" "plan,0 div,0 lit,7 lit,0" (numbers (0 ∷ [])) (finished 1 (numbers (0 ∷ [])))
+    -- "P6 −2,147,483,648 `div` −1 = 2,147,483,647."
+    ++ eachOrder "P6" "plan,0 div,0 lit,-2147483648 lit,-1" (numbers (0 ∷ [])) (finished 1 (numbers (2147483647 ∷ [])))
+    -- "P7 total (1,2), body (second, first), one round: (2,1)."
+    ++ eachOrder "P7" exchange (numbers (0 ∷ 0 ∷ 0 ∷ 0 ∷ 0 ∷ 0 ∷ 0 ∷ [])) (finished 8 (numbers (2 ∷ 1 ∷ [])))
+    -- "P8 store 5 runs P1, 4: 14."
+    ++ eachOrder "P8" example (numbers (4 ∷ 5 ∷ 1 ∷ 2 ∷ 3 ∷ [])) (finished 6 (numbers (9 ∷ [])))
+    ++ eachOrder "P8" example (numbers (4 ∷ 5 ∷ 0 ∷ 0 ∷ [])) (refused 14 0)
+    -- "P9 64 × 64 cells pass, 65 × 64: 8."
+    ++ ("P9", checked "plan,1 arr,64 arr,64 num,0 in,0", passes)
+    ∷ ("P9", checked "plan,1 arr,65 arr,64 num,0 in,0", refused 8 2)
+    -- "P10 `lit,-0`: 2."
+    ∷ ("P10", checked "plan,0 lit,-0", refused 2 2)
+    ∷ []
+
+pub cards-answered : map (λ (c : Card). answered (c .1)) cards ≡ map (λ (c : Card). c .2) cards
+unfolding
+    clamp sum difference product negation quotient lesser greater operate
+    words table sameLetters lookFrom operandsOf
+    allDigits value leadingZero unsigned notBelowZero belowZero numeralOf lastDigits digits decimal
+    linesOf placeOf rowOf rowsIn formed reading written textOf
+    room firstRoom secondRoom roundRoom regionRoom bodyRoom need
+    runCommand runLoops evens odds forward backward evensThenOdds always
+    typeRows termRows allTypeRows planRows offsetRows valueRows placeRows commandRows allCellsRows loopsRows
+    assign writeMap useReduce useWritten writeTerm useTerm translation
+    oneOf inRange openedBy operandOf operandsDue askRow walkFrom listedFrom walkTable operandsAmong readRows choose planOf loopsOf
+    check checkType checkTypes checkPlan checkRows checkText
+    everyRowBounded askOffset askValue askPlace askSet askCommand askBounds checkLoops checkLoopsRows checkLoopsText
+    makePlan makeText runOf askedRun runText
+cards-answered = refl

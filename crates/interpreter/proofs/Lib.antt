@@ -1,0 +1,9 @@
+pub mod Commands
+pub mod Turns
+pub mod Runs
+pub mod Rounds
+pub mod Passing
+pub mod Inputs
+pub mod Copying
+pub mod SameInputs
+pub mod WholeLoops

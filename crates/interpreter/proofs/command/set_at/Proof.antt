@@ -1,0 +1,55 @@
+-- `interpreter::command::set_at` meets its contract: each return is a law of Commands.
+use native.Mathlib.Omega.{arith}
+use borrow.Author.Needs.{needs}
+use lib.IntN.{pos}
+use lib.ListN.{getD, drop}
+use Rattle.meaning.specs.Runs.{entry}
+use Rattle.syntax.proofs.Numbers.{natural-of}
+use Rattle.interpreter.specs.declared.command.Command.the-variants.{Nothing}
+use Rattle.interpreter.proofs.Commands as commands
+use Rattle.interpreter.proofs.command.set_at.Statement.{statement}
+use Rattle.interpreter.proofs.command.set_at.Tie as tie
+
+returns : tie.Need-returns
+returns c = let a = c .before .args in
+    (omega arith, commands.place-none 0 (a .kinds .now) (a .numbers .now) (a .at) (entry (drop (a .c) (a .counters .now))) Nothing (c .if1 .taken))
+
+add-evaluate : tie.Need-add-evaluate
+add-evaluate c = search needs
+
+evaluate-requires : tie.Need-evaluate-requires
+evaluate-requires c κs = search needs
+
+element-copy-out-if2 : tie.Need-element-copy-out-if2
+element-copy-out-if2 c = search needs
+
+returns-2 : tie.Need-returns-2
+returns-2 c = let a = c .before .before .before .before .args in
+    (omega (arith, c .before .before .evaluate .ensures .0), commands.place-output 0 (a .kinds .now) (a .numbers .now) (a .at) (entry (drop (a .c) (a .counters .now))) (c .before .before .evaluate .result .number) (c .before .before .evaluate .result .next) (c .if2 .taken) (c .before .before .evaluate .ensures .1))
+
+mul-natural : tie.Need-mul-natural
+mul-natural c = search needs
+
+element-copy-out-natural : tie.Need-element-copy-out-natural
+element-copy-out-natural c = search needs
+
+natural-requires : tie.Need-natural-requires
+natural-requires c κs = search needs
+
+returns-3 : tie.Need-returns-3
+returns-3 c = let a = c .before .before .before .before .before .before .args in
+    (omega (arith, c .before .before .before .before .evaluate .ensures .0), commands.place-region 0 (a .kinds .now) (a .numbers .now) (a .at) (entry (drop (a .c) (a .counters .now))) (c .natural .result) (c .before .before .before .before .evaluate .result .number) (c .before .before .before .before .evaluate .result .next) (c .before .before .if2 .left) (natural-of (getD (a .numbers .now) (a .at) (pos 0)) (record { sfits = c .before .natural-arg .given }) (c .natural .ensures)) (c .before .before .before .before .evaluate .ensures .1))
+
+pub set-at-spec : {M : Type 1} → statement M
+set-at-spec =
+    tie.close
+    (tie.spec
+    returns
+    add-evaluate
+    evaluate-requires
+    element-copy-out-if2
+    returns-2
+    mul-natural
+    element-copy-out-natural
+    natural-requires
+    returns-3)

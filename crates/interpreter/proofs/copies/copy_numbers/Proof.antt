@@ -1,0 +1,70 @@
+-- `interpreter::copies::copy_numbers` meets its contract, by the laws of Copying.
+use mathlib.Core.Path.{_≡_, refl, _∙_}
+use Prim.Native.Nat.{_-_, _≤_}
+use native.Mathlib.Omega.{arith}
+use borrow.Author.Needs.{needs}
+use lib.IntN.{pos}
+use lib.ListN.{length, length-set}
+use Rattle.evaluation.proofs.Operations.{back}
+use Rattle.interpreter.proofs.Copying as copying
+use Rattle.interpreter.proofs.copies.copy_numbers.Statement.{statement}
+use Rattle.interpreter.proofs.copies.copy_numbers.Tie as tie
+
+abbrev Inv-loop : tie.InvT-loop
+Inv-loop from to₀ k₀ to k =
+    (k ≤ length from) × (length to ≡ length to₀) × (length from ≤ length to₀) × copying.Copied from k to
+
+abbrev μ-loop : tie.MeasureT-loop
+μ-loop from to₀ k₀ to k = length from - k
+
+returns : tie.Need-returns Inv-loop μ-loop
+returns c = λ h. absurd (omega (arith, h, c .if1 .taken))
+
+loop-holds : tie.Need-loop-holds Inv-loop μ-loop
+loop-holds c = (omega arith, refl, omega (arith, c .if1 .left), refl)
+
+mul-to : tie.Need-mul-to Inv-loop μ-loop
+mul-to c = search needs
+
+shared-slice-copy-out-to : tie.Need-shared-slice-copy-out-to Inv-loop μ-loop
+shared-slice-copy-out-to c = search needs
+
+mul-t11 : tie.Need-mul-t11 Inv-loop μ-loop
+mul-t11 c = search needs
+
+slice-set-from-to : tie.Need-slice-set-from-to Inv-loop μ-loop
+slice-set-from-to c = search needs
+
+add-k : tie.Need-add-k Inv-loop μ-loop
+add-k c = search needs
+
+loop-less : tie.Need-loop-less Inv-loop μ-loop
+loop-less c = search needs
+
+loop-again : tie.Need-loop-again Inv-loop μ-loop
+loop-again c = let at = c .before .before .loop in
+    (omega (arith, c .before .loop-test .taken), length-set (at .to) (at .k) _ ∙ at .inv .1, at .inv .2, copying.copied-more (pos 0) _ (c .before .before .before .before .args .from .now) (at .to) (at .k) (c .before .loop-test .taken) (omega (arith, c .before .loop-test .taken, at .inv .1, at .inv .2)) (back _ (c .to .given)) (at .inv .3))
+
+same-length : tie.Need-same-length Inv-loop μ-loop
+same-length c = search needs
+
+returns-2 : tie.Need-returns-2 Inv-loop μ-loop
+returns-2 c = λ h. copying.copied-all (c .before .before .before .args .from .now) (c .before .loop .to) (c .before .loop .k) (omega (arith, c .before .loop .inv .0, c .loop-test .left)) (c .before .loop .inv .3)
+
+pub copy-numbers-spec : {M : Type 1} → statement M
+copy-numbers-spec =
+    tie.close
+    (tie.spec
+    Inv-loop
+    μ-loop
+    returns
+    loop-holds
+    mul-to
+    shared-slice-copy-out-to
+    mul-t11
+    slice-set-from-to
+    add-k
+    loop-less
+    loop-again
+    same-length
+    returns-2)

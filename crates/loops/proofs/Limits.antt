@@ -1,0 +1,89 @@
+-- The answer of the check of loops, from the command's. Assumes nothing.
+use mathlib.Core.Bool.{Bool, true, false, cond}
+use mathlib.Core.Path.{_≡_, refl, sym, ap, ap₂, _∙_}
+use mathlib.Core.List.{List, [], _∷_, _++_, append-nil, append-assoc, map}
+use mathlib.Core.Option.{Option, none}
+use Prim.Native.Nat.{ℕ, suc, _+_, _-_, _≤_, _<_, min}
+use native.Mathlib.Omega.{arith}
+use borrow.Author.Tests.{le-leb, lt-leb}
+use lib.Dec.{leb}
+use lib.IntN.{ℤ, pos}
+use lib.ListN.{length, getD, drop, take, length-append, length-map}
+use lib.Seq.{getD-append-add, take-at}
+use Rattle.refusals.specs.declared.Refusal.{Refusal}
+use Rattle.refusals.specs.declared.Refusal.the-variants.{WriteCount}
+use Rattle.words.specs.Kinds.{Row, rowsOf, word-loops, word-cells}
+use Rattle.words.specs.Laws.{rows-length}
+use Rattle.meaning.specs.Loops.{Command, Loops, seq, loop, new}
+use Rattle.meaning.specs.Rows.{commandRows, allCellsRows, loopsRows}
+use Rattle.meaning.specs.Layout.{need}
+use Rattle.meaning.specs.Counts.{commandWrites}
+use Rattle.syntax.specs.Ranges.{asNatural}
+use Rattle.syntax.specs.InRange.{CommandInRange, LoopsInRange}
+use Rattle.syntax.specs.declared.Answer.{Answer}
+use Rattle.syntax.specs.declared.Answer.the-variants as walk
+use Rattle.syntax.specs.Walk.{walkTable}
+use Rattle.syntax.specs.Reading.{loopsOf}
+use Rattle.syntax.specs.Theorems.{all-passed, loops-tree}
+use Rattle.words.specs.declared.Sort.the-variants as sort
+use Rattle.loops.specs.declared.Checked.{Checked}
+use Rattle.loops.specs.declared.Checked.the-variants as checked
+use Rattle.bound_check.specs.declared.Asked.{Asked}
+use Rattle.bound_check.specs.declared.Asked.the-variants.{Passed, Refused}
+use Rattle.bounds.specs.Bounds.{askCommand, askBounds}
+use Rattle.loops.specs.Check.{askWrites, unless, checkLoops, afterWalk, checkRows}
+use Rattle.bound_check.specs.Rows.{HasRoom, asking}
+use Rattle.loops.specs.Needs.{cellsIn}
+use Rattle.syntax.specs.Ranges.{cellsOf}
+use Rattle.syntax.specs.Standing.{Begins}
+use Rattle.loops.proofs.Needs.{loops-cells}
+use Rattle.bound_check.proofs.Commands.{Asks, asking-refused, asking-passed}
+use Rattle.syntax.proofs.Front as table
+use Rattle.syntax.proofs.Front.{part}
+
+-- ---- the loops' answer, from the command's
+
+pub one-case : {A : Type 0} {q : Refusal} {i v : ℕ} → Refused q ≡ Passed i v → A
+one-case e = absurd (let z : _≡_ {A = ℕ} 0 1 = cc in omega arith)
+
+module _ (L : Loops) (w : Asked) (g : w ≡ asking (length (commandRows (L .command))) (commandWrites (L .command)) (askBounds L)) where
+  pub limits-refused : (q : Refusal) → w ≡ Refused q → checked.Refused q ≡ checkLoops L
+  unfolding checkLoops
+  limits-refused q f =
+      let a = asking-refused (length (commandRows (L .command))) (commandWrites (L .command)) (askBounds L) q (sym f ∙ g) in
+      ap (λ (o : Option Refusal). unless o (askWrites L)) (sym a)
+
+  module _ (i v : ℕ) (f : w ≡ Passed i v) where
+    passed : (askBounds L ≡ none) × (i ≡ length (commandRows (L .command))) × (v ≡ min (commandWrites (L .command)) 16777217)
+    passed = asking-passed i v (length (commandRows (L .command))) (commandWrites (L .command)) (askBounds L) (sym f ∙ g)
+
+    asked : (b : Bool) → leb (commandWrites (L .command)) 16777216 ≡ b
+        → cond b (checked.Passes (commandWrites (L .command)) (need L)) (checked.Refused WriteCount) ≡ checkLoops L
+    unfolding checkLoops
+    asked b e =
+        ap (λ (b : Bool). cond b (checked.Passes (commandWrites (L .command)) (need L)) (checked.Refused WriteCount)) (sym e)
+        ∙ ap (λ (o : Option Refusal). unless o (askWrites L)) (sym (passed .0))
+
+    pub limits-many : 16777216 < v → checked.Refused WriteCount ≡ checkLoops L
+    limits-many l =
+        let m : 16777216 < commandWrites (L .command) = omega (arith, l, passed .2) in
+        asked false (lt-leb (commandWrites (L .command)) 16777216 m)
+
+    pub limits-passes : v ≤ 16777216 → (R : List Row) → R ≡ loopsRows L → (c : ℕ) → c ≡ cellsIn R → checked.Passes v c ≡ checkLoops L
+    limits-passes l R e c q =
+        let m : v ≡ commandWrites (L .command) = omega (arith, l, passed .2) in
+        ap₂ checked.Passes m (q ∙ ap cellsIn e ∙ loops-cells L)
+        ∙ asked true (le-leb (commandWrites (L .command)) 16777216 (omega (arith, l, m)))
+
+-- ---- a table's answer, from the walk's
+
+pub rows-refused : (R : List Row) (q : Refusal) → walkTable sort.Loops R ≡ walk.Refused q → checked.Refused q ≡ checkRows R
+unfolding checkRows
+rows-refused R q e = ap (λ (a : Answer). afterWalk a (checkLoops (loopsOf R))) (sym e)
+
+pub rows-limits : (R : List Row) (m : ℕ) (r : Checked) → walkTable sort.Loops R ≡ walk.Passed m
+    → ((L : Loops) → R ≡ loopsRows L → LoopsInRange L → r ≡ checkLoops L) → r ≡ checkRows R
+unfolding checkRows
+rows-limits R m r e f =
+    let t = loops-tree R (all-passed sort.Loops R m e) in
+    f (loopsOf R) (t .1) (t .0) ∙ ap (λ (a : Answer). afterWalk a (checkLoops (loopsOf R))) (sym e)

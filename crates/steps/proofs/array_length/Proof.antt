@@ -1,0 +1,30 @@
+-- `array_length` meets its contract: the table tells whether the type is an array, and a sound type is short enough.
+use native.Mathlib.Omega.{arith}
+use borrow.Author.Needs.{needs}
+use Rattle.type_table.specs.Laws.{told-array, told-no-array}
+use Rattle.emission.specs.Laws.Assign.{few-elements}
+use Rattle.steps.proofs.StepLaws.{sound-here, length-none, length-some}
+use Rattle.steps.proofs.array_length.Statement.{statement}
+use Rattle.steps.proofs.array_length.Tie as tie
+
+as-array-requires : tie.Need-as-array-requires
+as-array-requires c κs = sound-here (c .before .args .types .now) (c .before .args .place) (c .before .pre .0) (c .before .pre .1)
+
+enum-known-array : tie.Need-enum-known-array
+enum-known-array c = search needs
+
+enum-told : tie.Need-enum-told
+enum-told c = search needs
+
+returns : tie.Need-returns
+returns c = length-none (c .before .before .before .before .args .types .now) (c .before .before .before .before .args .place) (told-no-array (c .before .before .before .before .args .types .now) (c .before .before .before .before .args .place) (c .enum-told .given .1) (c .before .before .as-array .ensures))
+
+cast-result : tie.Need-cast-result
+cast-result c = omega (arith, few-elements (c .before .before .before .before .before .args .types .now) (c .before .before .before .before .before .args .place) _ _ (sound-here (c .before .before .before .before .before .args .types .now) (c .before .before .before .before .before .args .place) (c .before .before .before .before .before .pre .0) (c .before .before .before .before .before .pre .1)) (told-array (c .before .before .before .before .before .args .types .now) (c .before .before .before .before .before .args .place) (c .before .array .given .1) (c .before .before .before .as-array .ensures) .0))
+
+returns-2 : tie.Need-returns-2
+returns-2 c = length-some (c .before .before .before .before .before .args .types .now) (c .before .before .before .before .before .args .place) _ _ (told-array (c .before .before .before .before .before .args .types .now) (c .before .before .before .before .before .args .place) (c .before .array .given .1) (c .before .before .before .as-array .ensures) .0)
+
+pub array-length-spec : {M : Type 1} → statement M
+array-length-spec =
+    tie.close (tie.spec as-array-requires enum-known-array enum-told returns cast-result returns-2)

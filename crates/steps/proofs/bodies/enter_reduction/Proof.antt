@@ -1,0 +1,17 @@
+-- `enter_reduction` meets its contract: what was begun, and the state in the round.
+use borrow.Author.Needs.{needs}
+use Rattle.steps.proofs.StepLaws.{round-here, rows-here}
+use Rattle.steps.proofs.bodies.enter_reduction.Statement.{statement}
+use Rattle.steps.proofs.bodies.enter_reduction.Tie as tie
+
+begin-reduction-requires : tie.Need-begin-reduction-requires
+begin-reduction-requires c κs = search needs
+
+in-round-requires : tie.Need-in-round-requires
+in-round-requires c κs = search needs
+
+returns : tie.Need-returns
+returns c = (record { begun = c .before .begin-reduction .ensures .0; round = round-here _ _ _ _ (c .in-round .ensures) }, rows-here _ _ _ _ _ (c .in-round .ensures .end) (c .before .begin-reduction .ensures .1))
+
+pub enter-reduction-spec : {M : Type 1} → statement M
+enter-reduction-spec = tie.close (tie.spec begin-reduction-requires in-round-requires returns)

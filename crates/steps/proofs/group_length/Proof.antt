@@ -1,0 +1,30 @@
+-- `group_length` meets its contract: the table tells whether the type is an array; its element's length is asked in turn.
+use native.Mathlib.Omega.{arith}
+use borrow.Author.Needs.{needs}
+use Rattle.type_table.specs.Laws.{told-array, told-no-array}
+use Rattle.steps.proofs.StepLaws.{sound-here, group-none, group-some}
+use Rattle.steps.proofs.group_length.Statement.{statement}
+use Rattle.steps.proofs.group_length.Tie as tie
+
+as-array-requires : tie.Need-as-array-requires
+as-array-requires c κs = sound-here (c .before .args .types .now) (c .before .args .place) (c .before .pre .0) (c .before .pre .1)
+
+enum-known-array : tie.Need-enum-known-array
+enum-known-array c = search needs
+
+enum-told : tie.Need-enum-told
+enum-told c = search needs
+
+returns : tie.Need-returns
+returns c = group-none (c .before .before .before .before .args .types .now) (c .before .before .before .before .args .place) (told-no-array (c .before .before .before .before .args .types .now) (c .before .before .before .before .args .place) (c .enum-told .given .1) (c .before .before .as-array .ensures))
+
+array-length-requires : tie.Need-array-length-requires
+array-length-requires c κs = (c .before .before .before .before .before .pre .0, omega (arith, told-array (c .before .before .before .before .before .args .types .now) (c .before .before .before .before .before .args .place) (c .before .array .given .1) (c .before .before .before .as-array .ensures) .1, c .before .before .before .before .before .pre .1))
+
+returns-2 : tie.Need-returns-2
+returns-2 c = group-some (c .before .before .before .before .before .before .args .types .now) (c .before .before .before .before .before .before .args .place) _ _ _ (told-array (c .before .before .before .before .before .before .args .types .now) (c .before .before .before .before .before .before .args .place) (c .before .before .array .given .1) (c .before .before .before .before .as-array .ensures) .0) (c .array-length .ensures)
+
+pub group-length-spec : {M : Type 1} → statement M
+group-length-spec =
+    tie.close
+    (tie.spec as-array-requires enum-known-array enum-told returns array-length-requires returns-2)

@@ -1,0 +1,68 @@
+-- `leaf` meets its contract: a variable reads its node; an input and a literal push one of their own.
+use native.Mathlib.Omega.{arith}
+use borrow.Author.Needs.{needs}
+use mathlib.Core.Path.{refl}
+use Rattle.steps.proofs.StepLaws.{leaf-variable, leaf-input, leaf-literal}
+use Rattle.steps.proofs.leaf.Statement.{statement}
+use Rattle.steps.proofs.leaf.Tie as tie
+
+add-t9 : tie.Need-add-t9
+add-t9 c = omega (arith, c .before .before .pre .6 (c .before .if1 .taken), c .before .before .pre .7)
+
+sub-t10 : tie.Need-sub-t10
+sub-t10 c = omega (arith, c .before .before .before .pre .6 (c .before .before .if1 .taken), c .before .before .before .pre .7)
+
+mul-t11 : tie.Need-mul-t11
+mul-t11 c = omega (arith, c .before .before .before .pre .7)
+
+array-read-t14 : tie.Need-array-read-t14
+array-read-t14 c = omega (arith, c .before .before .before .pre .6 (c .before .before .if1 .taken), c .before .before .before .pre .7, c .before .before .before .pre .8)
+
+cast-t15 : tie.Need-cast-t15
+cast-t15 c = search needs
+
+returns : tie.Need-returns
+returns c = leaf-variable _ _ _ _ _ _ _ _ (c .before .before .if1 .taken) record { rows = refl; value = refl; regions = refl; len = refl; to = refl; same = refl }
+
+cast-push-stored : tie.Need-cast-push-stored
+cast-push-stored c = omega (arith, c .before .before .before .pre .5 (c .before .if2 .taken))
+
+push-stored-requires : tie.Need-push-stored-requires
+push-stored-requires c κs = search needs
+
+node-used-requires : tie.Need-node-used-requires
+node-used-requires c κs = search needs
+
+returns-2 : tie.Need-returns-2
+returns-2 c = leaf-input _ _ _ _ _ _ _ _ (c .before .before .before .if2 .taken) (c .before .push-stored .ensures) (c .node-used .ensures)
+
+cast-push-stored-2 : tie.Need-cast-push-stored-2
+cast-push-stored-2 c = search needs
+
+push-stored-requires-2 : tie.Need-push-stored-requires-2
+push-stored-requires-2 c κs = search needs
+
+node-used-requires-2 : tie.Need-node-used-requires-2
+node-used-requires-2 c κs = search needs
+
+returns-3 : tie.Need-returns-3
+returns-3 c = leaf-literal _ _ _ _ _ _ _ _ (c .before .before .before .before .if1 .left) (c .before .before .before .if2 .left) (c .before .push-stored2 .ensures) (c .node-used2 .ensures)
+
+pub leaf-spec : {M : Type 1} → statement M
+leaf-spec =
+    tie.close
+    (tie.spec
+    add-t9
+    sub-t10
+    mul-t11
+    array-read-t14
+    cast-t15
+    returns
+    cast-push-stored
+    push-stored-requires
+    node-used-requires
+    returns-2
+    cast-push-stored-2
+    push-stored-requires-2
+    node-used-requires-2
+    returns-3)

@@ -1,0 +1,26 @@
+-- `into_first` meets its contract: the kind of the node is that of the first part, and one row is put.
+use borrow.Author.Needs.{needs}
+use mathlib.Core.Path.{refl}
+use Rattle.steps.specs.Steps.{firstPart}
+use Rattle.steps.proofs.StepLaws.{pushed-as}
+use Rattle.steps.proofs.parts.into_first.Statement.{statement}
+use Rattle.steps.proofs.parts.into_first.Tie as tie
+
+put-count-requires : tie.Need-put-count-requires
+put-count-requires c κs = search needs
+
+first-part-requires : tie.Need-first-part-requires
+first-part-requires c κs = search needs
+
+push-requires : tie.Need-push-requires
+push-requires c κs = search needs
+
+add-t14 : tie.Need-add-t14
+add-t14 c = search needs
+
+returns : tie.Need-returns
+returns c = (record { node = pushed-as (c .before .before .before .first-part .result) (firstPart (c .before .before .before .before .before .before .before .before .args .kind)) (c .before .before .before .before .before .before .before .before .args .target) (c .before .before .before .first-part .ensures) (c .before .before .push .ensures); counters = refl; regions = refl; variables = record { variables = refl; count = refl }; len = refl }, c .before .before .before .before .before .put-count .ensures)
+
+pub into-first-spec : {M : Type 1} → statement M
+into-first-spec =
+    tie.close (tie.spec put-count-requires first-part-requires push-requires add-t14 returns)

@@ -1,0 +1,22 @@
+-- `into_second` meets its contract: the kind of the node is that of the second part.
+use borrow.Author.Needs.{needs}
+use mathlib.Core.Path.{refl}
+use Rattle.steps.specs.Steps.{secondPart}
+use Rattle.steps.proofs.StepLaws.{pushed-as}
+use Rattle.steps.proofs.parts.into_second.Statement.{statement}
+use Rattle.steps.proofs.parts.into_second.Tie as tie
+
+second-part-requires : tie.Need-second-part-requires
+second-part-requires c κs = search needs
+
+push-requires : tie.Need-push-requires
+push-requires c κs = search needs
+
+add-t10 : tie.Need-add-t10
+add-t10 c = search needs
+
+returns : tie.Need-returns
+returns c = (record { node = pushed-as (c .before .before .before .second-part .result) (secondPart (c .before .before .before .before .before .args .kind)) (c .before .before .before .before .before .args .target) (c .before .before .before .second-part .ensures) (c .before .before .push .ensures); counters = refl; regions = refl; variables = record { variables = refl; count = refl }; len = refl }, refl)
+
+pub into-second-spec : {M : Type 1} → statement M
+into-second-spec = tie.close (tie.spec second-part-requires push-requires add-t10 returns)

@@ -1,0 +1,27 @@
+-- `put_region` meets its contract: a sound type has few enough cells; then two rows.
+use native.Mathlib.Omega.{arith}
+use borrow.Author.Needs.{needs}
+use Rattle.type_table.specs.Table.{typeAt}
+use Rattle.steps.proofs.StepLaws.{sound-here, few-cells, region-put}
+use Rattle.steps.proofs.put_region.Statement.{statement}
+use Rattle.steps.proofs.put_region.Tie as tie
+
+cells-requires : tie.Need-cells-requires
+cells-requires c κs = sound-here (c .before .before .before .args .types .now) (c .before .before .before .args .place) (c .before .before .before .pre .0) (c .before .before .before .pre .1)
+
+cast-put-count : tie.Need-cast-put-count
+cast-put-count c = omega (arith, c .cells .ensures, few-cells (c .before .before .before .before .args .types .now) (c .before .before .before .before .args .place) (c .before .before .before .before .pre .0) (c .before .before .before .before .pre .1))
+
+put-count-requires : tie.Need-put-count-requires
+put-count-requires c κs = search needs
+
+put-count-requires-2 : tie.Need-put-count-requires-2
+put-count-requires-2 c κs = search needs
+
+returns : tie.Need-returns
+returns c = region-put (typeAt (c .before .before .before .before .before .before .before .before .args .types .now) (c .before .before .before .before .before .before .before .before .args .place)) _ _ _ _ (c .before .before .before .before .cells .ensures) (c .before .before .before .put-count .ensures) (c .put-count2 .ensures)
+
+pub put-region-spec : {M : Type 1} → statement M
+put-region-spec =
+    tie.close
+    (tie.spec cells-requires cast-put-count put-count-requires put-count-requires-2 returns)

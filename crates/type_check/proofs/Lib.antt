@@ -1,0 +1,13 @@
+pub mod Found
+pub mod RuleLaws
+pub mod ScopeLaws
+pub mod TypeLaws
+pub mod Stages
+pub mod TermLaws
+pub mod NotedLaws
+pub mod TermAnswers
+pub mod TermSteps
+pub mod SecondSteps
+pub mod BodySteps
+pub mod InputLaws
+pub mod PlanLaws

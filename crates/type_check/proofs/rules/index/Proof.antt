@@ -1,0 +1,45 @@
+-- `index` meets its contract: an element below the length, and its type is within the limits.
+use native.Mathlib.Omega.{arith}
+use borrow.Author.Needs.{needs}
+use Rattle.type_check.proofs.RuleLaws.{index-no, index-far, index-at}
+use Rattle.type_check.proofs.Found.{found-no, found-type}
+use Rattle.type_table.specs.Laws.{sound-below, told-array, told-no-array}
+use Rattle.type_check.proofs.rules.index.Statement.{statement}
+use Rattle.type_check.proofs.rules.index.Tie as tie
+
+as-array-requires : tie.Need-as-array-requires
+as-array-requires c κs = sound-below (c .before .pre .0 .sound) (omega arith)
+
+enum-known-shape : tie.Need-enum-known-shape
+enum-known-shape c = search needs
+
+enum-told : tie.Need-enum-told
+enum-told c = search needs
+
+misfit-requires : tie.Need-misfit-requires
+misfit-requires c κs = search needs
+
+returns : tie.Need-returns
+returns c = found-no _ _ _ _ _ _ (c .misfit .ensures) (index-no (c .before .before .before .before .before .args .line) _ (c .before .before .before .before .before .args .k) (told-no-array (c .before .before .before .before .before .args .nodes .now) (c .before .before .before .before .before .args .place) (c .before .enum-told .given .1) (c .before .before .before .as-array .ensures)))
+
+misfit-requires-2 : tie.Need-misfit-requires-2
+misfit-requires-2 c κs = search needs
+
+returns-2 : tie.Need-returns-2
+returns-2 c = found-no _ _ _ _ _ _ (c .misfit2 .ensures) (index-far (c .before .before .before .before .before .before .before .args .line) _ (c .before .before .before .before .before .before .before .args .k) _ _ (told-array (c .before .before .before .before .before .before .before .args .nodes .now) (c .before .before .before .before .before .before .before .args .place) (c .before .before .before .shape .given .1) (c .before .before .before .before .before .as-array .ensures) .0) (c .before .if1 .taken))
+
+returns-3 : tie.Need-returns-3
+returns-3 c = found-type (c .before .before .before .before .before .before .args .nodes .now) (c .before .before .before .before .before .before .args .len) (c .before .before .before .before .before .before .args .len) (c .before .before .before .before .before .before .args .rows) _ _ (c .before .before .before .before .before .before .pre .0 .sound) (omega (arith, c .before .before .before .before .before .before .pre .1, told-array (c .before .before .before .before .before .before .args .nodes .now) (c .before .before .before .before .before .before .args .place) (c .before .before .shape .given .1) (c .before .before .before .before .as-array .ensures) .1)) (omega arith) (index-at (c .before .before .before .before .before .before .args .line) _ (c .before .before .before .before .before .before .args .k) _ _ (told-array (c .before .before .before .before .before .before .args .nodes .now) (c .before .before .before .before .before .before .args .place) (c .before .before .shape .given .1) (c .before .before .before .before .as-array .ensures) .0) (c .if1 .left) (c .before .before .before .before .before .before .pre .0 .sound .each _ (omega (arith, c .before .before .before .before .before .before .pre .1, told-array (c .before .before .before .before .before .before .args .nodes .now) (c .before .before .before .before .before .before .args .place) (c .before .before .shape .given .1) (c .before .before .before .before .as-array .ensures) .1)) .within))
+
+pub index-spec : {M : Type 1} → statement M
+index-spec =
+    tie.close
+    (tie.spec
+    as-array-requires
+    enum-known-shape
+    enum-told
+    misfit-requires
+    returns
+    misfit-requires-2
+    returns-2
+    returns-3)

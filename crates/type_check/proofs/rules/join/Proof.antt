@@ -1,0 +1,78 @@
+-- `join` meets its contract: an array of all the groups' elements.
+use native.Mathlib.Omega.{arith}
+use Prim.Native.Nat.{_+_}
+use borrow.Author.Needs.{needs}
+use Rattle.type_check.proofs.RuleLaws.{join-no, join-flat, join-yes}
+use Rattle.type_check.proofs.Found.{found-no, found-as, array-bounds, product-bounds}
+use Rattle.type_table.specs.Laws.{sound-below, told-array, told-no-array}
+use Rattle.type_check.proofs.rules.join.Statement.{statement}
+use Rattle.type_check.proofs.rules.join.Tie as tie
+
+as-array-requires : tie.Need-as-array-requires
+as-array-requires c κs = sound-below (c .before .before .pre .0 .sound) (omega arith)
+
+enum-known-outer : tie.Need-enum-known-outer
+enum-known-outer c = search needs
+
+enum-told : tie.Need-enum-told
+enum-told c = search needs
+
+misfit-requires : tie.Need-misfit-requires
+misfit-requires c κs = search needs
+
+same-length : tie.Need-same-length
+same-length c = search needs
+
+returns : tie.Need-returns
+returns c = found-no _ _ _ _ _ _ (c .misfit .ensures) (join-no (c .before .before .before .before .before .before .args .line) _ (told-no-array (c .before .before .before .before .before .before .args .nodes .now) (c .before .before .before .before .before .before .args .place) (c .before .enum-told .given .1) (c .before .before .before .as-array .ensures)))
+
+as-array-requires-2 : tie.Need-as-array-requires-2
+as-array-requires-2 c κs = sound-below (c .before .before .before .before .before .before .before .pre .0 .sound) (omega (arith, c .before .before .before .before .before .before .before .pre .1, told-array (c .before .before .before .before .before .before .before .args .nodes .now) (c .before .before .before .before .before .before .before .args .place) (c .before .before .outer .given .1) (c .before .before .before .before .as-array .ensures) .1))
+
+enum-known-inner : tie.Need-enum-known-inner
+enum-known-inner c = search needs
+
+enum-told-2 : tie.Need-enum-told-2
+enum-told-2 c = search needs
+
+misfit-requires-2 : tie.Need-misfit-requires-2
+misfit-requires-2 c κs = search needs
+
+same-length-2 : tie.Need-same-length-2
+same-length-2 c = search needs
+
+returns-2 : tie.Need-returns-2
+returns-2 c = found-no _ _ _ _ _ _ (c .misfit2 .ensures) (join-flat (c .before .before .before .before .before .before .before .before .before .before .before .args .line) _ _ _ (told-array (c .before .before .before .before .before .before .before .before .before .before .before .args .nodes .now) (c .before .before .before .before .before .before .before .before .before .before .before .args .place) (c .before .before .before .before .before .before .outer .given .1) (c .before .before .before .before .before .before .before .before .as-array .ensures) .0) (told-no-array (c .before .before .before .before .before .before .before .before .before .before .before .args .nodes .now) (c .before .before .before .before .before .before .outer .given .0 .1 .0) (c .before .enum-told2 .given .1) (c .before .before .before .as-array2 .ensures)))
+
+mul-sized-array : tie.Need-mul-sized-array
+mul-sized-array c = let o = told-array (c .before .before .before .before .before .before .before .before .before .before .before .before .args .nodes .now) (c .before .before .before .before .before .before .before .before .before .before .before .before .args .place) (c .before .before .before .before .before .before .before .outer .given .1) (c .before .before .before .before .before .before .before .before .before .as-array .ensures) in let i = told-array (c .before .before .before .before .before .before .before .before .before .before .before .before .args .nodes .now) (c .before .before .before .before .before .before .before .outer .given .0 .1 .0) (c .before .before .inner .given .1) (c .before .before .before .before .as-array2 .ensures) in let b = product-bounds (c .before .before .before .before .before .before .before .outer .given .0 .0) (c .before .before .inner .given .0 .0) (array-bounds _ _ _ (o .0) (c .before .before .before .before .before .before .before .before .before .before .before .before .pre .0 .sound .each (c .before .before .before .before .before .before .before .before .before .before .before .before .args .place) (c .before .before .before .before .before .before .before .before .before .before .before .before .pre .1) .within)) (array-bounds _ _ _ (i .0) (c .before .before .before .before .before .before .before .before .before .before .before .before .pre .0 .sound .each (c .before .before .before .before .before .before .before .outer .given .0 .1 .0) (omega (arith, o .1, c .before .before .before .before .before .before .before .before .before .before .before .before .pre .1)) .within)) in record { fits = omega (arith, b .1) }
+
+sized-array-requires : tie.Need-sized-array-requires
+sized-array-requires c κs = let o = told-array (c .before .before .before .before .before .before .before .before .before .before .before .before .args .nodes .now) (c .before .before .before .before .before .before .before .before .before .before .before .before .args .place) (c .before .before .before .before .before .before .before .outer .given .1) (c .before .before .before .before .before .before .before .before .before .as-array .ensures) in let i = told-array (c .before .before .before .before .before .before .before .before .before .before .before .before .args .nodes .now) (c .before .before .before .before .before .before .before .outer .given .0 .1 .0) (c .before .before .inner .given .1) (c .before .before .before .before .as-array2 .ensures) in let b = product-bounds (c .before .before .before .before .before .before .before .outer .given .0 .0) (c .before .before .inner .given .0 .0) (array-bounds _ _ _ (o .0) (c .before .before .before .before .before .before .before .before .before .before .before .before .pre .0 .sound .each (c .before .before .before .before .before .before .before .before .before .before .before .before .args .place) (c .before .before .before .before .before .before .before .before .before .before .before .before .pre .1) .within)) (array-bounds _ _ _ (i .0) (c .before .before .before .before .before .before .before .before .before .before .before .before .pre .0 .sound .each (c .before .before .before .before .before .before .before .outer .given .0 .1 .0) (omega (arith, o .1, c .before .before .before .before .before .before .before .before .before .before .before .before .pre .1)) .within)) in (c .before .before .before .before .before .before .before .before .before .before .before .before .pre .0, omega (arith, c .before .before .before .before .before .before .before .before .before .before .before .before .pre .1, o .1, i .1), b .0, b .1)
+
+same-length-3 : tie.Need-same-length-3
+same-length-3 c = search needs
+
+returns-3 : tie.Need-returns-3
+returns-3 c = found-as (c .before .before .before .before .before .before .before .before .before .before .before .before .before .before .before .args .nodes .now) (c .before .before .before .before .before .before .before .before .before .before .before .before .before .before .before .args .len) (c .before .before .sized-array .last .0) (c .before .before .before .before .before .before .before .before .before .before .before .before .before .before .before .args .len + 1) (c .before .before .before .before .before .before .before .before .before .before .before .before .before .before .before .args .len + 1) (c .before .before .before .before .before .before .before .before .before .before .before .before .before .before .before .args .rows) _ _ (c .before .before .sized-array .result) (omega arith) (join-yes (c .before .before .before .before .before .before .before .before .before .before .before .before .before .before .before .args .line) _ _ _ _ _ (told-array (c .before .before .before .before .before .before .before .before .before .before .before .before .before .before .before .args .nodes .now) (c .before .before .before .before .before .before .before .before .before .before .before .before .before .before .before .args .place) (c .before .before .before .before .before .before .before .before .before .before .outer .given .1) (c .before .before .before .before .before .before .before .before .before .before .before .before .as-array .ensures) .0) (told-array (c .before .before .before .before .before .before .before .before .before .before .before .before .before .before .before .args .nodes .now) (c .before .before .before .before .before .before .before .before .before .before .outer .given .0 .1 .0) (c .before .before .before .before .before .inner .given .1) (c .before .before .before .before .before .before .before .as-array2 .ensures) .0)) (c .before .before .sized-array .ensures)
+
+pub join-spec : {M : Type 1} → statement M
+join-spec =
+    tie.close
+    (tie.spec
+    as-array-requires
+    enum-known-outer
+    enum-told
+    misfit-requires
+    same-length
+    returns
+    as-array-requires-2
+    enum-known-inner
+    enum-told-2
+    misfit-requires-2
+    same-length-2
+    returns-2
+    mul-sized-array
+    sized-array-requires
+    same-length-3
+    returns-3)

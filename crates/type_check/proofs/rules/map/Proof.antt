@@ -1,0 +1,50 @@
+-- `map` meets its contract: an array of as many as the array has, of the body's type.
+use native.Mathlib.Omega.{arith}
+use Prim.Native.Nat.{_+_}
+use borrow.Author.Needs.{needs}
+use Rattle.type_check.proofs.RuleLaws.{map-no, map-yes}
+use Rattle.type_check.proofs.Found.{found-no, found-as, array-bounds}
+use Rattle.type_table.specs.Laws.{sound-below, told-array, told-no-array}
+use Rattle.type_check.proofs.rules.map.Statement.{statement}
+use Rattle.type_check.proofs.rules.map.Tie as tie
+
+as-array-requires : tie.Need-as-array-requires
+as-array-requires c κs = sound-below (c .before .before .pre .0 .sound) (omega arith)
+
+enum-known-shape : tie.Need-enum-known-shape
+enum-known-shape c = search needs
+
+enum-told : tie.Need-enum-told
+enum-told c = search needs
+
+misfit-requires : tie.Need-misfit-requires
+misfit-requires c κs = search needs
+
+same-length : tie.Need-same-length
+same-length c = search needs
+
+returns : tie.Need-returns
+returns c = found-no _ _ _ _ _ _ (c .misfit .ensures) (map-no (c .before .before .before .before .before .before .args .line) _ _ (told-no-array (c .before .before .before .before .before .before .args .nodes .now) (c .before .before .before .before .before .before .args .array) (c .before .enum-told .given .1) (c .before .before .before .as-array .ensures)))
+
+sized-array-requires : tie.Need-sized-array-requires
+sized-array-requires c κs = let b = array-bounds _ _ _ (told-array (c .before .before .before .before .before .before .before .args .nodes .now) (c .before .before .before .before .before .before .before .args .array) (c .before .before .shape .given .1) (c .before .before .before .before .as-array .ensures) .0) (c .before .before .before .before .before .before .before .pre .0 .sound .each (c .before .before .before .before .before .before .before .args .array) (c .before .before .before .before .before .before .before .pre .1) .within) in (c .before .before .before .before .before .before .before .pre .0, c .before .before .before .before .before .before .before .pre .2, b .0, omega (arith, b .1))
+
+same-length-2 : tie.Need-same-length-2
+same-length-2 c = search needs
+
+returns-2 : tie.Need-returns-2
+returns-2 c = found-as (c .before .before .before .before .before .before .before .before .before .before .args .nodes .now) (c .before .before .before .before .before .before .before .before .before .before .args .len) (c .before .before .sized-array .last .0) (c .before .before .before .before .before .before .before .before .before .before .args .len + 1) (c .before .before .before .before .before .before .before .before .before .before .args .len + 1) (c .before .before .before .before .before .before .before .before .before .before .args .rows) _ _ (c .before .before .sized-array .result) (omega arith) (map-yes (c .before .before .before .before .before .before .before .before .before .before .args .line) _ _ _ _ (told-array (c .before .before .before .before .before .before .before .before .before .before .args .nodes .now) (c .before .before .before .before .before .before .before .before .before .before .args .array) (c .before .before .before .before .before .shape .given .1) (c .before .before .before .before .before .before .before .as-array .ensures) .0)) (c .before .before .sized-array .ensures)
+
+pub map-spec : {M : Type 1} → statement M
+map-spec =
+    tie.close
+    (tie.spec
+    as-array-requires
+    enum-known-shape
+    enum-told
+    misfit-requires
+    same-length
+    returns
+    sized-array-requires
+    same-length-2
+    returns-2)

@@ -1,0 +1,31 @@
+-- `second` meets its contract: a pair within the limits has its types within them.
+use native.Mathlib.Omega.{arith}
+use borrow.Author.Needs.{needs}
+use Rattle.type_check.proofs.RuleLaws.{second-no, second-yes}
+use Rattle.type_check.proofs.Found.{found-no, found-type}
+use Rattle.type_table.specs.Laws.{sound-below, told-pair, told-no-pair}
+use Rattle.type_check.proofs.rules.second.Statement.{statement}
+use Rattle.type_check.proofs.rules.second.Tie as tie
+
+as-pair-requires : tie.Need-as-pair-requires
+as-pair-requires c κs = sound-below (c .before .pre .0 .sound) (omega arith)
+
+enum-known-shape : tie.Need-enum-known-shape
+enum-known-shape c = search needs
+
+enum-told : tie.Need-enum-told
+enum-told c = search needs
+
+misfit-requires : tie.Need-misfit-requires
+misfit-requires c κs = search needs
+
+returns : tie.Need-returns
+returns c = found-no _ _ _ _ _ _ (c .misfit .ensures) (second-no (c .before .before .before .before .before .args .line) _ (told-no-pair (c .before .before .before .before .before .args .nodes .now) (c .before .before .before .before .before .args .place) (c .before .enum-told .given .1) (c .before .before .before .as-pair .ensures)))
+
+returns-2 : tie.Need-returns-2
+returns-2 c = found-type (c .before .before .before .before .before .args .nodes .now) (c .before .before .before .before .before .args .len) (c .before .before .before .before .before .args .len) (c .before .before .before .before .before .args .rows) _ _ (c .before .before .before .before .before .pre .0 .sound) (omega (arith, c .before .before .before .before .before .pre .1, told-pair (c .before .before .before .before .before .args .nodes .now) (c .before .before .before .before .before .args .place) (c .before .shape .given .1) (c .before .before .before .as-pair .ensures) .2)) (omega arith) (second-yes (c .before .before .before .before .before .args .line) _ _ _ (told-pair (c .before .before .before .before .before .args .nodes .now) (c .before .before .before .before .before .args .place) (c .before .shape .given .1) (c .before .before .before .as-pair .ensures) .0) (c .before .before .before .before .before .pre .0 .sound .each _ (omega (arith, c .before .before .before .before .before .pre .1, told-pair (c .before .before .before .before .before .args .nodes .now) (c .before .before .before .before .before .args .place) (c .before .shape .given .1) (c .before .before .before .as-pair .ensures) .2)) .within))
+
+pub second-spec : {M : Type 1} → statement M
+second-spec =
+    tie.close
+    (tie.spec as-pair-requires enum-known-shape enum-told misfit-requires returns returns-2)

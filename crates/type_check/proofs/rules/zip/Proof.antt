@@ -1,0 +1,110 @@
+-- `zip` meets its contract: an array of pairs of the elements; a pair that is too big makes the whole too big.
+use native.Mathlib.Omega.{arith}
+use mathlib.Core.Path.{ap, _∙_}
+use Prim.Native.Nat.{_+_}
+use borrow.Author.Needs.{needs}
+use Rattle.type_check.proofs.RuleLaws.{zip-left, zip-right, zip-lengths, zip-yes}
+use Rattle.type_check.proofs.Found.{found-no, found-on, was-typed, was-refused, array-refused, sized-typed, array-bounds, room-less, room-grown}
+use Rattle.typing.specs.Check.{sized}
+use Rattle.type_table.specs.Table.{typeAt}
+use Rattle.type_table.specs.Laws.{sound-below, told-array, told-no-array}
+use Rattle.meaning.specs.Types.{DataType, array}
+use Rattle.type_check.proofs.rules.zip.Statement.{statement}
+use Rattle.type_check.proofs.rules.zip.Tie as tie
+
+as-array-requires : tie.Need-as-array-requires
+as-array-requires c κs = sound-below (c .before .before .pre .0 .sound) (omega arith)
+
+enum-known-one : tie.Need-enum-known-one
+enum-known-one c = search needs
+
+enum-told : tie.Need-enum-told
+enum-told c = search needs
+
+misfit-requires : tie.Need-misfit-requires
+misfit-requires c κs = search needs
+
+same-length : tie.Need-same-length
+same-length c = search needs
+
+returns : tie.Need-returns
+returns c = found-no _ _ _ _ _ _ (c .misfit .ensures) (zip-left (c .before .before .before .before .before .before .args .line) _ _ (told-no-array (c .before .before .before .before .before .before .args .nodes .now) (c .before .before .before .before .before .before .args .left) (c .before .enum-told .given .1) (c .before .before .before .as-array .ensures)))
+
+as-array-requires-2 : tie.Need-as-array-requires-2
+as-array-requires-2 c κs = sound-below (c .before .before .before .before .before .before .before .pre .0 .sound) (omega (arith, c .before .before .before .before .before .before .before .pre .2))
+
+enum-known-other : tie.Need-enum-known-other
+enum-known-other c = search needs
+
+enum-told-2 : tie.Need-enum-told-2
+enum-told-2 c = search needs
+
+misfit-requires-2 : tie.Need-misfit-requires-2
+misfit-requires-2 c κs = search needs
+
+same-length-2 : tie.Need-same-length-2
+same-length-2 c = search needs
+
+returns-2 : tie.Need-returns-2
+returns-2 c = found-no _ _ _ _ _ _ (c .misfit2 .ensures) (zip-right (c .before .before .before .before .before .before .before .before .before .before .before .args .line) _ _ _ _ (told-array (c .before .before .before .before .before .before .before .before .before .before .before .args .nodes .now) (c .before .before .before .before .before .before .before .before .before .before .before .args .left) (c .before .before .before .before .before .before .one .given .1) (c .before .before .before .before .before .before .before .before .as-array .ensures) .0) (told-no-array (c .before .before .before .before .before .before .before .before .before .before .before .args .nodes .now) (c .before .before .before .before .before .before .before .before .before .before .before .args .right) (c .before .enum-told2 .given .1) (c .before .before .before .as-array2 .ensures)))
+
+misfit-requires-3 : tie.Need-misfit-requires-3
+misfit-requires-3 c κs = search needs
+
+same-length-3 : tie.Need-same-length-3
+same-length-3 c = search needs
+
+returns-3 : tie.Need-returns-3
+returns-3 c = found-no _ _ _ _ _ _ (c .misfit3 .ensures) (zip-lengths (c .before .before .before .before .before .before .before .before .before .before .before .before .before .args .line) _ _ _ _ _ _ (told-array (c .before .before .before .before .before .before .before .before .before .before .before .before .before .args .nodes .now) (c .before .before .before .before .before .before .before .before .before .before .before .before .before .args .left) (c .before .before .before .before .before .before .before .before .one .given .1) (c .before .before .before .before .before .before .before .before .before .before .as-array .ensures) .0) (told-array (c .before .before .before .before .before .before .before .before .before .before .before .before .before .args .nodes .now) (c .before .before .before .before .before .before .before .before .before .before .before .before .before .args .right) (c .before .before .before .other .given .1) (c .before .before .before .before .before .as-array2 .ensures) .0) (c .before .if1 .taken))
+
+sized-pair-requires : tie.Need-sized-pair-requires
+sized-pair-requires c κs = (room-less (c .before .before .before .before .before .before .before .before .before .before .before .before .before .pre .0) (omega arith), omega (arith, c .before .before .before .before .before .before .before .before .before .before .before .before .before .pre .1, told-array (c .before .before .before .before .before .before .before .before .before .before .before .before .before .args .nodes .now) (c .before .before .before .before .before .before .before .before .before .before .before .before .before .args .left) (c .before .before .before .before .before .before .before .before .one .given .1) (c .before .before .before .before .before .before .before .before .before .before .as-array .ensures) .1), omega (arith, c .before .before .before .before .before .before .before .before .before .before .before .before .before .pre .2, told-array (c .before .before .before .before .before .before .before .before .before .before .before .before .before .args .nodes .now) (c .before .before .before .before .before .before .before .before .before .before .before .before .before .args .right) (c .before .before .before .other .given .1) (c .before .before .before .before .before .as-array2 .ensures) .1))
+
+enum-known-pair : tie.Need-enum-known-pair
+enum-known-pair c = search needs
+
+enum-told-3 : tie.Need-enum-told-3
+enum-told-3 c = search needs
+
+same-length-4 : tie.Need-same-length-4
+same-length-4 c = search needs
+
+returns-4 : tie.Need-returns-4
+returns-4 c = found-no _ _ _ _ _ _ (c .enum-told3 .given .1) (zip-yes (c .before .before .before .before .before .before .before .before .before .before .before .before .before .before .before .before .before .before .args .line) _ _ _ _ _ _ (told-array (c .before .before .before .before .before .before .before .before .before .before .before .before .before .before .before .before .before .before .args .nodes .now) (c .before .before .before .before .before .before .before .before .before .before .before .before .before .before .before .before .before .before .args .left) (c .before .before .before .before .before .before .before .before .before .before .before .before .before .one .given .1) (c .before .before .before .before .before .before .before .before .before .before .before .before .before .before .before .as-array .ensures) .0) (told-array (c .before .before .before .before .before .before .before .before .before .before .before .before .before .before .before .before .before .before .args .nodes .now) (c .before .before .before .before .before .before .before .before .before .before .before .before .before .before .before .before .before .before .args .right) (c .before .before .before .before .before .before .before .before .other .given .1) (c .before .before .before .before .before .before .before .before .before .before .as-array2 .ensures) .0) (c .before .before .before .before .before .before .if1 .left) ∙ array-refused (c .before .before .before .before .before .before .before .before .before .before .before .before .before .before .before .before .before .before .args .line) (c .before .before .before .before .before .before .before .before .before .before .before .before .before .one .given .0 .0) (DataType.pair (typeAt (c .before .before .before .before .before .before .before .before .before .before .before .before .before .before .before .before .before .before .args .nodes .now) (c .before .before .before .before .before .before .before .before .before .before .before .before .before .one .given .0 .1 .0)) (typeAt (c .before .before .before .before .before .before .before .before .before .before .before .before .before .before .before .before .before .before .args .nodes .now) (c .before .before .before .before .before .before .before .before .other .given .0 .1 .0))) _ (array-bounds (c .before .before .before .before .before .before .before .before .before .before .before .before .before .one .given .0 .0) (typeAt (c .before .before .before .before .before .before .before .before .before .before .before .before .before .before .before .before .before .before .args .nodes .now) (c .before .before .before .before .before .before .before .before .before .before .before .before .before .one .given .0 .1 .0)) (typeAt (c .before .before .before .before .before .before .before .before .before .before .before .before .before .before .before .before .before .before .args .nodes .now) (c .before .before .before .before .before .before .before .before .before .before .before .before .before .before .before .before .before .before .args .left)) (told-array (c .before .before .before .before .before .before .before .before .before .before .before .before .before .before .before .before .before .before .args .nodes .now) (c .before .before .before .before .before .before .before .before .before .before .before .before .before .before .before .before .before .before .args .left) (c .before .before .before .before .before .before .before .before .before .before .before .before .before .one .given .1) (c .before .before .before .before .before .before .before .before .before .before .before .before .before .before .before .as-array .ensures) .0) (c .before .before .before .before .before .before .before .before .before .before .before .before .before .before .before .before .before .before .pre .0 .sound .each (c .before .before .before .before .before .before .before .before .before .before .before .before .before .before .before .before .before .before .args .left) (c .before .before .before .before .before .before .before .before .before .before .before .before .before .before .before .before .before .before .pre .1) .within) .0) (was-refused (c .before .before .before .before .before .before .before .before .before .before .before .before .before .before .before .before .before .before .args .nodes .now) (c .before .before .before .before .before .before .before .before .before .before .before .before .before .before .before .before .before .before .args .len) (c .before .before .before .before .sized-pair .last .0) (c .before .before .before .before .before .before .before .before .before .before .before .before .before .before .before .before .before .before .args .len + 1) (c .before .before .before .before .before .before .before .before .before .before .before .before .before .before .before .before .before .before .args .rows) (sized (c .before .before .before .before .before .before .before .before .before .before .before .before .before .before .before .before .before .before .args .line) (DataType.pair (typeAt (c .before .before .before .before .before .before .before .before .before .before .before .before .before .before .before .before .before .before .args .nodes .now) (c .before .before .before .before .before .before .before .before .before .before .before .before .before .one .given .0 .1 .0)) (typeAt (c .before .before .before .before .before .before .before .before .before .before .before .before .before .before .before .before .before .before .args .nodes .now) (c .before .before .before .before .before .before .before .before .other .given .0 .1 .0)))) (c .enum-told3 .given .1) (c .before .before .before .before .sized-pair .ensures)))
+
+sized-array-requires : tie.Need-sized-array-requires
+sized-array-requires c κs = let w = was-typed (c .before .before .before .before .before .before .before .before .before .before .before .before .before .before .before .before .before .before .before .before .args .nodes .now) (c .before .before .before .before .before .before .before .before .before .before .before .before .before .before .before .before .before .before .before .before .args .len) (c .before .before .before .before .before .before .sized-pair .last .0) (c .before .before .before .before .before .before .before .before .before .before .before .before .before .before .before .before .before .before .before .before .args .len + 1) (c .before .before .before .before .before .before .before .before .before .before .before .before .before .before .before .before .before .before .before .before .args .rows) (sized (c .before .before .before .before .before .before .before .before .before .before .before .before .before .before .before .before .before .before .before .before .args .line) (DataType.pair (typeAt (c .before .before .before .before .before .before .before .before .before .before .before .before .before .before .before .before .before .before .before .before .args .nodes .now) (c .before .before .before .before .before .before .before .before .before .before .before .before .before .before .before .one .given .0 .1 .0)) (typeAt (c .before .before .before .before .before .before .before .before .before .before .before .before .before .before .before .before .before .before .before .before .args .nodes .now) (c .before .before .before .before .before .before .before .before .before .before .other .given .0 .1 .0)))) (c .before .before .pair .given .1) (c .before .before .before .before .before .before .sized-pair .ensures) in let b = array-bounds _ _ _ (told-array (c .before .before .before .before .before .before .before .before .before .before .before .before .before .before .before .before .before .before .before .before .args .nodes .now) (c .before .before .before .before .before .before .before .before .before .before .before .before .before .before .before .before .before .before .before .before .args .left) (c .before .before .before .before .before .before .before .before .before .before .before .before .before .before .before .one .given .1) (c .before .before .before .before .before .before .before .before .before .before .before .before .before .before .before .before .before .as-array .ensures) .0) (c .before .before .before .before .before .before .before .before .before .before .before .before .before .before .before .before .before .before .before .before .pre .0 .sound .each (c .before .before .before .before .before .before .before .before .before .before .before .before .before .before .before .before .before .before .before .before .args .left) (c .before .before .before .before .before .before .before .before .before .before .before .before .before .before .before .before .before .before .before .before .pre .1) .within) in (room-grown 2 1 (c .before .before .before .before .before .before .before .before .before .before .before .before .before .before .before .before .before .before .before .before .pre .0) (w .4) (omega (arith, w .3)), w .2, b .0, omega (arith, b .1))
+
+same-length-5 : tie.Need-same-length-5
+same-length-5 c = search needs
+
+returns-5 : tie.Need-returns-5
+returns-5 c = let w = was-typed (c .before .before .before .before .before .before .before .before .before .before .before .before .before .before .before .before .before .before .before .before .before .before .before .args .nodes .now) (c .before .before .before .before .before .before .before .before .before .before .before .before .before .before .before .before .before .before .before .before .before .before .before .args .len) (c .before .before .before .before .before .before .before .before .before .sized-pair .last .0) (c .before .before .before .before .before .before .before .before .before .before .before .before .before .before .before .before .before .before .before .before .before .before .before .args .len + 1) (c .before .before .before .before .before .before .before .before .before .before .before .before .before .before .before .before .before .before .before .before .before .before .before .args .rows) (sized (c .before .before .before .before .before .before .before .before .before .before .before .before .before .before .before .before .before .before .before .before .before .before .before .args .line) (DataType.pair (typeAt (c .before .before .before .before .before .before .before .before .before .before .before .before .before .before .before .before .before .before .before .before .before .before .before .args .nodes .now) (c .before .before .before .before .before .before .before .before .before .before .before .before .before .before .before .before .before .before .one .given .0 .1 .0)) (typeAt (c .before .before .before .before .before .before .before .before .before .before .before .before .before .before .before .before .before .before .before .before .before .before .before .args .nodes .now) (c .before .before .before .before .before .before .before .before .before .before .before .before .before .other .given .0 .1 .0)))) (c .before .before .before .before .before .pair .given .1) (c .before .before .before .before .before .before .before .before .before .sized-pair .ensures) in found-on (c .before .before .before .before .before .before .before .before .before .before .before .before .before .before .before .before .before .before .before .before .before .before .before .args .nodes .now) (c .before .before .before .before .before .before .before .before .before .before .before .before .before .before .before .before .before .before .before .before .before .before .before .args .len) (c .before .before .before .before .before .before .before .before .before .sized-pair .last .0) (c .before .before .before .before .before .pair .given .0 .1 .1 .0) (c .before .before .sized-array .last .0) (c .before .before .before .before .before .pair .given .0 .1 .1 .0 + 1) (c .before .before .before .before .before .before .before .before .before .before .before .before .before .before .before .before .before .before .before .before .before .before .before .args .len + 2) (c .before .before .before .before .before .before .before .before .before .before .before .before .before .before .before .before .before .before .before .before .before .before .before .args .rows) _ _ (c .before .before .sized-array .result) (w .4) (omega (arith, w .3)) (zip-yes (c .before .before .before .before .before .before .before .before .before .before .before .before .before .before .before .before .before .before .before .before .before .before .before .args .line) _ _ _ _ _ _ (told-array (c .before .before .before .before .before .before .before .before .before .before .before .before .before .before .before .before .before .before .before .before .before .before .before .args .nodes .now) (c .before .before .before .before .before .before .before .before .before .before .before .before .before .before .before .before .before .before .before .before .before .before .before .args .left) (c .before .before .before .before .before .before .before .before .before .before .before .before .before .before .before .before .before .before .one .given .1) (c .before .before .before .before .before .before .before .before .before .before .before .before .before .before .before .before .before .before .before .before .as-array .ensures) .0) (told-array (c .before .before .before .before .before .before .before .before .before .before .before .before .before .before .before .before .before .before .before .before .before .before .before .args .nodes .now) (c .before .before .before .before .before .before .before .before .before .before .before .before .before .before .before .before .before .before .before .before .before .before .before .args .right) (c .before .before .before .before .before .before .before .before .before .before .before .before .before .other .given .1) (c .before .before .before .before .before .before .before .before .before .before .before .before .before .before .before .as-array2 .ensures) .0) (c .before .before .before .before .before .before .before .before .before .before .before .if1 .left) ∙ ap (λ (u : DataType). sized (c .before .before .before .before .before .before .before .before .before .before .before .before .before .before .before .before .before .before .before .before .before .before .before .args .line) (array (c .before .before .before .before .before .before .before .before .before .before .before .before .before .before .before .before .before .before .one .given .0 .0) u)) (sized-typed (c .before .before .before .before .before .before .before .before .before .before .before .before .before .before .before .before .before .before .before .before .before .before .before .args .line) (DataType.pair (typeAt (c .before .before .before .before .before .before .before .before .before .before .before .before .before .before .before .before .before .before .before .before .before .before .before .args .nodes .now) (c .before .before .before .before .before .before .before .before .before .before .before .before .before .before .before .before .before .before .one .given .0 .1 .0)) (typeAt (c .before .before .before .before .before .before .before .before .before .before .before .before .before .before .before .before .before .before .before .before .before .before .before .args .nodes .now) (c .before .before .before .before .before .before .before .before .before .before .before .before .before .other .given .0 .1 .0))) (typeAt (c .before .before .before .before .before .before .before .before .before .sized-pair .last .0) (c .before .before .before .before .before .pair .given .0 .0)) (w .0))) (c .before .before .sized-array .ensures)
+
+pub zip-spec : {M : Type 1} → statement M
+zip-spec =
+    tie.close
+    (tie.spec
+    as-array-requires
+    enum-known-one
+    enum-told
+    misfit-requires
+    same-length
+    returns
+    as-array-requires-2
+    enum-known-other
+    enum-told-2
+    misfit-requires-2
+    same-length-2
+    returns-2
+    misfit-requires-3
+    same-length-3
+    returns-3
+    sized-pair-requires
+    enum-known-pair
+    enum-told-3
+    same-length-4
+    returns-4
+    sized-array-requires
+    same-length-5
+    returns-5)

@@ -1,0 +1,42 @@
+-- `third` meets its contract: the total is variable 0, the element variable 1.
+use native.Mathlib.Omega.{arith}
+use mathlib.Core.Path.{sym}
+use borrow.Author.Needs.{needs}
+use Rattle.type_check.proofs.ScopeLaws.{array-opens, never-true}
+use Rattle.type_check.proofs.RuleLaws.{no-array}
+use Rattle.type_table.specs.Laws.{told-array, told-no-array}
+use Rattle.type_check.proofs.scope.third.Statement.{statement}
+use Rattle.type_check.proofs.scope.third.Tie as tie
+
+as-array-requires : tie.Need-as-array-requires
+as-array-requires c κs = c .before .pre .1
+
+enum-known-shape : tie.Need-enum-known-shape
+enum-known-shape c = search needs
+
+enum-told : tie.Need-enum-told
+enum-told c = search needs
+
+returns : tie.Need-returns
+returns c = (sym (no-array _ (told-no-array (c .before .before .before .before .args .nodes .now) (c .before .before .before .before .args .array) (c .enum-told .given .1) (c .before .before .as-array .ensures))), λ m I Γ e h k F. never-true e)
+
+with-variable-requires : tie.Need-with-variable-requires
+with-variable-requires c κs = (omega (arith, c .before .before .before .before .before .pre .2), omega (arith, c .before .before .before .before .before .pre .1 .few, told-array (c .before .before .before .before .before .args .nodes .now) (c .before .before .before .before .before .args .array) (c .before .shape .given .1) (c .before .before .before .as-array .ensures) .1))
+
+with-variable-requires-2 : tie.Need-with-variable-requires-2
+with-variable-requires-2 c κs = (omega (arith, c .before .before .before .before .before .before .pre .2, c .with-variable .ensures .0), omega (arith, c .before .before .before .before .before .before .pre .0 .few))
+
+returns-2 : tie.Need-returns-2
+returns-2 c = (array-opens _ _ _ (told-array (c .before .before .before .before .before .before .before .args .nodes .now) (c .before .before .before .before .before .before .before .args .array) (c .before .before .before .shape .given .1) (c .before .before .before .before .before .as-array .ensures) .0), λ m I Γ e h k F. rw (told-array (c .before .before .before .before .before .before .before .args .nodes .now) (c .before .before .before .before .before .before .before .args .array) (c .before .before .before .shape .given .1) (c .before .before .before .before .before .as-array .ensures) .0) (c .with-variable2 .ensures .1 (c .before .before .before .before .before .before .before .args .nodes .now) m I _ (c .before .with-variable .ensures .1 (c .before .before .before .before .before .before .before .args .nodes .now) m I Γ F (omega (arith, told-array (c .before .before .before .before .before .before .before .args .nodes .now) (c .before .before .before .before .before .before .before .args .array) (c .before .before .before .shape .given .1) (c .before .before .before .before .before .as-array .ensures) .1))) h))
+
+pub third-spec : {M : Type 1} → statement M
+third-spec =
+    tie.close
+    (tie.spec
+    as-array-requires
+    enum-known-shape
+    enum-told
+    returns
+    with-variable-requires
+    with-variable-requires-2
+    returns-2)

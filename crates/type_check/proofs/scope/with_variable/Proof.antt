@@ -1,0 +1,25 @@
+-- `with_variable` meets its contract: the place is stored behind the others.
+use mathlib.Core.Path.{refl}
+use borrow.Author.Needs.{needs}
+use Rattle.type_check.proofs.ScopeLaws.{one-more}
+use Rattle.type_check.proofs.scope.with_variable.Statement.{statement}
+use Rattle.type_check.proofs.scope.with_variable.Tie as tie
+
+cast-variables : tie.Need-cast-variables
+cast-variables c = search needs
+
+mul-variables : tie.Need-mul-variables
+mul-variables c = search needs
+
+array-write-variables : tie.Need-array-write-variables
+array-write-variables c = search needs
+
+add-t7 : tie.Need-add-t7
+add-t7 c = search needs
+
+returns : tie.Need-returns
+returns c = (refl, λ T m I Γ F h. one-more T m (c .before .before .args .scope) I Γ (c .before .before .args .place) F h (c .before .before .pre .0))
+
+pub with-variable-spec : {M : Type 1} → statement M
+with-variable-spec =
+    tie.close (tie.spec cast-variables mul-variables array-write-variables add-t7 returns)

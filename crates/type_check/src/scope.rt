@@ -1,0 +1,90 @@
+// The names in force: which types the inputs and the variables have.
+ghost use mathlib.Core.Path.{_≡_};
+ghost use mathlib.Core.Bool.{true};
+ghost use mathlib.Core.List.{List, _∷_};
+ghost use Prim.Native.Nat.{ℕ, suc, _+_, _<_};
+ghost use lib.ListN.{length, getD};
+ghost use Rattle.meaning.specs.Types.{DataType, element};
+ghost use Rattle.type_table.specs.Table.{typeAt, Sound};
+ghost use Rattle.typing.specs.Check.{isArray};
+ghost use Rattle.type_check.specs.Rules.{isMap, opensSecond, secondScope};
+ghost use Rattle.type_check.specs.Scopes.{InForce};
+use type_table::ArrayShape;
+use words::kinds::*;
+
+// Places of types: of each input, and of each variable, the innermost last.
+pub struct Scope {
+    pub inputs: [u16; 8],
+    pub variables: [u16; 16],
+    pub count: usize,
+}
+
+// One more variable, of the type at a place.
+pub fn with_variable(scope: Scope, place: usize) -> Scope
+    requires { ⌜ (scope .count < 16) × (place < 65536) ⌝ }
+    ensures one { λ r. ⌜ r .count ≡ scope .count + 1 ⌝ }
+    ensures named { λ r. ⌜ ((T : List ℕ) (m : ℕ) (I Γ : List DataType) → InForce T m scope I Γ → place < m → InForce T m r I (typeAt T place ∷ Γ)) ⌝ }
+{
+    let inputs = scope.inputs;
+    let mut variables = scope.variables;
+    let count = scope.count;
+    variables[count] = place as u16;
+    Scope {
+        inputs,
+        variables,
+        count: count + 1,
+    }
+}
+
+// The names in force in an operand, and whether there is such an operand: a body stands over an array.
+pub struct Opened {
+    pub fits: bool,
+    pub scope: Scope,
+}
+
+fn is_map(kind: u8) -> bool
+    ensures { λ r. ⌜ r ≡ isMap kind ⌝ }
+{
+    if kind == WORD_MAPPAR {
+        return true;
+    }
+    kind == WORD_MAPSEQ
+}
+
+// The names in force in a row's second operand, the first having the type at a place: a map's body has the element.
+pub fn second(kind: u8, scope: Scope, nodes: &[u64], place: usize) -> Opened
+    requires { ⌜ Sound (now nodes) (suc place) × (isMap kind ≡ true → scope .count < 16) ⌝ }
+    ensures { λ r. ⌜ (r .fits ≡ opensSecond kind (typeAt (now (nodes .entry)) place))
+        × ((m : ℕ) (I Γ : List DataType) → r .fits ≡ true → place < m → InForce (now (nodes .entry)) m scope I Γ
+        → InForce (now (nodes .entry)) m (r .scope) I (secondScope kind (typeAt (now (nodes .entry)) place) Γ)) ⌝ }
+{
+    if !is_map(kind) {
+        return Opened { fits: true, scope };
+    }
+    let shape = type_table::as_array(nodes, place);
+    let ArrayShape::Array { length: _, element } = shape else {
+        return Opened { fits: false, scope };
+    };
+    Opened {
+        fits: true,
+        scope: with_variable(scope, element),
+    }
+}
+
+// The names in force in the body of a reduction: the total has the start's type, and below it stands the element.
+pub fn third(scope: Scope, nodes: &[u64], start: usize, array: usize) -> Opened
+    requires { ⌜ Sound (now nodes) (suc start) × Sound (now nodes) (suc array) × (scope .count < 15) ⌝ }
+    ensures { λ r. ⌜ (r .fits ≡ isArray (typeAt (now (nodes .entry)) array))
+        × ((m : ℕ) (I Γ : List DataType) → r .fits ≡ true → start < m → array < m → InForce (now (nodes .entry)) m scope I Γ
+        → InForce (now (nodes .entry)) m (r .scope) I (typeAt (now (nodes .entry)) start ∷ element (typeAt (now (nodes .entry)) array) ∷ Γ)) ⌝ }
+{
+    let shape = type_table::as_array(nodes, array);
+    let ArrayShape::Array { length: _, element } = shape else {
+        return Opened { fits: false, scope };
+    };
+    let inner = with_variable(scope, element);
+    Opened {
+        fits: true,
+        scope: with_variable(inner, start),
+    }
+}

@@ -1,0 +1,78 @@
+-- Questions 1 to 8 of document 01 as one list for a text, and 2 and 4 to 8 as one for rows, in the order in which they are put. That the
+-- check of a text or of rows is the first "no" of this list is said by `Theorems`. Definitions only; assumes nothing.
+use mathlib.Core.Bool.{Bool, true, false, not}
+use mathlib.Core.List.{List, [], _∷_, _++_}
+use Prim.Native.Nat.{ℕ, suc, _+_}
+use lib.Dec.{leb, ltb}
+use lib.ListN.{length}
+use Rattle.refusals.specs.declared.Refusal.the-variants.{TextForm, LineForm, LineCount, RowDue, NumberRange, NameCount}
+use Rattle.words.specs.Kinds.{Row, word-rest}
+use Rattle.words.specs.Words.{lookUp, operandsOf}
+use Rattle.words.specs.declared.Found.{Found}
+use Rattle.words.specs.declared.Operands.{Operands}
+use Rattle.words.specs.declared.Operands.the-variants.{Count, NotOfSort}
+use Rattle.words.specs.declared.Sort.the-variants as sort
+use Rattle.lines.specs.Reading.{linesOf, lineOf, rowsIn, closed}
+use Rattle.lines.specs.declared.Line.{Line}
+use Rattle.lines.specs.declared.Line.the-variants.{IsRow, NoRow}
+use Rattle.syntax.specs.declared.operands.Due.{Due}
+use Rattle.syntax.specs.Ranges.{asNatural, inRange}
+use Rattle.syntax.specs.Names.{noNames, openedBy, namesFit}
+use Rattle.syntax.specs.Operands.{inputsCounted, due, operandsDue}
+use Rattle.syntax.specs.Reading.{planOf}
+use Rattle.typing.specs.Questions.{Question, question}
+use Rattle.typing.specs.TypeQuestions.{planQuestions}
+
+-- ---- 1 to 3
+
+abbrev pub isRow : Line → Bool
+isRow (IsRow k z) = true
+isRow NoRow = false
+
+-- "Is every line a listed word, a comma and a well-written number? 2", n lines standing before these
+unfoldable pub lineQuestions : (List ℕ → Found) → ℕ → List (List ℕ) → List Question
+lineQuestions head n [] = []
+lineQuestions head n (l ∷ ls) = question (isRow (lineOf head l)) (LineForm (suc n)) ∷ lineQuestions head (suc n) ls
+
+-- "Is the text 1 to 4,096 bytes .., its last byte 10? 1" and "At most 256 lines ..? 3" around them
+unfoldable pub readQuestions : (List ℕ → Found) → List ℕ → List Question
+readQuestions head t =
+    question (closed 4096 t) TextForm
+    ∷ (lineQuestions head 0 (linesOf t) ++ (question (leb (length (linesOf t)) 256) LineCount ∷ []))
+
+-- ---- 4 to 6
+
+abbrev pub isOfSort : Operands → Bool
+isOfSort (Count m) = true
+isOfSort NotOfSort = false
+
+abbrev pub countOf : Operands → ℕ
+countOf (Count m) = m
+countOf NotOfSort = 0
+
+-- "Then per row, from the top": "Is a row of this sort due here? At the end, is none still due (line: last + 1)? 4", "Number in
+-- range ..? 5", names in force "and its own together: at most 16 variables ..? 6". p rows stand before these.
+unfoldable pub walkQuestions : ℕ → List Due → List Row → List Question
+walkQuestions p [] [] = []
+walkQuestions p [] (r ∷ rs) = question false (RowDue (suc p)) ∷ []
+walkQuestions p (d ∷ ds) [] = question false (RowDue (suc p)) ∷ []
+walkQuestions p (d ∷ ds) (r ∷ rs) =
+    question (isOfSort (operandsOf (r .0) (d .sort))) (RowDue (suc p))
+    ∷ question (inRange (d .sort) (d .names) (r .0) (asNatural (r .1))) (NumberRange (suc p))
+    ∷ question (namesFit (openedBy (r .0) (asNatural (r .1)) (d .names))) (NameCount (suc p))
+    ∷ walkQuestions (suc p)
+    (operandsDue d (r .0) (asNatural (r .1)) (inputsCounted (d .sort) (asNatural (r .1)) + countOf (operandsOf (r .0) (d .sort))) ++ ds)
+    rs
+
+-- question 2 of a table that was not read from a text: a text's kinds are words'
+unfoldable pub kindQuestions : ℕ → List Row → List Question
+kindQuestions p [] = []
+kindQuestions p (r ∷ rs) = question (not (ltb word-rest (r .0))) (LineForm (suc p)) ∷ kindQuestions (suc p) rs
+
+-- ---- all of them
+
+unfoldable pub rowQuestions : List Row → List Question
+rowQuestions R = (kindQuestions 0 R ++ walkQuestions 0 (due sort.Plan noNames ∷ []) R) ++ planQuestions (planOf R)
+
+unfoldable pub textQuestions : List (List ℕ) → List ℕ → List Question
+textQuestions ws t = readQuestions (lookUp ws) t ++ rowQuestions (rowsIn (lookUp ws) (linesOf t))

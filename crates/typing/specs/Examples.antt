@@ -1,0 +1,120 @@
+-- The bench cards of document 01 that the check of a plan answers, and examples of questions 7 and 8, computed on `checkText` from
+-- their texts. Facts about the definitions, none of them a definition to believe; assumes nothing.
+use mathlib.Core.Path.{_≡_, refl}
+use mathlib.Core.Bool.{cond}
+use mathlib.Core.List.{List, [], _∷_, _++_, map}
+use Prim.Native.Nat.{ℕ}
+use Prim.Native.String.{String}
+use lib.Dec.{eqb}
+use Rattle.refusals.specs.Refusals.{numberOf, lineOf}
+use Rattle.words.specs.Words.{bytes, table, words, sameLetters, lookFrom, operandsOf}
+use Rattle.numerals.specs.Numerals.{allDigits, value, leadingZero, unsigned, notBelowZero, belowZero, numberOf as numeralOf}
+use Rattle.lines.specs.Reading.{linesOf, placeOf, lineOf as rowOf, rowsIn, formed, reading}
+use Rattle.meaning.specs.Rows.{typeRows, allTypeRows, termRows}
+use Rattle.syntax.specs.declared.Answer.{Answer}
+use Rattle.syntax.specs.declared.Answer.the-variants.{Passed, Refused}
+use Rattle.syntax.specs.Ranges.{oneOf, inRange}
+use Rattle.syntax.specs.Names.{openedBy}
+use Rattle.syntax.specs.Operands.{operandOf, operandsDue}
+use Rattle.syntax.specs.Walk.{askRow, walkFrom, listedFrom, walkTable}
+use Rattle.syntax.specs.Reading.{operandsAmong, readRows, choose, planOf}
+use Rattle.typing.specs.Check.{check, checkType, checkTypes, checkPlan}
+use Rattle.typing.specs.Entry.{checkRows, checkText}
+
+-- a text's lines, written with blanks between them
+abbrev text : String → List ℕ
+text s = map (λ (b : ℕ). cond (eqb b 32) 10 b) (bytes s) ++ (10 ∷ [])
+
+-- a refusal as number and line; 0 and the rows of a plan that passes
+abbrev shown : Answer → ℕ × ℕ
+shown (Passed n) = (0, n)
+shown (Refused q) = (numberOf q, lineOf q)
+
+-- The text of a plan, and how it is answered.
+abbrev pub Card : Type 0
+Card = String × ℕ × ℕ
+
+abbrev answers : List Card → List (ℕ × ℕ)
+answers cs = map (λ (c : Card). shown (checkText words (text (c .0)))) cs
+
+abbrev expected : List Card → List (ℕ × ℕ)
+expected cs = map (λ (c : Card). (c .1, c .2)) cs
+
+-- "P3 `split,3` of 7: 7. P4 `idx,1` of two passes, `idx,2`: 7. P9 64 × 64 cells pass, 65 × 64: 8. P10 `lit,-0`: 2."
+abbrev pub cards : List Card
+cards =
+    ("plan,1 arr,7 num,0 split,3 in,0", 7, 4)
+    ∷ ("plan,1 arr,2 num,0 idx,1 in,0", 0, 5)
+    ∷ ("plan,1 arr,2 num,0 idx,2 in,0", 7, 4)
+    ∷ ("plan,1 arr,64 arr,64 num,0 in,0", 0, 5)
+    ∷ ("plan,1 arr,65 arr,64 num,0 in,0", 8, 2)
+    ∷ ("plan,0 lit,-0", 2, 2)
+    ∷ []
+
+-- 7 before 8 on a row; "A map or `redseq` over no array is refused on its own line before its body is typed"; "`zip` of
+-- 3 and 4: 7".
+abbrev order : List Card
+order =
+    ("plan,2 arr,2049 num,0 arr,2048 num,0 zip,0 in,0 in,1", 7, 6)
+    ∷ ("plan,0 mappar,0 lit,1 fst,0 lit,1", 7, 2)
+    ∷ ("plan,0 redseq,0 lit,1 lit,1 fst,0 lit,1", 7, 2)
+    ∷ ("plan,2 arr,3 num,0 arr,4 num,0 zip,0 in,0 in,1", 7, 6)
+    ∷ []
+
+-- Questions 7 and 8: which row is named, and which "no" comes first; "9 levels 8".
+abbrev types : List Card
+types =
+    ("plan,1 arr,65 arr,64 num,0 fst,0 lit,1", 8, 2)
+    ∷ ("plan,1 arr,2049 num,0 pair,0 zip,0 in,0 in,0 fst,0 lit,1", 8, 5)
+    ∷ ("plan,1 arr,2049 num,0 pair,0 fst,0 lit,1 zip,0 in,0 in,0", 7, 5)
+    ∷ ("plan,1 arr,1 num,0 neg,0 in,0", 7, 4)
+    ∷ ("plan,1 arr,1 num,0 add,0 lit,1 in,0", 7, 4)
+    ∷ ("plan,1 arr,1 num,0 redseq,0 lit,1 in,0 pair,0 var,0 var,1", 7, 4)
+    ∷ ("plan,0 redseq,0 lit,1 fst,0 lit,1 lit,1", 7, 4)
+    ∷ ("plan,0 redseq,0 fst,0 lit,1 lit,1 lit,1", 7, 3)
+    ∷ ("plan,0 zip,0 lit,1 fst,0 lit,1", 7, 4)
+    ∷ ("plan,0 add,0 pair,0 lit,1 lit,1 fst,0 lit,1", 7, 6)
+    ∷ ("plan,1 arr,2049 num,0 redseq,0 lit,0 in,0 zip,0 in,0 in,0", 8, 7)
+    ∷ ("plan,1 arr,65 num,0 mappar,0 in,0 mapseq,0 in,0 lit,0", 8, 4)
+    ∷ ("plan,2 arr,2048 num,0 arr,2049 num,0 zip,0 in,0 in,1", 7, 6)
+    ∷ ("plan,1 arr,2 arr,65 arr,64 num,0 lit,1", 8, 3)
+    ∷ ("plan,1 two,0 arr,4096 num,0 num,0 lit,1", 8, 2)
+    ∷ ("plan,1 arr,1 arr,1 arr,1 arr,1 arr,1 arr,1 arr,1 arr,1 num,0 in,0", 8, 2)
+    ∷ ("plan,1 arr,1 arr,1 arr,1 arr,1 arr,1 arr,1 arr,1 arr,1 arr,1 num,0 in,0", 8, 3)
+    ∷ ("plan,1 two,0 two,0 two,0 two,0 two,0 two,0 two,0 two,0 num,0 num,0 num,0 num,0 num,0 num,0 num,0 num,0 num,0 in,0", 8, 2)
+    ∷ ("plan,1 arr,4096 num,0 fst,0 idx,0 zip,0 in,0 in,0", 8, 6)
+    ∷ ("plan,1 arr,1 arr,1 arr,1 arr,1 arr,1 arr,1 arr,1 num,0 join,0 split,1 in,0", 8, 11)
+    ∷ ("plan,1 arr,1 arr,1 arr,1 arr,1 arr,1 arr,1 arr,1 num,0 zip,0 in,0 in,0", 8, 10)
+    ∷ ("plan,2 arr,2 arr,3 num,0 arr,6 num,0 redseq,0 in,0 in,1 in,1", 7, 7)
+    ∷ ("plan,1 arr,2 num,0 redseq,0 pair,0 lit,1 lit,2 in,0 in,0", 7, 4)
+    ∷ ("plan,1 arr,6 num,0 idx,2 split,2 in,0", 0, 6)
+    ∷ ("plan,1 arr,6 num,0 idx,1 idx,2 split,2 in,0", 0, 7)
+    ∷ []
+
+-- "`arr,4097` 5", a "no" of each of the questions 2 and 4 to 6, and the plan of P1.
+abbrev others : List Card
+others =
+    ("plan,1 arr,4097 num,0 in,0", 5, 2)
+    ∷ ("plan,2 arr,3 num,0 arr,3 num,0 zip,0 in,0 in,1", 0, 8)
+    ∷ ("plan,1 arr,6 num,0 split,3 in,0", 0, 5)
+    ∷ ("plan,0 lit,1 ", 2, 3)
+    ∷ ("plan,0 set,0", 4, 2)
+    ∷ ("plan,0", 4, 2)
+    ∷ ("plan,0 lit,1 lit,2", 4, 3)
+    ∷ ("plan,1 num,1 in,0", 5, 2)
+    ∷ ("plan,1 arr,1 num,0 redseq,0 lit,0 in,0 redseq,0 lit,0 in,0 redseq,0 lit,0 in,0 redseq,0 lit,0 in,0 redseq,0 lit,0 in,0 redseq,0 lit,0 in,0 redseq,0 lit,0 in,0 redseq,0 lit,0 in,0 mappar,0 in,0 lit,0", 6, 28)
+    ∷ ("plan,0 fst,0 lit,1 lit,2", 4, 4)
+    ∷ ("plan,1 arr,2 num,0 redseq,0 lit,0 in,0 add,0 var,0 var,1", 0, 9)
+    ∷ []
+
+pub cards-answered : answers cards ≡ expected cards
+unfolding words table sameLetters lookFrom operandsOf allDigits value leadingZero unsigned notBelowZero belowZero numeralOf linesOf placeOf rowOf rowsIn formed reading typeRows allTypeRows termRows oneOf inRange openedBy operandOf operandsDue askRow walkFrom listedFrom walkTable operandsAmong readRows choose planOf check checkType checkTypes checkPlan checkRows checkText
+cards-answered = refl
+
+order-answered : answers order ≡ expected order
+unfolding words table sameLetters lookFrom operandsOf allDigits value leadingZero unsigned notBelowZero belowZero numeralOf linesOf placeOf rowOf rowsIn formed reading typeRows allTypeRows termRows oneOf inRange openedBy operandOf operandsDue askRow walkFrom listedFrom walkTable operandsAmong readRows choose planOf check checkType checkTypes checkPlan checkRows checkText
+order-answered = refl
+
+examples-answered : answers (types ++ others) ≡ expected (types ++ others)
+unfolding words table sameLetters lookFrom operandsOf allDigits value leadingZero unsigned notBelowZero belowZero numeralOf linesOf placeOf rowOf rowsIn formed reading typeRows allTypeRows termRows oneOf inRange openedBy operandOf operandsDue askRow walkFrom listedFrom walkTable operandsAmong readRows choose planOf check checkType checkTypes checkPlan checkRows checkText
+examples-answered = refl

@@ -1,0 +1,169 @@
+-- The check of rows and of a text puts its questions in order: each step of `checkText` is the first "no" of its part of the list.
+-- Assumes nothing.
+use mathlib.Core.Path.{_≡_, refl, sym, ap, _∙_, subst}
+use mathlib.Core.Bool.{Bool, true, false, not, cond}
+use mathlib.Core.List.{List, [], _∷_, _++_}
+use mathlib.Core.Logic.{_↔_, ⊎-elim}
+use Prim.Native.Nat.{ℕ, suc, _+_}
+use native.Mathlib.Nat.{zero-add, add-zero, add-suc, suc-add}
+use native.Mathlib.Omega.{arith}
+use lib.Dec.{ltb}
+use lib.ListN.{length}
+use Rattle.refusals.specs.declared.Refusal.{Refusal}
+use Rattle.refusals.specs.declared.Refusal.the-variants.{TextForm, LineForm, RowDue, NumberRange, NameCount}
+use Rattle.words.specs.Kinds.{Row, word-rest}
+use Rattle.words.specs.Words.{lookUp, operandsOf}
+use Rattle.words.specs.declared.Found.{Found}
+use Rattle.words.specs.declared.Operands.{Operands}
+use Rattle.words.specs.declared.Operands.the-variants.{Count, NotOfSort}
+use Rattle.words.specs.declared.Sort.{Sort}
+use Rattle.words.specs.declared.Sort.the-variants as sort
+use Rattle.lines.specs.Reading.{linesOf, lineOf, rowsIn, closed, whether, formed, limited, reading, planLimits}
+use Rattle.lines.specs.declared.Line.{Line}
+use Rattle.lines.specs.declared.Line.the-variants.{IsRow, NoRow}
+use Rattle.lines.specs.declared.Reading.{Reading}
+use Rattle.lines.specs.declared.Reading.the-variants as read
+use Rattle.syntax.specs.declared.Answer.{Answer}
+use Rattle.syntax.specs.declared.Answer.the-variants.{Passed, Refused}
+use Rattle.syntax.specs.declared.operands.Due.{Due}
+use Rattle.syntax.specs.Ranges.{asNatural, inRange}
+use Rattle.syntax.specs.Names.{noNames, openedBy, namesFit}
+use Rattle.syntax.specs.Operands.{inputsCounted, due, operandsDue}
+use Rattle.syntax.specs.Walk.{firstNo, askRow, after, walkFrom, listedFrom, walkTable}
+use Rattle.syntax.specs.Reading.{planOf}
+use Rattle.typing.specs.Check.{typed, refused, checkPlan}
+use Rattle.typing.specs.Questions.{Question, ask, AllYes, FirstNo}
+use Rattle.typing.specs.TypeQuestions.{planQuestions}
+use Rattle.typing.specs.Entry.{answered, checkRows, afterReading, checkText}
+use Rattle.typing.specs.EntryQuestions.{isRow, lineQuestions, readQuestions, isOfSort, countOf, walkQuestions, kindQuestions, rowQuestions, textQuestions}
+use Rattle.typing.specs.Laws.Questions.{yes-or-no, all-asked, ask-append, first-asked, end-asked, ask-through}
+use Rattle.typing.specs.Laws.TypeQuestions.{planType, plan-asks}
+
+-- ---- 1 to 3
+
+lines-ask : (head : List ℕ → Found) (n : ℕ) (ls : List (List ℕ))
+    → formed head n ls ≡ ask read.Refused (lineQuestions head n ls) (read.Rows (n + length ls))
+unfolding formed lineQuestions ask
+lines-ask head n [] = ap read.Rows (sym (add-zero n))
+lines-ask head n (l ∷ ls) =
+    go (lineOf head l)
+    (lines-ask head (suc n) ls
+    ∙ ap (λ (m : ℕ). ask read.Refused (lineQuestions head (suc n) ls) (read.Rows m)) (suc-add n (length ls) ∙ sym (add-suc n (length ls))))
+  where
+    go : (x : Line) → formed head (suc n) ls ≡ ask read.Refused (lineQuestions head (suc n) ls) (read.Rows (n + suc (length ls)))
+        → whether x (formed head (suc n) ls) (read.Refused (LineForm (suc n)))
+        ≡ cond (isRow x) (ask read.Refused (lineQuestions head (suc n) ls) (read.Rows (n + suc (length ls)))) (read.Refused (LineForm (suc n)))
+    go (IsRow k z) e = e
+    go NoRow e = refl
+
+pub reading-asks : (head : List ℕ → Found) (t : List ℕ)
+    → reading head planLimits t ≡ ask read.Refused (readQuestions head t) (read.Rows (length (linesOf t)))
+unfolding reading readQuestions ask
+reading-asks head t =
+    let ls : List (List ℕ) = linesOf t in
+    ap (λ (r : Reading). cond (closed 4096 t) r (read.Refused TextForm))
+    (ap (limited 256) (lines-ask head 0 ls ∙ ap (λ (n : ℕ). ask read.Refused (lineQuestions head 0 ls) (read.Rows n)) (zero-add (length ls)))
+    ∙ ask-through read.Refused read.Refused (limited 256) (λ r. refl) (lineQuestions head 0 ls) (read.Rows (length ls))
+    ∙ sym (ask-append read.Refused (lineQuestions head 0 ls) _ (read.Rows (length ls))))
+
+-- ---- 4 to 6
+
+kinds-ask : (p : ℕ) (R : List Row) (next : Answer) → listedFrom p R next ≡ ask Refused (kindQuestions p R) next
+unfolding listedFrom kindQuestions ask
+kinds-ask p [] next = refl
+kinds-ask p (r ∷ rs) next = go (ltb word-rest (r .0)) (kinds-ask (suc p) rs next)
+  where
+    go : (b : Bool) → listedFrom (suc p) rs next ≡ ask Refused (kindQuestions (suc p) rs) next
+        → cond b (Refused (LineForm (suc p))) (listedFrom (suc p) rs next)
+        ≡ cond (not b) (ask Refused (kindQuestions (suc p) rs) next) (Refused (LineForm (suc p)))
+    go true e = refl
+    go false e = e
+
+walk-asks : (R : List Row) (p : ℕ) (ds : List Due) → walkFrom p ds R ≡ ask Refused (walkQuestions p ds R) (Passed (p + length R))
+unfolding walkFrom askRow walkQuestions ask
+walk-asks [] p [] = ap Passed (sym (add-zero p))
+walk-asks [] p (d ∷ ds) = refl
+walk-asks (r ∷ rs) p [] = refl
+walk-asks (r ∷ rs) p (d ∷ ds) =
+    go (operandsOf (r .0) (d .sort)) (inRange (d .sort) (d .names) (r .0) (asNatural (r .1)))
+    (namesFit (openedBy (r .0) (asNatural (r .1)) (d .names)))
+    (λ m.
+    walk-asks rs (suc p) (dues m)
+    ∙ ap (λ (n : ℕ). ask Refused (walkQuestions (suc p) (dues m) rs) (Passed n)) (suc-add p (length rs) ∙ sym (add-suc p (length rs))))
+  where
+    inputs : ℕ
+    inputs = inputsCounted (d .sort) (asNatural (r .1))
+
+    dues : ℕ → List Due
+    dues m = operandsDue d (r .0) (asNatural (r .1)) m ++ ds
+
+    go : (o : Operands) (ranged fit : Bool)
+        → ((m : ℕ) → walkFrom (suc p) (dues m) rs ≡ ask Refused (walkQuestions (suc p) (dues m) rs) (Passed (p + suc (length rs))))
+        → after (firstNo o ranged fit inputs (suc p)) (λ m. walkFrom (suc p) (dues m) rs)
+        ≡ cond (isOfSort o)
+        (cond ranged
+        (cond fit (ask Refused (walkQuestions (suc p) (dues (inputs + countOf o)) rs) (Passed (p + suc (length rs)))) (Refused (NameCount (suc p))))
+        (Refused (NumberRange (suc p))))
+        (Refused (RowDue (suc p)))
+    go NotOfSort ranged fit h = refl
+    go (Count m) false fit h = refl
+    go (Count m) true false h = refl
+    go (Count m) true true h = h (inputs + m)
+
+-- of a plan's table or of loops'
+pub table-asks : (s : Sort) (R : List Row)
+    → walkTable s R ≡ ask Refused (kindQuestions 0 R ++ walkQuestions 0 (due s noNames ∷ []) R) (Passed (length R))
+unfolding walkTable
+table-asks s R =
+    let walk : List Question = walkQuestions 0 (due s noNames ∷ []) R in
+    kinds-ask 0 R _
+    ∙ ap (ask Refused (kindQuestions 0 R)) (walk-asks R 0 _ ∙ ap (λ (n : ℕ). ask Refused walk (Passed n)) (zero-add (length R)))
+    ∙ sym (ask-append Refused (kindQuestions 0 R) walk (Passed (length R)))
+
+-- ---- all of them
+
+pub rows-ask : (R : List Row) → checkRows R ≡ ask Refused (rowQuestions R) (Passed (length R))
+unfolding checkRows rowQuestions
+rows-ask R =
+    let walk : List Question = kindQuestions 0 R ++ walkQuestions 0 (due sort.Plan noNames ∷ []) R in
+    let next : Answer → Answer = λ a. after a (λ n. answered n (checkPlan (planOf R))) in
+    ap next (table-asks sort.Plan R)
+    ∙ ask-through Refused Refused next (λ r. refl) walk (Passed (length R))
+    ∙ ap (ask Refused walk)
+    (ap (answered (length R)) (plan-asks (planOf R))
+    ∙ ask-through refused Refused (answered (length R)) (λ r. refl) (planQuestions (planOf R)) (typed (planType (planOf R))))
+    ∙ sym (ask-append Refused walk (planQuestions (planOf R)) (Passed (length R)))
+
+pub text-asks : (ws : List (List ℕ)) (t : List ℕ)
+    → checkText ws t ≡ ask Refused (textQuestions ws t) (Passed (length (rowsIn (lookUp ws) (linesOf t))))
+unfolding checkText textQuestions
+text-asks ws t =
+    let R : List Row = rowsIn (lookUp ws) (linesOf t) in
+    let next : Reading → Answer = λ r. afterReading r (checkRows R) in
+    ap next (reading-asks (lookUp ws) t)
+    ∙ ask-through read.Refused Refused next (λ r. refl) (readQuestions (lookUp ws) t) (read.Rows (length (linesOf t)))
+    ∙ ap (ask Refused (readQuestions (lookUp ws) t)) (rows-ask R)
+    ∙ sym (ask-append Refused (readQuestions (lookUp ws) t) (rowQuestions R) (Passed (length R)))
+
+-- ---- who is refused got a first "no"; who passes is answered "yes" throughout
+
+pub passed-refused : {n : ℕ} {q : Refusal} {A : Type 0} → Passed n ≡ Refused q → A
+passed-refused e = absurd (let clash : _≡_ {A = ℕ} 0 1 = cc in omega arith)
+
+module _ (v : Answer) (qs : List Question) (n : ℕ) (asks : v ≡ ask Refused qs (Passed n)) where
+  pub asked-refused : (q : Refusal) → (v ≡ Refused q) ↔ FirstNo qs q
+  asked-refused q = (
+    (λ e.
+        ⊎-elim (λ h. passed-refused (sym (asks ∙ all-asked Refused qs (Passed n) h) ∙ e))
+        (λ f.
+        let same : Refused (f .0) ≡ Refused q = sym (asks ∙ first-asked Refused qs (Passed n) (f .0) (f .1)) ∙ e in
+        let is : f .0 ≡ q = cc in subst (FirstNo qs) is (f .1))
+        (yes-or-no qs)),
+    (λ f. asks ∙ first-asked Refused qs (Passed n) q f),
+  )
+
+  pub asked-passed : (v ≡ Passed n) ↔ AllYes qs
+  asked-passed = (
+    (λ e. end-asked Refused qs (Passed n) (Passed n) (λ r f. passed-refused (sym f)) (sym asks ∙ e) .0),
+    (λ h. asks ∙ all-asked Refused qs (Passed n) h),
+  )

@@ -1,0 +1,81 @@
+-- Questions 7 and 8 of document 01 as one list for a plan: "in a plan, type rows included, each row after its operands, left to right".
+-- That the check is the first "no" of this list is said by `Theorems`. Definitions only; assumes nothing.
+use mathlib.Core.Bool.{Bool, _&&_}
+use mathlib.Core.List.{List, [], _∷_, _++_}
+use Prim.Native.Nat.{ℕ, suc}
+use Rattle.refusals.specs.declared.Refusal.the-variants.{TypeMisfit, TypeSize}
+use Rattle.meaning.specs.Types.{DataType, number, array, element}
+use Rattle.meaning.specs.Terms.{Term, Plan}
+use Rattle.meaning.specs.Typing.{typeOf}
+use Rattle.typing.specs.Check.{isNumber, isArray, isPair, sameType, zipFits, splitFits, joinFits, indexFits, inLimits, behindType, behind, termLine}
+use Rattle.typing.specs.Questions.{Question, question}
+
+-- "Do the types fit? 7"
+abbrev pub fits : ℕ → Bool → Question
+fits line b = question b (TypeMisfit line)
+
+-- "Has its type .. at most 4,096 cells and 8 levels? 8"
+abbrev pub size : ℕ → DataType → Question
+size line t = question (inLimits t) (TypeSize line)
+
+-- "each row after its operands, left to right: 7, 8"; "A map or `redseq` over no array is refused on its own line before its body is
+-- typed." `typeOf` is the type of a term that has one; where a "no" came before, nobody hears the rest.
+unfoldable pub termQuestions : List DataType → List DataType → Term → ℕ → List Question
+termQuestions I Γ (Term.input k) line = size line (typeOf I Γ (Term.input k)) ∷ []
+termQuestions I Γ (Term.variable d) line = size line (typeOf I Γ (Term.variable d)) ∷ []
+termQuestions I Γ (Term.literal v) line = size line number ∷ []
+termQuestions I Γ (Term.negate e) line =
+    termQuestions I Γ e (suc line) ++ (fits line (isNumber (typeOf I Γ e)) ∷ size line number ∷ [])
+termQuestions I Γ (Term.operation o e f) line =
+    termQuestions I Γ e (suc line)
+    ++ (termQuestions I Γ f (behind e (suc line))
+    ++ (fits line (isNumber (typeOf I Γ e) && isNumber (typeOf I Γ f)) ∷ size line number ∷ []))
+termQuestions I Γ (Term.map kind a b) line =
+    termQuestions I Γ a (suc line)
+    ++ (fits line (isArray (typeOf I Γ a))
+    ∷ (termQuestions I (element (typeOf I Γ a) ∷ Γ) b (behind a (suc line))
+    ++ (size line (typeOf I Γ (Term.map kind a b)) ∷ [])))
+termQuestions I Γ (Term.reduce z a b) line =
+    termQuestions I Γ z (suc line)
+    ++ (termQuestions I Γ a (behind z (suc line))
+    ++ (fits line (isArray (typeOf I Γ a))
+    ∷ (termQuestions I (typeOf I Γ z ∷ element (typeOf I Γ a) ∷ Γ) b (behind a (behind z (suc line)))
+    ++ (fits line (sameType (typeOf I (typeOf I Γ z ∷ element (typeOf I Γ a) ∷ Γ) b) (typeOf I Γ z))
+    ∷ size line (typeOf I Γ z)
+    ∷ []))))
+termQuestions I Γ (Term.zip a b) line =
+    termQuestions I Γ a (suc line)
+    ++ (termQuestions I Γ b (behind a (suc line))
+    ++ (fits line (zipFits (typeOf I Γ a) (typeOf I Γ b)) ∷ size line (typeOf I Γ (Term.zip a b)) ∷ []))
+termQuestions I Γ (Term.pair a b) line =
+    termQuestions I Γ a (suc line)
+    ++ (termQuestions I Γ b (behind a (suc line)) ++ (size line (typeOf I Γ (Term.pair a b)) ∷ []))
+termQuestions I Γ (Term.split n e) line =
+    termQuestions I Γ e (suc line)
+    ++ (fits line (splitFits n (typeOf I Γ e)) ∷ size line (typeOf I Γ (Term.split n e)) ∷ [])
+termQuestions I Γ (Term.join e) line =
+    termQuestions I Γ e (suc line)
+    ++ (fits line (joinFits (typeOf I Γ e)) ∷ size line (typeOf I Γ (Term.join e)) ∷ [])
+termQuestions I Γ (Term.first e) line =
+    termQuestions I Γ e (suc line)
+    ++ (fits line (isPair (typeOf I Γ e)) ∷ size line (typeOf I Γ (Term.first e)) ∷ [])
+termQuestions I Γ (Term.second e) line =
+    termQuestions I Γ e (suc line)
+    ++ (fits line (isPair (typeOf I Γ e)) ∷ size line (typeOf I Γ (Term.second e)) ∷ [])
+termQuestions I Γ (Term.index k e) line =
+    termQuestions I Γ e (suc line)
+    ++ (fits line (indexFits k (typeOf I Γ e)) ∷ size line (typeOf I Γ (Term.index k e)) ∷ [])
+
+-- "type rows included"
+unfoldable pub typeQuestions : DataType → ℕ → List Question
+typeQuestions number line = size line number ∷ []
+typeQuestions (array n t) line = typeQuestions t (suc line) ++ (size line (array n t) ∷ [])
+typeQuestions (DataType.pair s t) line =
+    typeQuestions s (suc line) ++ (typeQuestions t (behindType s (suc line)) ++ (size line (DataType.pair s t) ∷ []))
+
+unfoldable pub allTypeQuestions : List DataType → ℕ → List Question
+allTypeQuestions [] line = []
+allTypeQuestions (t ∷ I) line = typeQuestions t line ++ allTypeQuestions I (behindType t line)
+
+unfoldable pub planQuestions : Plan → List Question
+planQuestions P = allTypeQuestions (P .inputs) 2 ++ termQuestions (P .inputs) [] (P .term) (termLine (P .inputs))

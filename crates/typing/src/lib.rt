@@ -1,0 +1,1 @@
+// Which plans are accepted: definitions and theorems in specs/, and no code.

@@ -1,0 +1,5 @@
+pub mod RowCounts
+pub mod TermRows
+pub mod Calls
+pub mod WriteCalls
+pub mod ReduceCalls

@@ -1,0 +1,29 @@
+-- How many rows a term has beside its operands', and the words of terms with operands. Assumes nothing.
+use mathlib.Core.Path.{ap}
+use Prim.Native.Nat.{_+_, _≤_, _<_}
+use native.Mathlib.Decide.{decLt}
+use native.Mathlib.Omega.{arith}
+use lib.ListN.{length, length-append}
+use Rattle.words.specs.Kinds.{word-lit}
+use Rattle.meaning.specs.Terms.{Term}
+use Rattle.meaning.specs.Rows.{termRows}
+use Rattle.syntax.specs.Standing.{termKind, operandCount, firstOperand}
+use Rattle.syntax.proofs.TermRows.{term-head, behindFirst, first-rows}
+use Rattle.syntax.proofs.Standing.{leaf-kind}
+
+-- every term has a row
+pub some-rows : (e : Term) → 1 ≤ length (termRows e)
+some-rows e = omega (arith, ap length (term-head e))
+
+-- its first operand has fewer
+pub first-fewer : (e : Term) → 1 ≤ operandCount e → 1 + length (termRows (firstOperand e)) ≤ length (termRows e)
+first-fewer e h =
+    omega (arith, ap length (term-head e), ap length (first-rows e h), length-append (termRows (firstOperand e)) (behindFirst e))
+
+-- the words of terms with operands stand past `lit`
+pub past-leaves : (e : Term) → 1 ≤ operandCount e → word-lit < termKind e
+past-leaves e h = go (decLt word-lit (termKind e))
+  where
+    go : Dec (word-lit < termKind e) → word-lit < termKind e
+    go (yes l) = l
+    go (no l) = absurd (omega (arith, h, leaf-kind e (omega (arith, l))))

@@ -1,0 +1,121 @@
+// "Use `redseq`".
+ghost use mathlib.Core.Path.{_≡_};
+ghost use mathlib.Core.List.{List};
+ghost use Prim.Native.Nat.{_≤_};
+ghost use lib.ListN.{length, getD};
+ghost use Rattle.words.specs.Kinds.{word-redseq};
+ghost use Rattle.meaning.specs.Types.{DataType};
+ghost use Rattle.meaning.specs.Terms.{Term};
+ghost use Rattle.meaning.specs.Expressions.{Expression};
+ghost use Rattle.emission.specs.Table.{table};
+ghost use Rattle.walk.specs.Walk.{SomeRows, CountsRows, ReadyToUse, Stands, Used};
+use crate::uses;
+use crate::writes;
+use steps::State;
+use steps::Walked;
+use steps::bodies;
+use words::kinds::*;
+
+// How many rows the term has whose kinds stand in front.
+fn rows_of(kinds: &[u8]) -> usize
+    requires { ⌜ (length (now kinds) ≤ 65536) × SomeRows (now kinds) ⌝ }
+    ensures { λ r. ⌜ CountsRows (now (kinds .entry)) r ⌝ }
+{
+    let kind = kinds[0];
+    if kind <= WORD_LIT {
+        return 1;
+    }
+    let one = 1 + rows_of(&kinds[1..]);
+    if steps::has_one_operand(kind) {
+        return one;
+    }
+    let two = one + rows_of(&kinds[one..]);
+    if kind != WORD_REDSEQ {
+        return two;
+    }
+    two + rows_of(&kinds[two..])
+}
+
+// "Use `redseq`": the array, then the start, then the rounds. The start's rows are the first behind its own, the array's follow them.
+pub fn use_reduce(
+    kinds: &[u8],
+    numbers: &[i32],
+    column: &[u16],
+    types: &[u64],
+    plan: &[i32],
+    references: &mut [u64; 4096],
+    outkinds: &mut [u8; 4096],
+    outnumbers: &mut [i32; 4096],
+    state: State,
+) -> Walked
+    requires { ⌜ (getD (now kinds) 0 0 ≡ word-redseq) × ReadyToUse (now kinds) (now numbers) (now column) (now types) (now plan) (now references) state ⌝ }
+    ensures { λ r. ⌜ ((I Γ : List DataType) (Δ : List Expression) (e : Term)
+        → Stands (now (kinds .entry)) (now (numbers .entry)) (now (column .entry)) (now (types .entry)) (now (plan .entry)) (now (references .entry)) state I Γ Δ e
+        → Used (now (types .entry)) (now (plan .entry)) I Γ Δ e state (now (references .entry)) (now (references .exit)) (table (now (outkinds .entry)) (now (outnumbers .entry)) (state .to)) (table (now (outkinds .exit)) (now (outnumbers .exit)) (r .to)) r) ⌝ }
+{
+    let place = column[0] as usize;
+    let first = 1;
+    let from = first + rows_of(&kinds[first..]);
+    let array = uses::use_term(
+        &kinds[from..],
+        &numbers[from..],
+        &column[from..],
+        types,
+        plan,
+        references,
+        outkinds,
+        outnumbers,
+        state,
+    );
+    let behind = steps::after_use(state, array);
+    let start = uses::use_term(
+        &kinds[first..],
+        &numbers[first..],
+        &column[first..],
+        types,
+        plan,
+        references,
+        outkinds,
+        outnumbers,
+        behind,
+    );
+    let rounds = steps::array_length(types, column[from] as usize);
+    let inside = bodies::enter_reduction(
+        types,
+        plan,
+        references,
+        outkinds,
+        outnumbers,
+        place,
+        rounds,
+        array.value,
+        state,
+        start,
+    );
+    let at = from + array.rows;
+    let body = writes::write_term(
+        &kinds[at..],
+        &numbers[at..],
+        &column[at..],
+        types,
+        plan,
+        references,
+        outkinds,
+        outnumbers,
+        start.len + 2,
+        inside,
+    );
+    bodies::leave_reduction(
+        types,
+        plan,
+        references,
+        outkinds,
+        outnumbers,
+        place,
+        start.len,
+        state.counters,
+        start.regions,
+        at,
+        body,
+    )
+}

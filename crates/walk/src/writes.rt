@@ -1,0 +1,195 @@
+// "Write E into P".
+ghost use mathlib.Core.Path.{_≡_};
+ghost use mathlib.Core.Bool.{true};
+ghost use mathlib.Core.List.{List};
+ghost use Prim.Native.Nat.{_<_};
+ghost use lib.ListN.{getD};
+ghost use Rattle.meaning.specs.Types.{DataType};
+ghost use Rattle.meaning.specs.Terms.{Term};
+ghost use Rattle.meaning.specs.Expressions.{Expression};
+ghost use Rattle.emission.specs.Table.{table};
+ghost use Rattle.emission.specs.References.{acceptorAt};
+ghost use Rattle.steps.specs.Steps.{isMap};
+ghost use Rattle.walk.specs.Walk.{ReadyToWrite, Stands, Written};
+use crate::uses;
+use emission::assign::put_assign;
+use steps::State;
+use steps::Walked;
+use steps::bodies;
+use steps::parts;
+use syntax::ranges;
+use words::kinds::*;
+
+// "Write a map: use the array, then `par` (`mapseq`: `for`), writing the body into the element's place."
+pub fn write_map(
+    kinds: &[u8],
+    numbers: &[i32],
+    column: &[u16],
+    types: &[u64],
+    plan: &[i32],
+    references: &mut [u64; 4096],
+    outkinds: &mut [u8; 4096],
+    outnumbers: &mut [i32; 4096],
+    target: usize,
+    state: State,
+) -> Walked
+    requires { ⌜ (isMap (getD (now kinds) 0 0) ≡ true) × (target < state .len) × ReadyToWrite (now kinds) (now numbers) (now column) (now types) (now plan) (now references) state ⌝ }
+    ensures { λ r. ⌜ ((I Γ : List DataType) (Δ : List Expression) (e : Term)
+        → Stands (now (kinds .entry)) (now (numbers .entry)) (now (column .entry)) (now (types .entry)) (now (plan .entry)) (now (references .entry)) state I Γ Δ e
+        → Written (now (types .entry)) (now (plan .entry)) I Γ Δ e (acceptorAt (now (types .entry)) (now (references .entry)) target) state (now (references .entry)) (now (references .exit)) (table (now (outkinds .entry)) (now (outnumbers .entry)) (state .to)) (table (now (outkinds .exit)) (now (outnumbers .exit)) (r .to)) r) ⌝ }
+{
+    let kind = kinds[0];
+    let place = column[0] as usize;
+    let used = uses::use_term(
+        &kinds[1..],
+        &numbers[1..],
+        &column[1..],
+        types,
+        plan,
+        references,
+        outkinds,
+        outnumbers,
+        state,
+    );
+    let inside = bodies::enter_map(
+        types,
+        references,
+        outkinds,
+        outnumbers,
+        kind,
+        place,
+        target,
+        state,
+        used,
+    );
+    let at = 1 + used.rows;
+    let body = write_term(
+        &kinds[at..],
+        &numbers[at..],
+        &column[at..],
+        types,
+        plan,
+        references,
+        outkinds,
+        outnumbers,
+        used.len + 1,
+        inside,
+    );
+    steps::later(at, body)
+}
+
+// "Write E into P", P being node `target`.
+pub fn write_term(
+    kinds: &[u8],
+    numbers: &[i32],
+    column: &[u16],
+    types: &[u64],
+    plan: &[i32],
+    references: &mut [u64; 4096],
+    outkinds: &mut [u8; 4096],
+    outnumbers: &mut [i32; 4096],
+    target: usize,
+    state: State,
+) -> Walked
+    requires { ⌜ (target < state .len) × ReadyToWrite (now kinds) (now numbers) (now column) (now types) (now plan) (now references) state ⌝ }
+    ensures { λ r. ⌜ ((I Γ : List DataType) (Δ : List Expression) (e : Term)
+        → Stands (now (kinds .entry)) (now (numbers .entry)) (now (column .entry)) (now (types .entry)) (now (plan .entry)) (now (references .entry)) state I Γ Δ e
+        → Written (now (types .entry)) (now (plan .entry)) I Γ Δ e (acceptorAt (now (types .entry)) (now (references .entry)) target) state (now (references .entry)) (now (references .exit)) (table (now (outkinds .entry)) (now (outnumbers .entry)) (state .to)) (table (now (outkinds .exit)) (now (outnumbers .exit)) (r .to)) r) ⌝ }
+{
+    let kind = kinds[0];
+    let number = ranges::natural(numbers[0]);
+    let place = column[0] as usize;
+    if steps::is_map(kind) {
+        return write_map(
+            kinds,
+            numbers,
+            column,
+            types,
+            plan,
+            references,
+            outkinds,
+            outnumbers,
+            target,
+            state,
+        );
+    }
+    if parts::is_paired(kind) {
+        let first = parts::into_first(references, outkinds, outnumbers, kind, target, state);
+        let one = write_term(
+            &kinds[1..],
+            &numbers[1..],
+            &column[1..],
+            types,
+            plan,
+            references,
+            outkinds,
+            outnumbers,
+            state.len,
+            first,
+        );
+        let at = 1 + one.rows;
+        let second = parts::into_second(references, kind, target, state, one);
+        let two = write_term(
+            &kinds[at..],
+            &numbers[at..],
+            &column[at..],
+            types,
+            plan,
+            references,
+            outkinds,
+            outnumbers,
+            one.len,
+            second,
+        );
+        return steps::later(at, two);
+    }
+    if parts::is_regrouped(kind) {
+        let held = steps::node_number(kind, number, types, column[1] as usize);
+        let inside = parts::into_part(references, parts::regrouped(kind), held, target, state);
+        let one = write_term(
+            &kinds[1..],
+            &numbers[1..],
+            &column[1..],
+            types,
+            plan,
+            references,
+            outkinds,
+            outnumbers,
+            state.len,
+            inside,
+        );
+        return steps::later(1, one);
+    }
+    let used = uses::use_term(
+        kinds,
+        numbers,
+        column,
+        types,
+        plan,
+        references,
+        outkinds,
+        outnumbers,
+        state,
+    );
+    let to = put_assign(
+        types,
+        plan,
+        references,
+        outkinds,
+        outnumbers,
+        place,
+        used.value,
+        target,
+        state.counters,
+        used.regions,
+        used.len,
+        used.to,
+    );
+    Walked {
+        rows: used.rows,
+        value: used.value,
+        regions: used.regions,
+        len: used.len,
+        to,
+    }
+}
