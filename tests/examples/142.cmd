@@ -1,0 +1,10 @@
+plan,1
+arr,2
+two,0
+num,0
+arr,3
+num,0
+idx,2
+snd,0
+idx,1
+in,0

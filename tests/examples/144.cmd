@@ -1,0 +1,10 @@
+plan,2
+arr,2
+num,0
+arr,2
+num,0
+snd,0
+idx,1
+zip,0
+in,0
+in,1

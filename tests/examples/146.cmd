@@ -1,0 +1,8 @@
+plan,1
+arr,2
+arr,2
+arr,3
+num,0
+idx,3
+join,0
+in,0

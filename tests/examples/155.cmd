@@ -1,0 +1,12 @@
+plan,1
+arr,1
+num,0
+redseq,0
+redseq,0
+lit,3
+in,0
+var,0
+mappar,0
+in,0
+lit,6
+var,0

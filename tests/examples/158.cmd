@@ -1,0 +1,11 @@
+plan,1
+arr,1
+num,0
+mappar,0
+in,0
+mul,0
+add,0
+var,0
+lit,1
+neg,0
+var,0

@@ -1,0 +1,10 @@
+plan,1
+arr,1
+num,0
+fst,0
+pair,0
+lit,1
+idx,0
+mappar,0
+in,0
+lit,2
