@@ -1,22 +1,16 @@
 -- What the contracts of the check's parts say besides: rows at the front of a table, and answers with their rows. Definitions only;
 -- assumes nothing.
 use mathlib.Core.Bool.{Bool, true, cond}
-use mathlib.Core.Path.{_≡_}
-use mathlib.Core.List.{List, [], _∷_, _++_, map}
 use mathlib.Core.Option.{Option, none, some}
 use Prim.Native.Nat.{ℕ, _+_, _-_, _≤_, min}
 use lib.Dec.{eqb}
-use lib.IntN.{ℤ}
 use Rattle.refusals.specs.declared.Refusal.{Refusal}
-use Rattle.words.specs.Kinds.{Row, rowsOf, word-cells, word-for, word-par, word-new}
-use Rattle.meaning.specs.Loops.{Offset, Command, seq, loop, new}
-use Rattle.meaning.specs.Limits.{bound}
+use Rattle.words.specs.Kinds.{word-for, word-par}
+use Rattle.meaning.specs.Loops.{Command, seq, loop, new}
 use Rattle.syntax.specs.declared.Answer.{Answer}
 use Rattle.syntax.specs.declared.Answer.the-variants as walk
-use Rattle.syntax.specs.Ranges.{asNatural}
 use Rattle.bound_check.specs.declared.Asked.{Asked}
 use Rattle.bound_check.specs.declared.Asked.the-variants.{Passed, Refused}
-use Rattle.bounds.specs.Bounds.{everyRowBounded}
 
 -- an answer to question 9 on so many rows
 abbrev pub counted : ℕ → Option Refusal → Answer

@@ -16,9 +16,8 @@ use Prim.Native.Nat.{ℕ}
 use Prim.Native.String.{String, _++_ as append}
 use lib.Dec.{eqb}
 use lib.IntN.{ℤ, pos, negsuc}
-use lib.ListN.{length, take, drop}
+use lib.ListN.{take, drop}
 use Rattle.arithmetic.specs.Arithmetic.{clamp, sum, difference, product, negation, quotient, lesser, greater, operate}
-use Rattle.refusals.specs.declared.Refusal.{Refusal}
 use Rattle.refusals.specs.Refusals.{numberOf, lineOf}
 use Rattle.words.specs.Words.{bytes, table, words, sameLetters, lookFrom, operandsOf}
 use Rattle.numerals.specs.Numerals.{allDigits, value, leadingZero, unsigned, notBelowZero, belowZero, numberOf as numeralOf, lastDigits, digits, decimal}

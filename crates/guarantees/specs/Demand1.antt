@@ -12,7 +12,7 @@
 --   values      FillInto
 --   store       storeOf, frameOf: a store of cells and bytes
 --   Questions   the questions that come after another crate's
-use mathlib.Core.Path.{_≡_, refl, sym, ap, _∙_, subst}
+use mathlib.Core.Path.{_≡_, sym, ap, _∙_, subst}
 use mathlib.Core.List.{List}
 use mathlib.Core.Logic.{_↔_}
 use Prim.Native.Nat.{ℕ}
@@ -21,7 +21,6 @@ use lib.ListN.{length}
 use Rattle.refusals.specs.declared.Refusal.{Refusal}
 use Rattle.words.specs.Kinds.{Row}
 use Rattle.words.specs.Words.{words}
-use Rattle.lines.specs.Printing.{textOf, printing}
 use Rattle.lines.specs.declared.Printing.{Printing}
 use Rattle.lines.specs.declared.Printing.the-variants as print
 use Rattle.lines.specs.declared.Reading.{Reading}

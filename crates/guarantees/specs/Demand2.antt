@@ -10,7 +10,7 @@
 --   lines       linesOf, rowsIn, reading: a text's rows; textOf: rows as a text
 --   meaning     translation: "write E into P" and "use E in C"; planWrites: the term's w; loopsRows, need; TouchesBelow
 --   values      FillInto; OneLineEach
-use mathlib.Core.Path.{_≡_, refl, sym, ap, _∙_, subst}
+use mathlib.Core.Path.{_≡_, sym, ap, _∙_, subst}
 use mathlib.Core.List.{List}
 use mathlib.Core.Logic.{_↔_}
 use Prim.Native.Nat.{ℕ, _≤_, _<_}

@@ -8,8 +8,8 @@
 --   syntax        loopsOf: the loops whose rows these are
 --   meaning       RunOf: every order of each `par`'s rounds at each visit; Outcome and planValue of Demand3: the plan's value "as
 --                 read from its formulas alone", written without the loops; need, planWrites; and what its Demand3 lists
-use mathlib.Core.Path.{_≡_, refl, sym, ap, subst, _∙_}
-use mathlib.Core.List.{List, []}
+use mathlib.Core.Path.{_≡_, sym, ap, subst, _∙_}
+use mathlib.Core.List.{List}
 use Prim.Native.Nat.{ℕ, _≤_}
 use lib.IntN.{ℤ}
 use lib.ListN.{length, take}

@@ -2,7 +2,7 @@
 -- order, and to what is to be accepted. Assumes nothing.
 use mathlib.Core.Bool.{Bool, true, false, cond}
 use mathlib.Core.Path.{_≡_, refl, sym, ap, _∙_, subst}
-use mathlib.Core.List.{List, [], _∷_, _++_}
+use mathlib.Core.List.{List}
 use mathlib.Core.Logic.{_↔_, _⊎_, inl, inr, ⊎-elim}
 use Prim.Native.Nat.{ℕ, _≤_}
 use native.Mathlib.Omega.{arith}
@@ -21,7 +21,7 @@ use Rattle.meaning.specs.Loops.{Loops}
 use Rattle.meaning.specs.Counts.{planWrites}
 use Rattle.syntax.specs.declared.Answer.{Answer}
 use Rattle.syntax.specs.declared.Answer.the-variants as plan
-use Rattle.typing.specs.Questions.{Question, question, ask, AllYes, FirstNo}
+use Rattle.typing.specs.Questions.{ask, FirstNo}
 use Rattle.typing.specs.EntryQuestions.{textQuestions}
 use Rattle.typing.specs.Entry.{checkText}
 use Rattle.plans.specs.Reading.{afterCheck as afterPlan, readText}
@@ -30,14 +30,12 @@ use Rattle.typing.specs.Laws.Questions.{ask-append, ask-through, refused-exactl
 use Rattle.typing.specs.Theorems.{text-first-no}
 use Rattle.loops.specs.declared.Checked.{Checked}
 use Rattle.loops.specs.declared.Checked.the-variants as loops
-use Rattle.loops.specs.declared.Needed.{Needed}
 use Rattle.loops.specs.declared.Needed.the-variants as need
 use Rattle.loops.specs.Check.{needOf}
 use Rattle.run.specs.declared.Ran.{Ran}
 use Rattle.run.specs.declared.Ran.the-variants as ran
 use Rattle.run.specs.Run.{finished, refused, askedRun, afterCheck}
 use Rattle.interpreter.specs.Orders.{runOf}
-use Rattle.store.specs.Cells.{cellsOf, leftOver}
 use Rattle.store.specs.Store.{storeOf, frameOf}
 use Rattle.store.specs.Laws.{parts-of-store}
 use Rattle.store.specs.BytesLaws.{AllBytes, same-bytes}

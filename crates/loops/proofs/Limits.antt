@@ -1,25 +1,21 @@
 -- The answer of the check of loops, from the command's. Assumes nothing.
 use mathlib.Core.Bool.{Bool, true, false, cond}
-use mathlib.Core.Path.{_≡_, refl, sym, ap, ap₂, _∙_}
-use mathlib.Core.List.{List, [], _∷_, _++_, append-nil, append-assoc, map}
+use mathlib.Core.Path.{_≡_, sym, ap, ap₂, _∙_}
+use mathlib.Core.List.{List}
 use mathlib.Core.Option.{Option, none}
-use Prim.Native.Nat.{ℕ, suc, _+_, _-_, _≤_, _<_, min}
+use Prim.Native.Nat.{ℕ, _-_, _≤_, _<_, min}
 use native.Mathlib.Omega.{arith}
 use borrow.Author.Tests.{le-leb, lt-leb}
 use lib.Dec.{leb}
-use lib.IntN.{ℤ, pos}
-use lib.ListN.{length, getD, drop, take, length-append, length-map}
-use lib.Seq.{getD-append-add, take-at}
+use lib.ListN.{length}
 use Rattle.refusals.specs.declared.Refusal.{Refusal}
 use Rattle.refusals.specs.declared.Refusal.the-variants.{WriteCount}
-use Rattle.words.specs.Kinds.{Row, rowsOf, word-loops, word-cells}
-use Rattle.words.specs.Laws.{rows-length}
-use Rattle.meaning.specs.Loops.{Command, Loops, seq, loop, new}
-use Rattle.meaning.specs.Rows.{commandRows, allCellsRows, loopsRows}
+use Rattle.words.specs.Kinds.{Row}
+use Rattle.meaning.specs.Loops.{Loops}
+use Rattle.meaning.specs.Rows.{commandRows, loopsRows}
 use Rattle.meaning.specs.Layout.{need}
 use Rattle.meaning.specs.Counts.{commandWrites}
-use Rattle.syntax.specs.Ranges.{asNatural}
-use Rattle.syntax.specs.InRange.{CommandInRange, LoopsInRange}
+use Rattle.syntax.specs.InRange.{LoopsInRange}
 use Rattle.syntax.specs.declared.Answer.{Answer}
 use Rattle.syntax.specs.declared.Answer.the-variants as walk
 use Rattle.syntax.specs.Walk.{walkTable}
@@ -30,16 +26,13 @@ use Rattle.loops.specs.declared.Checked.{Checked}
 use Rattle.loops.specs.declared.Checked.the-variants as checked
 use Rattle.bound_check.specs.declared.Asked.{Asked}
 use Rattle.bound_check.specs.declared.Asked.the-variants.{Passed, Refused}
-use Rattle.bounds.specs.Bounds.{askCommand, askBounds}
+use Rattle.bounds.specs.Bounds.{askBounds}
 use Rattle.loops.specs.Check.{askWrites, unless, checkLoops, afterWalk, checkRows}
-use Rattle.bound_check.specs.Rows.{HasRoom, asking}
+use Rattle.bound_check.specs.Rows.{asking}
 use Rattle.loops.specs.Needs.{cellsIn}
-use Rattle.syntax.specs.Ranges.{cellsOf}
-use Rattle.syntax.specs.Standing.{Begins}
 use Rattle.loops.proofs.Needs.{loops-cells}
-use Rattle.bound_check.proofs.Commands.{Asks, asking-refused, asking-passed}
+use Rattle.bound_check.proofs.Commands.{asking-refused, asking-passed}
 use Rattle.syntax.proofs.Front as table
-use Rattle.syntax.proofs.Front.{part}
 
 -- ---- the loops' answer, from the command's
 

@@ -5,7 +5,7 @@ use lib.IntN.{ℤ}
 use lib.ListN.{length}
 use Rattle.lines.specs.Lent.{askRoom, textRows, TableInto}
 use Rattle.lines.specs.declared.Reading.{Reading}
-use Rattle.lines.specs.declared.Reading.the-variants.{Rows, Refused}
+use Rattle.lines.specs.declared.Reading.the-variants.{Refused}
 use Rattle.loops.specs.declared.Checked.{Checked}
 use Rattle.loops.specs.declared.Checked.the-variants as checked
 use Rattle.loops.specs.Check.{checkText}

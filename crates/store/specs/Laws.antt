@@ -1,17 +1,16 @@
 -- The laws of a store. A reader need not believe any of it.
-use mathlib.Core.Path.{_≡_, refl, sym, ap, ap₂, _∙_}
-use mathlib.Core.Bool.{Bool, true, false, cond}
+use mathlib.Core.Path.{_≡_, refl, sym, ap, _∙_}
+use mathlib.Core.Bool.{Bool, cond}
 use mathlib.Core.List.{List, [], _∷_, append-nil}
 use Prim.Native.Nat.{ℕ, zero, suc, _+_, _-_, _*_, _/_, _%_, _≤_, _<_}
 use native.Mathlib.Nat.{div-div-eq-div-mul, mod-add-div, mod-eq-of-lt}
 use native.Mathlib.Omega.{arith}
 use borrow.Author.Tests.{lt-ltb, le-ltb}
-use lib.Dec.{ltb}
 use lib.IntN.{ℤ, pos, negsuc}
 use lib.ListN.{length, getD, take, drop, set, length-append}
 use lib.Seq.{take-at, drop-at}
 use lib.Signed.{mag}
-use Rattle.store.specs.Cells.{signedOf, bitsOf, cellOf, bytesOf, cellsOf, leftOver}
+use Rattle.store.specs.Cells.{signedOf, bitsOf, cellOf, cellsOf, leftOver}
 use Rattle.store.specs.Store.{storeOf, frameOf}
 
 -- ---- a number and its bytes

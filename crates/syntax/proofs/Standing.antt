@@ -1,21 +1,21 @@
 -- A term whose rows stand in front: its first row, and where its operands stand. Assumes nothing.
 use mathlib.Core.Path.{_≡_, refl, ap, sym, _∙_}
-use mathlib.Core.List.{List, [], _∷_, _++_, append-assoc}
+use mathlib.Core.List.{List, _∷_, _++_, append-assoc}
 use Prim.Native.Nat.{ℕ, suc, _+_, _-_, _≤_, _<_}
 use native.Mathlib.Nat.{add-zero}
 use native.Mathlib.Omega.{arith}
 use lib.IntN.{ℤ, pos}
-use lib.ListN.{length, getD, take, drop, length-append, length-drop}
+use lib.ListN.{length, getD, drop, length-append}
 use lib.Seq.{drop-at, drop-drop}
 use Rattle.arithmetic.specs.Arithmetic.{Operation}
-use Rattle.words.specs.Kinds.{Row, rowsOf, word-lit, word-neg, word-redseq, word-pair}
+use Rattle.words.specs.Kinds.{Row, word-lit, word-neg, word-redseq, word-pair}
 use Rattle.words.specs.Laws.{rows-length}
 use Rattle.meaning.specs.Terms.{LoopKind, Term}
 use Rattle.meaning.specs.Rows.{operationWord, mapWord, termRows}
 use Rattle.syntax.specs.Ranges.{asNatural}
 use Rattle.syntax.specs.InRange.{TermInRange}
 use Rattle.syntax.specs.Standing.{TermStands, termKind, termNumber, operandCount, firstOperand, secondOperand, thirdOperand, secondOpens}
-use Rattle.syntax.proofs.Steps.{part-all, rows-part}
+use Rattle.syntax.proofs.Steps.{rows-part}
 use Rattle.syntax.proofs.Front.{part, part-length, head-row}
 use Rattle.syntax.proofs.TermRows.{headNumber, rowsBehind, term-head, number-head, behindFirst, first-rows, behindSecond, second-rows, third-rows, none-behind, one-behind, two-behind}
 

@@ -4,7 +4,7 @@
 -- `rowsIn` of `lines`. The proofs stand in Laws.
 use mathlib.Core.Bool.{Bool, true, false, cond, _&&_}
 use mathlib.Core.Path.{_≡_, refl, sym, ap, _∙_, subst}
-use mathlib.Core.List.{List, []}
+use mathlib.Core.List.{List}
 use mathlib.Core.Logic.{_↔_}
 use Prim.Native.Nat.{ℕ, _≤_}
 use native.Mathlib.Omega.{arith}
@@ -30,7 +30,7 @@ use Rattle.meaning.specs.Translation.{translation}
 use Rattle.syntax.specs.declared.Answer.{Answer}
 use Rattle.syntax.specs.declared.Answer.the-variants as check
 use Rattle.typing.specs.Entry.{checkText}
-use Rattle.typing.specs.Questions.{Question, ask, FirstNo}
+use Rattle.typing.specs.Questions.{ask, FirstNo}
 use Rattle.typing.specs.EntryQuestions.{textQuestions}
 use Rattle.typing.specs.Laws.Questions.{ask-append, ask-through, refused-exactly}
 use Rattle.typing.specs.Theorems.{text-first-no}

@@ -5,7 +5,7 @@ use mathlib.Core.List.{List, _∷_}
 use Prim.Native.Nat.{ℕ, suc, _+_, _-_, _*_, _≤_, _<_}
 use native.Mathlib.Omega.{arith}
 use lib.IntN.{ℤ}
-use lib.ListN.{length, getD, set, drop}
+use lib.ListN.{length, set, drop}
 use lib.Seq.{getD-drop, drop-drop}
 use Rattle.refusals.specs.declared.Refusal.{Refusal}
 use Rattle.refusals.specs.declared.Refusal.the-variants.{TypeMisfit}
@@ -20,7 +20,7 @@ use Rattle.syntax.proofs.Front.{part, part-length}
 use Rattle.type_table.specs.Table.{typeAt, Sound}
 use Rattle.type_table.specs.Laws.{sound-below}
 use Rattle.type_table.specs.Columns.{Noted, behindTerm}
-use Rattle.typing.specs.Check.{Verdict, typed, refused, check, behind, isArray}
+use Rattle.typing.specs.Check.{typed, refused, check, behind, isArray}
 use Rattle.type_check.specs.Rules.{Found, Grown, Room, opensSecond, secondScope, reduceRule}
 use Rattle.type_check.specs.Scopes.{InForce}
 use Rattle.type_check.specs.Terms.{Stands, Place, Kept, TermFound, SecondTyped, withType}

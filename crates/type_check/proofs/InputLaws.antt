@@ -5,7 +5,6 @@ use mathlib.Core.List.{List, [], _∷_, _++_, append-assoc, append-nil}
 use Prim.Native.Nat.{ℕ, zero, suc, _+_, _-_, _≤_, _<_}
 use native.Mathlib.Omega.{arith}
 use native.Mathlib.Nat.{zero-add}
-use native.Mathlib.Numerals.{add-one}
 use borrow.Author.Tests.{eqb-true, eqb-false, ltb-true, ltb-false}
 use lib.Dec.{eqb, ltb}
 use lib.IntN.{ℤ, pos}
@@ -18,7 +17,7 @@ use Rattle.meaning.specs.Types.{DataType, number}
 use Rattle.meaning.specs.Terms.{Plan}
 use Rattle.meaning.specs.Rows.{typeRows, allTypeRows, termRows, planRows}
 use Rattle.syntax.specs.Ranges.{asNatural}
-use Rattle.syntax.specs.InRange.{TypeInRange, AllTypesInRange, PlanInRange}
+use Rattle.syntax.specs.InRange.{TypeInRange, AllTypesInRange}
 use Rattle.syntax.proofs.Steps.{rows-part}
 use Rattle.syntax.proofs.Front.{part, part-length, head-row}
 use Rattle.type_table.specs.Table.{typeAt, Put}

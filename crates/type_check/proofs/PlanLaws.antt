@@ -1,17 +1,15 @@
 -- The types of a plan: its term's, behind those of its inputs.
 use mathlib.Core.Path.{_≡_, refl, ap, sym, subst, _∙_}
 use mathlib.Core.List.{List, [], _++_, append-nil}
-use Prim.Native.Nat.{ℕ, suc, _+_, _-_, _*_, _≤_, _<_}
+use Prim.Native.Nat.{ℕ, _+_, _-_, _*_, _≤_}
 use native.Mathlib.Omega.{arith}
 use lib.IntN.{ℤ}
-use lib.ListN.{length, drop}
+use lib.ListN.{length}
 use lib.Seq.{drop-length}
 use Rattle.refusals.specs.declared.Refusal.{Refusal}
-use Rattle.words.specs.Kinds.{Row}
 use Rattle.meaning.specs.Types.{DataType}
 use Rattle.meaning.specs.Terms.{Term, Plan}
 use Rattle.meaning.specs.Rows.{allTypeRows, termRows}
-use Rattle.syntax.proofs.Standing.{rows-within}
 use Rattle.syntax.proofs.Front.{part, part-length}
 use Rattle.type_table.specs.Table.{typeAt}
 use Rattle.typing.specs.Check.{Verdict, typed, refused, check, checkTypes, checkPlan, termLine}

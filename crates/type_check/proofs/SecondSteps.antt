@@ -1,7 +1,7 @@
 -- The steps of the recursion on a term's second operand, one law for each place in the code that asks one.
 use mathlib.Core.Path.{_≡_, refl, ap, ap₂, sym, subst, _∙_}
 use mathlib.Core.Bool.{Bool, true, false}
-use mathlib.Core.List.{List, _∷_}
+use mathlib.Core.List.{List}
 use Prim.Native.Nat.{ℕ, suc, _+_, _-_, _*_, _≤_, _<_}
 use native.Mathlib.Omega.{arith}
 use lib.IntN.{ℤ}
@@ -22,7 +22,7 @@ use Rattle.syntax.proofs.Front.{part, part-length}
 use Rattle.type_table.specs.Table.{typeAt, Sound}
 use Rattle.type_table.specs.Laws.{sound-below}
 use Rattle.type_table.specs.Columns.{Noted, behindTerm}
-use Rattle.typing.specs.Check.{Verdict, typed, refused, check, behind}
+use Rattle.typing.specs.Check.{typed, refused, check, behind}
 use Rattle.type_check.specs.Rules.{Found, Grown, Room, isMap, opensSecond, secondScope, binaryRule}
 use Rattle.type_check.specs.Scopes.{InForce}
 use Rattle.type_check.specs.Terms.{Stands, Place, Kept, TermFound, FirstTyped, SecondTyped, withType}

@@ -1,7 +1,7 @@
 -- Answers on a term: what they tell, how they follow one another, and how a row's own type comes to be noted.
 use mathlib.Core.Path.{_≡_, refl, ap, sym, subst, _∙_}
 use mathlib.Core.List.{List}
-use Prim.Native.Nat.{ℕ, suc, _+_, _-_, _*_, _≤_, _<_}
+use Prim.Native.Nat.{ℕ, _+_, _-_, _≤_, _<_}
 use native.Mathlib.Omega.{arith}
 use native.Mathlib.Nat.{add-zero}
 use lib.ListN.{length, getD, set, drop, length-append, length-set}
@@ -16,10 +16,10 @@ use Rattle.syntax.proofs.TermRows.{term-head, behindFirst, first-rows, behindSe
 use Rattle.syntax.proofs.Front.{part, part-length}
 use Rattle.type_table.specs.Table.{typeAt}
 use Rattle.type_table.specs.Columns.{Names, Noted}
-use Rattle.typing.specs.Check.{Verdict, typed, refused, check}
-use Rattle.type_check.specs.Rules.{Found, Grown, Room}
+use Rattle.typing.specs.Check.{Verdict, refused, check}
+use Rattle.type_check.specs.Rules.{Found, Grown}
 use Rattle.type_check.specs.Scopes.{InForce}
-use Rattle.type_check.specs.Terms.{Stands, Place, Kept, TermFound, placeFound, withType}
+use Rattle.type_check.specs.Terms.{Place, Kept, TermFound, placeFound, withType}
 use Rattle.type_check.specs.declared.Typing.{Typing}
 use Rattle.type_check.specs.declared.Typing.the-variants.{Typed, Refused}
 use Rattle.type_check.specs.declared.scope.Scope.{Scope}

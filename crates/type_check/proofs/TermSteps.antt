@@ -15,7 +15,7 @@ use Rattle.meaning.specs.Typing.{typeOf}
 use Rattle.meaning.specs.Rows.{termRows}
 use Rattle.syntax.specs.Ranges.{asNatural}
 use Rattle.syntax.specs.InRange.{TermInRange}
-use Rattle.syntax.specs.Standing.{TermStands, termKind, termNumber, operandCount, firstOperand}
+use Rattle.syntax.specs.Standing.{termKind, termNumber, operandCount, firstOperand}
 use Rattle.syntax.proofs.Standing.{its-kind, its-number, rows-within, some-row, leaf-kind, some-operand, first-stands, rows-of-none, rows-of-one}
 use Rattle.syntax.proofs.Front.{part, part-length}
 use Rattle.type_table.specs.Table.{typeAt}
@@ -23,14 +23,14 @@ use Rattle.type_table.specs.Columns.{Names, Noted}
 use Rattle.typing.specs.Check.{typed, refused, check}
 use Rattle.type_check.specs.Rules.{Found, Grown, Room, oneOperand, unaryRule}
 use Rattle.type_check.specs.Scopes.{InForce}
-use Rattle.type_check.specs.Terms.{Stands, Place, Kept, TermFound, FirstTyped, leafPlace, placeFound, withType}
+use Rattle.type_check.specs.Terms.{Stands, Place, Kept, TermFound, FirstTyped, leafPlace, withType}
 use Rattle.type_check.specs.declared.Typing.{Typing}
 use Rattle.type_check.specs.declared.Typing.the-variants.{Typed, Refused}
 use Rattle.type_check.specs.declared.scope.Scope.{Scope}
 use Rattle.type_check.proofs.Found.{found-type, grown-same, within-sized, room-grown}
 use Rattle.type_check.proofs.TermLaws.{one-operand, more-operands, first-refused, row-of-one}
 use Rattle.type_check.proofs.NotedLaws.{noted-none, noted-one, noted-moved}
-use Rattle.type_check.proofs.TermAnswers.{some-rows, at-line, force-on, place-part, place-on, operands-within, term-no, term-was-no, term-was, term-on, behind-set, noted-row}
+use Rattle.type_check.proofs.TermAnswers.{at-line, force-on, place-on, operands-within, term-no, term-was-no, term-was, term-on, behind-set, noted-row}
 
 -- ---- numbers in range
 

@@ -8,7 +8,7 @@ use lib.IntN.{ℤ, pos}
 use lib.ListN.{length, getD, drop, length-append}
 use lib.Seq.{drop-at}
 use Rattle.refusals.specs.declared.Refusal.{Refusal}
-use Rattle.words.specs.Kinds.{Row, rowsOf, word-num, word-arr, word-two}
+use Rattle.words.specs.Kinds.{Row, word-num, word-arr, word-two}
 use Rattle.words.specs.Laws.{rows-length}
 use Rattle.meaning.specs.Types.{DataType, number, array}
 use Rattle.meaning.specs.Rows.{typeRows}

@@ -1,8 +1,6 @@
 // Questions 7 and 8 on a row whose operands have types: `rows` is how many rows the term takes, `line` its first row's line.
 ghost use mathlib.Core.Path.{_≡_};
-ghost use mathlib.Core.Bool.{true};
 ghost use Prim.Native.Nat.{_+_, _≤_, _<_};
-ghost use lib.Dec.{T as Holds};
 ghost use Rattle.words.specs.Kinds.{word-split};
 ghost use Rattle.meaning.specs.Types.{DataType, array as arrayType};
 ghost use Rattle.refusals.specs.declared.Refusal.the-variants.{TypeMisfit};

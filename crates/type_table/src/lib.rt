@@ -2,10 +2,10 @@
 // is made of stands before it. Beside each type stand its cells and levels, so that nobody counts them again.
 ghost use mathlib.Core.Path.{_≡_};
 ghost use mathlib.Core.Bool.{true, false};
-ghost use Prim.Native.Nat.{ℕ, suc, _+_, _*_, _≤_, _<_, max};
-ghost use lib.ListN.{length, getD};
+ghost use Prim.Native.Nat.{suc, _+_, _*_, _≤_, _<_, max};
+ghost use lib.ListN.{length};
 ghost use Rattle.meaning.specs.Types.{DataType, number, array as arrayType, cells as cellsOf, levels as levelsOf};
-ghost use Rattle.type_table.specs.Nodes.{nodeOf, kindIn, levelsIn, cellsIn, leftIn, rightIn};
+ghost use Rattle.type_table.specs.Nodes.{nodeOf, kindIn, leftIn, rightIn};
 ghost use Rattle.type_table.specs.Table.{typeAt, Sound, Put, ArrayTold, PairTold};
 
 // The kinds of nodes.

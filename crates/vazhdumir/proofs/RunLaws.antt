@@ -4,7 +4,7 @@ use mathlib.Core.List.{List, [], _∷_}
 use Prim.Native.Nat.{ℕ}
 use lib.IntN.{ℤ}
 use lib.ListN.{length, drop}
-use Rattle.store.specs.Cells.{cellsOf, leftOver}
+use Rattle.store.specs.Cells.{cellsOf}
 use Rattle.store.specs.Store.{storeOf, frameOf}
 use Rattle.store.specs.Laws.{store-of-bytes, parts-of-store}
 use Rattle.run.specs.declared.Ran.{Ran}

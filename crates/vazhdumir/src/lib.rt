@@ -1,6 +1,5 @@
 // The entries for firmware written in C.
 ghost use mathlib.Core.Path.{_≡_};
-ghost use Prim.Native.Nat.{ℕ};
 ghost use Rattle.words.specs.Words.{words};
 ghost use Rattle.typing.specs.Entry.{checkText as checkPlanText};
 ghost use Rattle.loops.specs.Check.{checkText, needOf};

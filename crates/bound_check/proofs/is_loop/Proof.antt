@@ -1,4 +1,4 @@
--- `loops::commands::is_loop` meets its contract: the two words in turn.
+-- `bound_check::is_loop` meets its contract: the two words in turn.
 use borrow.Author.Tests.{eq-eqb, ne-eqb}
 use Rattle.words.specs.Kinds as kinds
 use Rattle.bound_check.proofs.is_loop.Statement.{statement}

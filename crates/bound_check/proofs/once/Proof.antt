@@ -1,4 +1,4 @@
--- `loops::commands::once` meets its contract: each case is one of the definition's.
+-- `bound_check::once` meets its contract: each case is one of the definition's.
 use mathlib.Core.Path.{sym, ap, _∙_}
 use native.Mathlib.Omega.{arith}
 use borrow.Author.Needs.{needs}

@@ -1,4 +1,4 @@
--- `loops::bounds::largest` meets its contract: each return is a law of Offsets. The rows fall with each call.
+-- `bounds::largest` meets its contract: each return is a law of Offsets. The rows fall with each call.
 use mathlib.Core.Path.{refl, ap, _∙_}
 use native.Mathlib.Omega.{arith}
 use Prim.Native.Nat.{_+_, ℕ, _-_, _<_}

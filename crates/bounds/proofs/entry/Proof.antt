@@ -1,4 +1,4 @@
--- `loops::bounds::entry` meets its contract: past the end `getD` gives 0 too.
+-- `bounds::entry` meets its contract: past the end `getD` gives 0 too.
 use mathlib.Core.Path.{sym}
 use lib.ListN.{List·getD-eq-default}
 use borrow.Author.Needs.{needs}

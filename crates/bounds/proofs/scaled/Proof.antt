@@ -1,4 +1,4 @@
--- `loops::bounds::scaled` meets its contract: each word by its branch; the quotient by 0 is 0.
+-- `bounds::scaled` meets its contract: each word by its branch; the quotient by 0 is 0.
 use mathlib.Core.Path.{refl, sym, ap, _∙_}
 use native.Mathlib.Omega.{arith}
 use Prim.Native.Nat.{ℕ, _/_}

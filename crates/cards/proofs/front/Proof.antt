@@ -1,6 +1,6 @@
 -- `cards::front` answers a number of the text's bytes.
-use mathlib.Core.Path.{refl, sym}
-use Prim.Native.Nat.{ℕ, _≤_}
+use mathlib.Core.Path.{sym}
+use Prim.Native.Nat.{_≤_}
 use native.Mathlib.Omega.{arith}
 use lib.ListN.{length}
 use lib.Seq.{length-take-le}

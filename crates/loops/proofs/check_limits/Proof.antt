@@ -1,4 +1,4 @@
--- `loops::judge` meets its contract: the answer follows from the command's.
+-- `loops::check_limits` meets its contract: the answer follows from the command's.
 use mathlib.Core.Path.{_∙_}
 use borrow.Author.Needs.{needs}
 use Rattle.loops.proofs.Limits as limits

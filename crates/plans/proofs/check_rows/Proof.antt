@@ -2,7 +2,6 @@
 use Rattle.words.specs.Kinds.{rowsOf}
 use Rattle.plans.proofs.RowsChecked as laws
 use native.Mathlib.Omega.{arith}
-use lib.ListN.{length}
 use borrow.Author.Needs.{needs}
 use Rattle.plans.proofs.check_rows.Statement.{statement}
 use Rattle.plans.proofs.check_rows.Tie as tie

@@ -3,7 +3,6 @@ use mathlib.Core.Path.{refl}
 use mathlib.Core.List.{[]}
 use Rattle.type_check.proofs.PlanLaws as laws
 use native.Mathlib.Omega.{arith}
-use lib.ListN.{length}
 use borrow.Author.Needs.{needs}
 use Rattle.type_check.proofs.type_plan.Statement.{statement}
 use Rattle.type_check.proofs.type_plan.Tie as tie

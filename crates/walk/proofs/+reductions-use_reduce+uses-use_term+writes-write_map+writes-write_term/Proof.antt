@@ -16,7 +16,6 @@ use Rattle.walk.proofs.Calls.{bounds, typed, leaf-asks, open-asks, open
 use Rattle.walk.proofs.WriteCalls.{same-end, into-same, used-asks, assign-asks, array-of-map-asks, map-reach, enter-map-asks, body-here, body-asks, map-later-asks, into-asks, part-asks, part-written, part-later-asks, paired-reach, into-second-asks, second-part-here, second-part-asks, paired-later-asks, paired-node, regrouped-node, map-past}
 use Rattle.walk.proofs.ReduceCalls.{start-rows, array-reach, array-typed, array-asks, body-reach, start-asks, enter-asks, round-asks, leave-asks, reduce-returned}
 use native.Mathlib.Omega.{arith}
-use borrow.Author.Needs.{needs}
 use lib.ListN.{length}
 use Prim.Native.Nat.{ℕ, _+_, _*_, _<_}
 use borrow.Fn.Kinds.{In}

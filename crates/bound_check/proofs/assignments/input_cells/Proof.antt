@@ -1,4 +1,4 @@
--- `loops::assignments::input_cells` meets its contract: the number that is read is the row's.
+-- `bound_check::assignments::input_cells` meets its contract: the number that is read is the row's.
 use lib.ListN.{getD}
 use lib.IntN.{pos}
 use borrow.Author.Needs.{needs}

@@ -2,7 +2,6 @@
 use borrow.Author.Tests.{ne-eqb}
 use Rattle.words.specs.Kinds.{word-in, word-var}
 use native.Mathlib.Omega.{arith}
-use lib.ListN.{length}
 use borrow.Author.Needs.{needs}
 use Rattle.type_check.proofs.terms.leaf_place.Statement.{statement}
 use Rattle.type_check.proofs.terms.leaf_place.Tie as tie

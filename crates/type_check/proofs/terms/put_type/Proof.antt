@@ -3,8 +3,6 @@ use mathlib.Core.Path.{sym, ap, subst}
 use Prim.Native.Nat.{_<_}
 use Rattle.type_check.specs.Terms.{placeFound, withType}
 use Rattle.type_check.specs.declared.Typing.{Typing}
-use native.Mathlib.Omega.{arith}
-use lib.ListN.{length}
 use borrow.Author.Needs.{needs}
 use Rattle.type_check.proofs.terms.put_type.Statement.{statement}
 use Rattle.type_check.proofs.terms.put_type.Tie as tie

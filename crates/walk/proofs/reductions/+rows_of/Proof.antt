@@ -4,7 +4,6 @@ use Prim.Native.Nat.{_+_}
 use Rattle.syntax.proofs.Front.{part-length}
 use Rattle.walk.proofs.RowCounts.{rows-begin, leaf-counts, some-first, first-within, one-counts, some-second, second-within, two-counts, some-third, third-within, three-counts}
 use native.Mathlib.Omega.{arith}
-use borrow.Author.Needs.{needs}
 use lib.ListN.{length}
 use Prim.Native.Nat.{ℕ, _<_}
 use borrow.Fn.Kinds.{In}
