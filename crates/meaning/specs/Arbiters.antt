@@ -1,6 +1,5 @@
--- The run in which an arbiter names the order at every visit of every `par`: document 01, 'Value and run', "in any
--- order, chosen anew at each visit". It is there for the law that no order is left out. Definitions only; assumes
--- nothing.
+-- The run in which an arbiter names the order at every visit of every `par` [9.5]. It is there for the law that no order is left
+-- out. Definitions only; assumes nothing.
 use mathlib.Core.List.{List, _∷_}
 use Prim.Native.Nat.{ℕ}
 use Rattle.meaning.specs.Terms.{LoopKind}

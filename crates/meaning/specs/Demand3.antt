@@ -1,10 +1,10 @@
--- Demand 3: translated loops do what the plan says, whole, in every order. Definitions only; `Theorems` has the
+-- Demand 3, which is [9.8]: translated loops do what the plan says, whole, in every order. Definitions only; `Theorems` has the
 -- proof.
 --
 -- It rests on these definitions and on no other of this crate:
 --   Types         DataType, cells, and the parts of a type
 --   Terms         LoopKind, Term, Plan
---   Typing        HasType, which is Figure 3; typeOf, by which the translation goes
+--   Typing        HasType, which is Figure 3 of the paper; typeOf, by which the translation goes
 --   Numbers       NumberDomain
 --   Sequence      upFrom, inTurn
 --   Values        Datum, value, flatten, and what they are made of
@@ -34,21 +34,22 @@ use Rattle.meaning.specs.Translation.{planType, translation}
 use Rattle.meaning.specs.Counts.{planWrites}
 
 module _ (𝓝 : NumberDomain) where
-  -- The value of type t that lies from cell b on: "In cells a value lies as under Arithmetic."
+  -- [3.4] The value of type t that lies from cell b on.
   unfoldable pub datumAt : DataType → Store 𝓝 → ℕ → DatumOf 𝓝
   datumAt number s b = Datum.number (cell 𝓝 s b)
   datumAt (array n t) s b = arrayOf (map (λ i. datumAt t s (b + cells t * i)) (upFrom 0 n))
   datumAt (DataType.pair t₁ t₂) s b = Datum.pair (datumAt t₁ s b) (datumAt t₂ s (b + cells t₁))
 
+  -- [7.5] the values of the inputs, which lie one behind the other from cell b on
   unfoldable pub inputData : ℕ → List DataType → Store 𝓝 → List (DatumOf 𝓝)
   inputData b [] s = []
   inputData b (t ∷ I) s = datumAt t s b ∷ inputData (b + cells t) I s
 
-  -- "A plan's value comes from the plan and the numbers in the input cells as the run begins, and from nothing else."
+  -- [8.1] The plan's value, from the input cells as the run begins.
   unfoldable pub planValue : Plan → Store 𝓝 → DatumOf 𝓝
   planValue P s = value 𝓝 (inputData 0 (P .inputs) s) (P .term) []
 
-  -- What a run of the plan's loops, begun on the store s, must have come to.
+  -- [9.8] What a run of the plan's loops, begun on the store s, must have come to.
   pub record Outcome (P : Plan) (s : Store 𝓝) (st : State 𝓝) : Type 0 where
     -- the output cells hold the plan's value
     pub outputHolds : take (cells (planType P)) (drop (allCells (map cells (P .inputs))) (st .store))
@@ -60,8 +61,8 @@ module _ (𝓝 : NumberDomain) where
     -- the writes made are those counted from the plan
     pub writesCounted : st .writes ≡ planWrites P
 
-  -- For every plan that has a type and every store at least as long as the need: there is a run of the plan's
-  -- loops, and every run of them, whatever orders it takes, comes to the outcome.
+  -- [9.8] For every plan that has a type and every store at least as long as the need: there is a run of the plan's loops, and every
+  -- run of them, whatever orders it takes, comes to the outcome.
   abbrev pub Demand3 : Type 0
   Demand3 =
       (P : Plan) (t : DataType)

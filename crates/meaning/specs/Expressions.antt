@@ -1,13 +1,13 @@
--- Expressions and acceptors: what the translation reads, and where it writes. Figure 3b of the paper, as far as
--- document 01 needs it ('Translation'). Definitions only; assumes nothing. Counters and regions are named by their
--- level, 0 outermost, so that nothing is renamed when a loop or a block is entered.
+-- Expressions and acceptors, which are what the translation reads and where it writes: [6.2], Figure 3b of the paper as far as
+-- [14.2] uses it. Definitions only; assumes nothing. Counters and regions are named by their level, 0 outermost, so that nothing is
+-- renamed when a loop or a `new` is entered.
 use Prim.Native.Nat.{ℕ}
 use lib.IntN.{ℤ}
 use Rattle.arithmetic.specs.Arithmetic.{Operation}
 use Rattle.meaning.specs.Types.{DataType}
 use Rattle.meaning.specs.Loops.{Offset}
 
--- What a use hands on, to be read: Figure 3's expressions. An input or a region lies in the store in some type.
+-- [6.2] What a use hands on, to be read. [6.19] An input or a region lies in the store in a type of its own.
 pub data Expression : Type 0 where
   input : ℕ → DataType → Expression
   region : ℕ → DataType → Expression
@@ -22,8 +22,8 @@ pub data Expression : Type 0 where
   second : Expression → Expression
   index : Expression → Offset → Expression
 
--- Where a write goes: Figure 3's acceptors. `split n` and `join n` are the place of the operand of a term `split`
--- or `join`.
+-- [6.2] Where a write goes. [6.9] `zipFirst` and `zipSecond` are the places of the operands of a `zip`; [6.10] `split n` and `join n`
+-- that of the operand of a `split` or `join`, whose groups are n long.
 pub data Acceptor : Type 0 where
   output : DataType → Acceptor
   region : ℕ → DataType → Acceptor

@@ -16,6 +16,8 @@ pub mod Lists
 pub mod Represents
 pub mod Agreement
 pub mod Cells
+pub mod Shapes
+pub mod Inputs
 -- Demand 3: what holds, what is written, and the induction over terms
 pub mod Holds
 pub mod Into
@@ -32,8 +34,10 @@ pub mod Terms
 pub mod Outcomes
 -- Runs of any loops
 pub mod Runs
+pub mod Arbiters
 pub mod Steps
 pub mod Safety
+pub mod Needs
 -- Translated loops pass
 pub mod Bounds
 pub mod Passing

@@ -1,12 +1,14 @@
--- What a plan is worth, what loops do, and that they agree: document 01, 'Lines' (types, terms, loops), 'Translation', 'Counts', 'Value and run'.
+-- What a plan is worth, what loops do, and that they agree: parts 3 and 5 to 9, and of part 10 what loops and plans must pass.
+-- Numbers in brackets, here and in every file, are those of the rules in docs/REQUIREMENTS.md.
 
--- The definitions, in document 01's order: what a reader has to believe
+-- The definitions
 pub mod Types
 pub mod Terms
 pub mod Typing
 pub mod Numbers
 pub mod Sequence
 pub mod Values
+pub mod Shapes
 pub mod Loops
 pub mod Layout
 pub mod Runs

@@ -1,5 +1,5 @@
--- What loops must pass, and the limits of a plan: document 01, questions 3, 5, 6, 8 and 9; and what it is to touch
--- only cells of the store. Definitions only; assumes nothing.
+-- What loops must pass and the limits of a plan, [10.3], [10.5], [10.6], [10.8] and [10.9]; and what it is to touch only cells of the
+-- store, [9.9]. Definitions only; assumes nothing.
 use mathlib.Core.List.{List, [], _∷_}
 use Prim.Native.Nat.{ℕ, suc, _+_, _*_, _-_, _/_, _≤_, _<_, min}
 use lib.ListN.{length, getD}
@@ -13,12 +13,11 @@ use Rattle.meaning.specs.Rows.{planRows}
 
 -- Loops
 
--- Question 5: "`arr split for par new cells times over rest` 1 to 4,096"
+-- [13.7] The numbers that count rounds, cells and elements.
 abbrev pub IsCount : ℕ → Type 0
 IsCount n = (1 ≤ n) × (n ≤ 4096)
 
--- "Bounds: `lit` v, `ctr` n − 1, `plus` sum, `times` product, `over` quotient, `rest,n` the lesser of the operand's
--- bound and n − 1." `c` are the counters' bounds.
+-- [10.20] The bound of an offset; `c` are the counters' bounds.
 abbrev pub bound : (ℕ → ℕ) → Offset → ℕ
 bound c (Offset.literal v) = v
 bound c (Offset.counter d) = c d
@@ -27,12 +26,12 @@ bound c (times n x) = n * bound c x
 bound c (over n x) = bound c x / n
 bound c (rest n x) = min (bound c x) (n - 1)
 
--- the bounds of the counters of loops with these numbers of rounds, innermost first
+-- [10.20] the bounds of the counters of loops with these numbers of rounds, innermost first
 abbrev pub counterBound : List ℕ → ℕ → ℕ
 counterBound ns d = entry ns d - 1
 
--- Questions 5 and 9 on each row of an offset, k counters being in force: numbers in range, counters "naming one in
--- force", and "every offset row's bound at most 65,535".
+-- Each row of an offset, k counters being in force: [10.5] its number is in range, [13.7] or [13.8], or names a counter in force;
+-- [10.9] its bound is at most 65,535 [13.12].
 abbrev pub OffsetPasses : ℕ → (ℕ → ℕ) → Offset → Type 0
 OffsetPasses k c (Offset.literal v) = v ≤ 4095
 OffsetPasses k c (Offset.counter d) = (d < k) × (c d ≤ 65535)
@@ -41,12 +40,11 @@ OffsetPasses k c (times n x) = OffsetPasses k c x × IsCount n × (bound c (time
 OffsetPasses k c (over n x) = OffsetPasses k c x × IsCount n × (bound c (over n x) ≤ 65535)
 OffsetPasses k c (rest n x) = OffsetPasses k c x × IsCount n × (bound c (rest n x) ≤ 65535)
 
--- "and the whole's below the cells of that input, output or region"
+-- [10.9] And the bound of the whole is below the n cells of what it goes into.
 abbrev pub OffsetFits : ℕ → (ℕ → ℕ) → Offset → ℕ → Type 0
 OffsetFits k c o n = OffsetPasses k c o × (bound c o < n)
 
--- Questions 5 and 9 on a value and on a place: the inputs' cells, or the output's; k counters with bounds c and r
--- regions with cells m in force.
+-- [10.5] [10.9] A value, and a place: the inputs' cells, or the output's; k counters with bounds c and r regions with cells m in force.
 abbrev pub ValuePasses : List ℕ → ℕ → (ℕ → ℕ) → ℕ → (ℕ → ℕ) → Value → Type 0
 ValuePasses ins k c r m (Value.input j o) = (j < length ins) × OffsetFits k c o (entry ins j)
 ValuePasses ins k c r m (Value.region d o) = (d < r) × OffsetFits k c o (m d)
@@ -58,8 +56,8 @@ abbrev pub PlacePasses : ℕ → ℕ → (ℕ → ℕ) → ℕ → (ℕ → ℕ)
 PlacePasses out k c r m (Place.output o) = OffsetFits k c o out
 PlacePasses out k c r m (Place.region d o) = (d < r) × OffsetFits k c o (m d)
 
--- Questions 5, 6 and 9 on a command, under loops of ns rounds and regions of rs cells, innermost first. "On a row
--- that opens names, those in force there and its own together: at most .. (loops: 32 counters, 256 regions)".
+-- A command, under loops of ns rounds and regions of rs cells, innermost first: [10.5] and [10.9] as above, and [10.6] at most 32
+-- counters [13.10] and 256 regions [13.11].
 unfoldable pub CommandPasses : List ℕ → ℕ → List ℕ → List ℕ → Command → Type 0
 CommandPasses ins out ns rs (Command.assignment p v) =
     PlacePasses out (length ns) (counterBound ns) (length rs) (entry rs) p
@@ -70,7 +68,7 @@ CommandPasses ins out ns rs (loop kind n b) =
 CommandPasses ins out ns rs (new c b) =
     IsCount c × (suc (length rs) ≤ 256) × CommandPasses ins out ns (c ∷ rs) b
 
--- Question 5, "K 0 to 8" and `cells`, and then the command.
+-- [10.5] The number of inputs [13.6] and their and the output's cells [13.7]; and then the command.
 pub record LoopsPass (L : Loops) : Type 0 where
   pub inputsFew : length (L .inputs) ≤ 8
   pub inputCells : (k : ℕ) → k < length (L .inputs) → IsCount (entry (L .inputs) k)
@@ -79,17 +77,17 @@ pub record LoopsPass (L : Loops) : Type 0 where
 
 -- Plans
 
--- Question 8, and question 5 on `arr`, of a type and every type in it: "at most 4,096 cells"
+-- [10.8] A type and every type in it: [13.13] the cells, and [13.7] the lengths of arrays.
 abbrev pub CellsWithin : DataType → Type 0
 CellsWithin number = Unit {0}
 CellsWithin (array n t) = (1 ≤ n) × (n * cells t ≤ 4096) × CellsWithin t
 CellsWithin (DataType.pair s t) = (cells s + cells t ≤ 4096) × CellsWithin s × CellsWithin t
 
--- "and 8 levels"
+-- [10.8] And [13.14] the levels.
 abbrev pub TypeWithin : DataType → Type 0
 TypeWithin t = CellsWithin t × (levels t ≤ 8)
 
--- Questions 6, "at most 16 variables", and 8 on each row of a term. (The type of a number is within the limits.)
+-- Each row of a term: [10.8] its type, and [10.6] at most 16 variables [13.9]. (The type of a number is within the limits.)
 abbrev pub TermWithin : List DataType → List DataType → Term → Type 0
 TermWithin I Γ (Term.input k) = TypeWithin (typeOf I Γ (Term.input k))
 TermWithin I Γ (Term.variable d) = TypeWithin (typeOf I Γ (Term.variable d))
@@ -115,25 +113,29 @@ TermWithin I Γ (Term.first e) = TypeWithin (typeOf I Γ (Term.first e)) × Term
 TermWithin I Γ (Term.second e) = TypeWithin (typeOf I Γ (Term.second e)) × TermWithin I Γ e
 TermWithin I Γ (Term.index k e) = TypeWithin (typeOf I Γ (Term.index k e)) × TermWithin I Γ e
 
--- Questions 3, "At most 256 lines", 5, "K 0 to 8", 6 and 8 on a whole plan.
+-- A whole plan: [10.3] its lines [13.4], [10.5] its inputs [13.6], and [10.8] the types of inputs and term.
 pub record PlanWithin (P : Plan) : Type 0 where
   pub rowsFew : length (planRows P) ≤ 256
   pub inputsFew : length (P .inputs) ≤ 8
   pub inputTypes : (k : ℕ) → k < length (P .inputs) → TypeWithin (getD (P .inputs) k number)
   pub termWithin : TermWithin (P .inputs) [] (P .term)
 
--- "Loops that pass run safely": every cell that a run reads or writes is below L, in every round of every loop.
-abbrev pub ReadsBelow : ℕ → List ℕ → (ℕ → ℕ) → (ℕ → ℕ) → Value → Type 0
-ReadsBelow L ins c r (Value.input k o) = entry ins k + offsetAt c o < L
-ReadsBelow L ins c r (Value.region d o) = r d + offsetAt c o < L
-ReadsBelow L ins c r (Value.literal v) = Unit {0}
-ReadsBelow L ins c r (Value.negate v) = ReadsBelow L ins c r v
-ReadsBelow L ins c r (Value.operation o v w) = ReadsBelow L ins c r v × ReadsBelow L ins c r w
+-- Which cells are touched. Every cell that the readings of a value read is one of R.
+abbrev pub ReadsIn : (ℕ → Type 0) → List ℕ → (ℕ → ℕ) → (ℕ → ℕ) → Value → Type 0
+ReadsIn R ins c r (Value.input k o) = R (entry ins k + offsetAt c o)
+ReadsIn R ins c r (Value.region d o) = R (r d + offsetAt c o)
+ReadsIn R ins c r (Value.literal v) = Unit {0}
+ReadsIn R ins c r (Value.negate v) = ReadsIn R ins c r v
+ReadsIn R ins c r (Value.operation o v w) = ReadsIn R ins c r v × ReadsIn R ins c r w
 
-unfoldable pub TouchesBelow : ℕ → Command → Environment → ℕ → Type 0
-TouchesBelow L (Command.assignment p v) ρ a =
-    (target ρ p < L) × ReadsBelow L (ρ .inputBases) (entry (ρ .counters)) (entry (ρ .regions)) v
-TouchesBelow L (seq c d) ρ a = TouchesBelow L c ρ (firstRoom a c d) × TouchesBelow L d ρ (secondRoom a c d)
-TouchesBelow L (loop kind n b) ρ a =
-    (i : ℕ) → i < n → TouchesBelow L b (withCounter i ρ) (roundRoom a kind n b i)
-TouchesBelow L (new c b) ρ a = TouchesBelow L b (withRegion (regionRoom a c b) ρ) (bodyRoom a c b)
+-- Every cell that a run writes is one of W, and every cell that it reads one of R, in every round of every loop.
+unfoldable pub Touches : (ℕ → Type 0) → (ℕ → Type 0) → Command → Environment → ℕ → Type 0
+Touches W R (Command.assignment p v) ρ a =
+    W (target ρ p) × ReadsIn R (ρ .inputBases) (entry (ρ .counters)) (entry (ρ .regions)) v
+Touches W R (seq c d) ρ a = Touches W R c ρ (firstRoom a c d) × Touches W R d ρ (secondRoom a c d)
+Touches W R (loop kind n b) ρ a = (i : ℕ) → i < n → Touches W R b (withCounter i ρ) (roundRoom a kind n b i)
+Touches W R (new c b) ρ a = Touches W R b (withRegion (regionRoom a c b) ρ) (bodyRoom a c b)
+
+-- [9.9] Every cell that a run reads or writes is below L.
+abbrev pub TouchesBelow : ℕ → Command → Environment → ℕ → Type 0
+TouchesBelow L c ρ a = Touches (λ x. x < L) (λ x. x < L) c ρ a

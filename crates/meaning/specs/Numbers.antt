@@ -9,6 +9,6 @@ pub record NumberDomain : Type 1 where
   pub negate : Number → Number
   pub operate : Operation → Number → Number → Number
 
--- Document 01's numbers: "Cells are 32-bit signed", clamped.
+-- [4.1] to [4.5] The numbers of cells, and their arithmetic.
 abbrev pub clamped32 : NumberDomain
 clamped32 = record { Number = ℤ; literal = λ z. z; negate = negation; operate = operate }

@@ -1,4 +1,4 @@
--- Paths into a value: the paper's access paths, section 4.3. Definitions only; assumes nothing.
+-- Paths into a value, made of the steps of [6.18]: the paper's access paths, section 4.3. Definitions only; assumes nothing.
 use mathlib.Core.List.{List, [], _∷_}
 
 -- A step goes to an element, at an index, or to a part of a pair. Indices are offsets here, and numbers in the laws.

@@ -1,5 +1,5 @@
--- The rows of plans and of loops, so that a tree is a table's meaning: document 01, 'Lines'. "Rows stand in prefix
--- order: each is followed by its operands." "A number without meaning is 0." Definitions only; assumes nothing.
+-- The rows of plans and of loops, so that a tree is a table's meaning: the words of [3.1] and [3.6] to [3.15], [1.7] in prefix order.
+-- [1.6] A number that a word has no use for is 0. Definitions only; assumes nothing.
 use mathlib.Core.List.{List, [], _∷_, _++_}
 use Prim.Native.Nat.{ℕ}
 use lib.ListN.{length}

@@ -7,7 +7,7 @@ abbrev pub upFrom : ℕ → ℕ → List ℕ
 upFrom i zero = []
 upFrom i (suc k) = i ∷ upFrom (suc i) k
 
--- "first to last": what begins as x is changed by each of the list in turn
+-- what begins as x is changed by each of the list in turn, first to last
 abbrev pub inTurn : {A B : Type 0} → List B → (B → A → A) → A → A
 inTurn [] change x = x
 inTurn (b ∷ bs) change x = inTurn bs change (change b x)

@@ -1,17 +1,16 @@
--- Terms and plans as trees: document 01, 'Lines' (terms, plan). Definitions only; assumes nothing.
+-- Terms and plans as trees: [3.6] to [3.11]. Definitions only; assumes nothing.
 use mathlib.Core.List.{List}
 use Prim.Native.Nat.{ℕ}
 use lib.IntN.{ℤ}
 use Rattle.arithmetic.specs.Arithmetic.{Operation}
 use Rattle.meaning.specs.Types.{DataType}
 
--- A map is `mappar` or `mapseq`, a loop `par` or `for`: "sequential or parallel".
+-- [3.9] A map is `mappar` or `mapseq`. [3.13] A loop is `par` or `for`.
 pub data LoopKind : Type 0 where
   parallel sequential : LoopKind
 
--- Terms, in document 01's order. `input` counts from 0; `variable` from 0 innermost. A `map` has an array and a
--- body with one variable. A `reduce` has a start, an array and "a body with two variables, 0 the running total, 1
--- the element".
+-- [3.7] to [3.11], in that order. Inputs are numbered from 0, variables from 0 innermost. A `map` has an array and a body with one
+-- more variable; a `reduce` a start, an array and a body with two more, 0 the total so far and 1 the element.
 pub data Term : Type 0 where
   input : ℕ → Term
   variable : ℕ → Term
@@ -28,7 +27,7 @@ pub data Term : Type 0 where
   second : Term → Term
   index : ℕ → Term → Term
 
--- "**Plan**: `plan,K`, then K input types, then one term."
+-- [3.6] The types of the inputs, and one term.
 pub record Plan : Type 0 where
   pub inputs : List DataType
   pub term : Term

@@ -1,46 +1,65 @@
--- What is proved, in one place: demand 3, and what goes with it. The proofs are in `Laws`.
+-- What is proved, in one place: demand 3, which is [9.8], and what goes with it. The proofs are in `Laws`.
 use mathlib.Core.Path.{_≡_, refl, sym, _∙_, subst}
 use mathlib.Core.Logic.{_↔_}
-use mathlib.Core.List.{List, [], List·Permᴰ}
+use mathlib.Core.List.{List, [], map, List·Permᴰ}
 use mathlib.Core.Option.{some}
 use Prim.Native.Nat.{ℕ, _+_, _≤_}
+use native.Mathlib.Omega.{arith}
 use native.Mathlib.Nat.{le-refl, zero-add}
 use lib.ListN.{length, take, drop, replicate, length-replicate}
 use Rattle.meaning.specs.Types.{DataType, cells}
-use Rattle.meaning.specs.Terms.{Term, Plan}
+use Rattle.meaning.specs.Terms.{LoopKind, Term, Plan}
 use Rattle.meaning.specs.Typing.{HasType}
 use Rattle.meaning.specs.Numbers.{NumberDomain, clamped32}
 use Rattle.meaning.specs.Sequence.{upFrom, inTurn}
 use Rattle.meaning.specs.Values.{flatten, noNumber}
+use Rattle.meaning.specs.Shapes.{Shaped}
 use Rattle.meaning.specs.Loops.{Loops}
-use Rattle.meaning.specs.Layout.{regionsFrom, need}
-use Rattle.meaning.specs.Runs.{Orders, startOf, Store, State, cell, Run, beginning, runLoops, RunOf}
+use Rattle.meaning.specs.Layout.{allCells, regionsFrom, need}
+use Rattle.meaning.specs.Runs.{Order, Orders, startOf, Store, State, cell, Run, beginning, runLoops, RunOf}
 use Rattle.meaning.specs.Arbiters.{Arbiter, runBy}
 use Rattle.meaning.specs.NamedOrders.{forward, always}
 use Rattle.meaning.specs.Steps.{steps, doStep}
 use Rattle.meaning.specs.Translation.{translation}
 use Rattle.meaning.specs.Counts.{commandWrites, planWrites}
+use Rattle.meaning.specs.Rows.{loopsRows}
 use Rattle.meaning.specs.Limits.{LoopsPass, PlanWithin, TouchesBelow}
-use Rattle.meaning.specs.Demand3.{datumAt, Outcome, Demand3}
+use Rattle.meaning.specs.Demand3.{datumAt, planValue, Outcome, Demand3}
 use Rattle.meaning.specs.Laws.Typing.{well-typed}
 use Rattle.meaning.specs.Laws.Inference.{infer, typed-inferred, inferred-typed}
 use Rattle.meaning.specs.Laws.Orders.{every-order}
 use Rattle.meaning.specs.Laws.Cells.{read-flattened}
+use Rattle.meaning.specs.Laws.Shapes.{plan-shaped}
+use Rattle.meaning.specs.Laws.Inputs.{same-value}
 use Rattle.meaning.specs.Laws.Outcomes.{plan-outcome}
 use Rattle.meaning.specs.Laws.Runs.{run-choice, choice-run}
+use Rattle.meaning.specs.Laws.Arbiters.{arbiterOf, arbiter-fair, run-by-arbiter, run-by-name}
 use Rattle.meaning.specs.Laws.Steps.{run-does-steps, run-writes, run-length}
 use Rattle.meaning.specs.Laws.Safety.{loops-touch-below, beyond-kept}
+use Rattle.meaning.specs.Laws.Needs.{need-by-rows}
 use Rattle.meaning.specs.Laws.PassingPlans.{translation-passes}
 
--- Figure 3's relation and the type check find the same types.
+-- [5.1] The relation of Figure 3 and the type check find the same types.
 pub type-check : (I Γ : List DataType) (e : Term) (t : DataType) → HasType I Γ e t ↔ (infer I Γ e ≡ some t)
 type-check I Γ e t = (typed-inferred I Γ e t, inferred-typed I Γ e t)
 
 module _ (𝓝 : NumberDomain) where
-  -- The value that is read from cells, laid into cells, is those cells again.
+  -- [3.4] The value that is read from cells, laid into cells, is those cells again.
   pub value-of-cells : (t : DataType) (s : Store 𝓝) (b : ℕ)
       → b + cells t ≤ length s → flatten (datumAt 𝓝 t s b) ≡ take (cells t) (drop b s)
   value-of-cells t s b l = read-flattened 𝓝 t s b l
+
+  -- [8.1] The value of a plan that has a type has that type's shape.
+  pub value-shaped : (P : Plan) (t : DataType) → HasType (P .inputs) [] (P .term) t
+      → (s : Store 𝓝) → Shaped t (planValue 𝓝 P s)
+  value-shaped P t typed s =
+      subst (λ (x : DataType). Shaped x (planValue 𝓝 P s)) (well-typed typed .1) (plan-shaped 𝓝 P (well-typed typed .0) s)
+
+  -- [8.1] A plan's value depends on the plan and on what the input cells hold, and on nothing else.
+  pub value-of-inputs : (P : Plan) (s s′ : Store 𝓝)
+      → take (allCells (map cells (P .inputs))) s ≡ take (allCells (map cells (P .inputs))) s′
+      → planValue 𝓝 P s ≡ planValue 𝓝 P s′
+  value-of-inputs P s s′ e = same-value 𝓝 s s′ P e
 
   -- Each run of loops is a choice of orders, and each choice a run.
   pub run-is-choice : (L : Loops) (s : Store 𝓝) (st : State 𝓝)
@@ -54,7 +73,7 @@ module _ (𝓝 : NumberDomain) where
         (choice-run 𝓝 (L .command) (c .0) (startOf L) (regionsFrom L) (beginning 𝓝 s)),
   )
 
-  -- No order is left out: whatever permutation is named at every visit of every `par`, some run takes it.
+  -- [9.5] No order is left out: whatever permutation is named at every visit of every `par`, some run takes it.
   pub no-order-left-out : (π : Arbiter)
       → ((visit : List ℕ) (n : ℕ) → List·Permᴰ (π visit n) (upFrom 0 n))
       → (L : Loops) (s : Store 𝓝)
@@ -66,13 +85,33 @@ module _ (𝓝 : NumberDomain) where
       (x .1 (startOf L) (regionsFrom L) (beginning 𝓝 s))
       (choice-run 𝓝 (L .command) (x .0) (startOf L) (regionsFrom L) (beginning 𝓝 s))
 
+  -- [9.5] And there is no other run: each takes at every visit of every `par` a permutation of its rounds.
+  pub no-other-run : (L : Loops) (s : Store 𝓝) (st : State 𝓝) → RunOf 𝓝 L s st
+      → (π : Arbiter)
+      × ((visit : List ℕ) (n : ℕ) → List·Permᴰ (π visit n) (upFrom 0 n))
+      × (st ≡ runBy 𝓝 π (L .command) [] (startOf L) (regionsFrom L) (beginning 𝓝 s))
+  unfolding runLoops
+  no-other-run L s st r =
+      let c = run-is-choice L s st .0 r in (
+        arbiterOf (L .command) (c .0),
+        arbiter-fair (L .command) (c .0),
+        sym (c .1) ∙ run-by-arbiter 𝓝 (L .command) (c .0) (startOf L) (regionsFrom L) (beginning 𝓝 s),
+      )
+
+  -- [9.10] The run in which every `par` takes the order named is the run by the arbiter that names it at every visit.
+  pub named-run : (o : (n : ℕ) → Order LoopKind.parallel n) (L : Loops) (s : Store 𝓝)
+      → runLoops 𝓝 L (always o (L .command)) s
+      ≡ runBy 𝓝 (λ visit n. o n .0) (L .command) [] (startOf L) (regionsFrom L) (beginning 𝓝 s)
+  unfolding runLoops
+  named-run o L s = run-by-name 𝓝 o (L .command) [] (startOf L) (regionsFrom L) (beginning 𝓝 s)
+
   -- A run does its steps, which are known before the store is seen.
   pub run-is-steps : (L : Loops) (ch : Orders (L .command)) (s : Store 𝓝)
       → runLoops 𝓝 L ch s ≡ inTurn (steps (L .command) ch (startOf L) (regionsFrom L)) (doStep 𝓝) (beginning 𝓝 s)
   unfolding runLoops
   run-is-steps L ch s = run-does-steps 𝓝 (L .command) ch (startOf L) (regionsFrom L) (beginning 𝓝 s)
 
-  -- Demand 3, for every choice of orders and so for every run.
+  -- [9.8] Demand 3, for every choice of orders and so for every run.
   pub demand-3-choice : (P : Plan) (t : DataType) → HasType (P .inputs) [] (P .term) t
       → (s : Store 𝓝) → need (translation P) ≤ length s
       → (ch : Orders (translation P .command)) → Outcome 𝓝 P s (runLoops 𝓝 (translation P) ch s)
@@ -89,7 +128,7 @@ module _ (𝓝 : NumberDomain) where
         subst (λ (x : State 𝓝). Outcome 𝓝 P s x) (c .1) (demand-3-choice P t typed s enough (c .0)),
   )
 
-  -- The writes of any run of any loops are those counted from the rows.
+  -- [9.7] [7.1] The writes of any run of any loops are those counted from the rows.
   pub writes-of-run : (L : Loops) (s : Store 𝓝) (st : State 𝓝)
       → RunOf 𝓝 L s st → st .writes ≡ commandWrites (L .command)
   unfolding runLoops
@@ -99,8 +138,7 @@ module _ (𝓝 : NumberDomain) where
       (run-writes 𝓝 (L .command) (c .0) (startOf L) (regionsFrom L) (beginning 𝓝 s)
       ∙ zero-add (commandWrites (L .command)))
 
-  -- Loops that pass leave every cell past the need as it was, whoever wrote them, in every run; and the store its
-  -- length.
+  -- [9.9] Loops that pass leave every cell past the need as it was, whoever wrote them, in every run; and the store its length.
   pub beyond-need : (L : Loops) → LoopsPass L → (s : Store 𝓝) (st : State 𝓝) → RunOf 𝓝 L s st
       → (length (st .store) ≡ length s) × ((x : ℕ) → need L ≤ x → cell 𝓝 (st .store) x ≡ cell 𝓝 s x)
   unfolding runLoops
@@ -115,20 +153,24 @@ module _ (𝓝 : NumberDomain) where
             (beginning 𝓝 s),
       )
 
--- Demand 3 on document 01's numbers.
+-- [9.8] Demand 3 on the numbers of cells [4.1].
 pub demand-3-on-cells : Demand3 clamped32
 demand-3-on-cells = demand-3 clamped32
 
--- Loops that pass touch, reading or writing, only cells below the need, whoever wrote them.
+-- [9.9] Loops that pass touch, reading or writing, only cells below the need, whoever wrote them.
 pub safe-loops : (L : Loops) → LoopsPass L → TouchesBelow (need L) (L .command) (startOf L) (regionsFrom L)
 safe-loops L h = loops-touch-below L h
 
--- The translator's own loops pass questions 5, 6 and 9.
+-- [7.4] Loops of at most 4,096 rows [13.5] that pass need at most 4,096 × 4,096 cells.
+pub need-few : (L : Loops) → LoopsPass L → length (loopsRows L) ≤ 4096 → need L ≤ 16777216
+need-few L h few = omega (arith, need-by-rows L h)
+
+-- [9.9] Loops made from a plan pass: [10.5], [10.6] and [10.9].
 pub own-loops-pass : (P : Plan) (t : DataType) → HasType (P .inputs) [] (P .term) t → PlanWithin P
     → LoopsPass (translation P)
 own-loops-pass P t typed within = translation-passes P (well-typed typed .0) within
 
--- Their writes, counted from the rows, are w.
+-- [7.3] Their writes, counted from the rows, are w.
 pub own-writes : (P : Plan) (t : DataType) → HasType (P .inputs) [] (P .term) t
     → commandWrites (translation P .command) ≡ planWrites P
 own-writes P t typed =

@@ -1,20 +1,20 @@
--- The types of plans: document 01, 'Lines' (types), 'Arithmetic' (cells) and question 8 (levels). The paper calls
--- them data types. Definitions only; assumes nothing.
+-- Types of plans, their cells and levels: [3.1] to [3.3], [3.5]. The paper calls them data types. Definitions only; assumes
+-- nothing.
 use Prim.Native.Nat.{ℕ, suc, _+_, _*_, max}
 
--- "Types: `num,0`; `arr,n` and its element type; `two,0` and its two types (a pair)."
+-- [3.1] A number, an array of some length, or a pair. [3.5] Types that are built differently are different.
 pub data DataType : Type 0 where
   number : DataType
   array : ℕ → DataType → DataType
   pair : DataType → DataType → DataType
 
--- "Cells of a type: `num` 1; array length × element; pair the sum."
+-- [3.2] How many cells a value of the type takes.
 abbrev pub cells : DataType → ℕ
 cells number = 1
 cells (array n t) = n * cells t
 cells (DataType.pair s t) = cells s + cells t
 
--- "levels (`num` is 1, `arr` and `two` one more than their deepest type)"
+-- [3.3] How many levels deep the type is built.
 abbrev pub levels : DataType → ℕ
 levels number = 1
 levels (array n t) = suc (levels t)

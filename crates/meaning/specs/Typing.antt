@@ -1,5 +1,5 @@
--- Which term has which type: Figure 3 of the paper, with document 01's changes ('Lines'). Definitions only; assumes
--- nothing. `I` are the types of the inputs, `Γ` those of the variables in force, innermost first.
+-- Which term has which type: [5.2] to [5.10], Figure 3 of the paper. Definitions only; assumes nothing. `I` are the types of the
+-- inputs, `Γ` those of the variables in force, innermost first.
 use mathlib.Core.Path.{_≡_}
 use mathlib.Core.List.{List, _∷_}
 use Prim.Native.Nat.{ℕ, _*_, _/_, _<_}
@@ -9,11 +9,10 @@ use Rattle.arithmetic.specs.Arithmetic.{Operation}
 use Rattle.meaning.specs.Types.{DataType, arrayLength, element, firstType, secondType, number, array}
 use Rattle.meaning.specs.Terms.{LoopKind, Term}
 
--- The rules, in Figure 3's order. Changed by document 01: inputs and variables are numbered; "`split,n` makes
--- groups of n, n dividing the length"; "`idx,k` needs k below the length", k being a constant; the body of a
--- reduction has the total as variable 0 and the element as variable 1, and "has the start's type"; `min` and `max`
--- are typed as `add`.
+-- The rules, in Figure 3's order. Other than there, inputs and variables are numbered [3.7], the number of `split,n` is the length
+-- of a group [5.8], `idx,k` has a constant and `min` and `max` are there [14.2], and the body of `reduce` has two variables [14.8].
 pub data HasType (I : List DataType) : List DataType → Term → DataType → Type 0 where
+  -- [5.2]
   input : {Γ : List DataType} {t : DataType} (k : ℕ)
       → k < length I → getD I k number ≡ t
       → HasType I Γ (Term.input k) t
@@ -22,27 +21,34 @@ pub data HasType (I : List DataType) : List DataType → Term → DataType → T
       → HasType I Γ (Term.variable d) t
   literal : {Γ : List DataType} (v : ℤ)
       → HasType I Γ (Term.literal v) number
+  -- [5.3]
   negate : {Γ : List DataType} {e : Term}
       → HasType I Γ e number
       → HasType I Γ (Term.negate e) number
   operation : {Γ : List DataType} {e f : Term} (o : Operation)
       → HasType I Γ e number → HasType I Γ f number
       → HasType I Γ (Term.operation o e f) number
+  -- [5.4]
   map : {Γ : List DataType} {a b : Term} {n : ℕ} {s t : DataType} (kind : LoopKind)
       → HasType I Γ a (array n s) → HasType I (s ∷ Γ) b t
       → HasType I Γ (Term.map kind a b) (array n t)
+  -- [5.5]
   reduce : {Γ : List DataType} {z a b : Term} {n : ℕ} {s t : DataType}
       → HasType I Γ z t → HasType I Γ a (array n s) → HasType I (t ∷ s ∷ Γ) b t
       → HasType I Γ (Term.reduce z a b) t
+  -- [5.6]
   zip : {Γ : List DataType} {a b : Term} {n : ℕ} {s t : DataType}
       → HasType I Γ a (array n s) → HasType I Γ b (array n t)
       → HasType I Γ (Term.zip a b) (array n (DataType.pair s t))
+  -- [5.8]
   split : {Γ : List DataType} {e : Term} {l : ℕ} {t : DataType} (m n : ℕ)
       → 0 < n → l ≡ m * n → HasType I Γ e (array l t)
       → HasType I Γ (Term.split n e) (array m (array n t))
+  -- [5.9]
   join : {Γ : List DataType} {e : Term} {l m n : ℕ} {t : DataType}
       → l ≡ m * n → HasType I Γ e (array m (array n t))
       → HasType I Γ (Term.join e) (array l t)
+  -- [5.7]
   pair : {Γ : List DataType} {a b : Term} {s t : DataType}
       → HasType I Γ a s → HasType I Γ b t
       → HasType I Γ (Term.pair a b) (DataType.pair s t)
@@ -52,11 +58,12 @@ pub data HasType (I : List DataType) : List DataType → Term → DataType → T
   second : {Γ : List DataType} {e : Term} {s t : DataType}
       → HasType I Γ e (DataType.pair s t)
       → HasType I Γ (Term.second e) t
+  -- [5.10]
   index : {Γ : List DataType} {e : Term} {n : ℕ} {t : DataType} (k : ℕ)
       → k < n → HasType I Γ e (array n t)
       → HasType I Γ (Term.index k e) t
 
--- The type of a term that has one, by computing. Of a term that has none it says nothing of use.
+-- The type of a term that has one, by computing: [5.2] to [5.10]. Of a term that has none it says nothing of use.
 abbrev pub typeOf : List DataType → List DataType → Term → DataType
 typeOf I Γ (Term.input k) = getD I k number
 typeOf I Γ (Term.variable d) = getD Γ d number

@@ -1,5 +1,4 @@
--- A plan's value, from the plan and its inputs alone: document 01, 'Value and run', first part. No loop is spoken of.
--- Definitions only; assumes nothing.
+-- A plan's value, from the plan and its inputs alone: [8.1] to [8.5]. No loop is spoken of. Definitions only; assumes nothing.
 use mathlib.Core.List.{List, [], _∷_, _++_, map}
 use Prim.Native.Nat.{ℕ, zero, suc, _/_}
 use lib.ListN.{length, getD, take, drop}
@@ -8,7 +7,7 @@ use Rattle.meaning.specs.Terms.{Term}
 use Rattle.meaning.specs.Numbers.{NumberDomain}
 use Rattle.meaning.specs.Sequence.{inTurn}
 
--- "A `num` is a number, an array a list, a pair two values." `Data` is a list of them: antt has no nested data.
+-- [8.1] A number, a list or a pair. `Data` is a list of them: antt has no nested data.
 mutual
   pub data Datum (N : Type 0) : Type 0 where
     number : N → Datum N
@@ -46,23 +45,23 @@ module _ {N : Type 0} where
   secondOf (Datum.array vs) = Datum.array vs
   secondOf (Datum.pair a b) = b
 
-  -- "`zip` is the list of pairs"
+  -- [8.5] two lists, paired element by element
   abbrev pub zipped : List (Datum N) → List (Datum N) → List (Datum N)
   zipped [] m = []
   zipped (a ∷ l) [] = []
   zipped (a ∷ l) (b ∷ m) = Datum.pair a b ∷ zipped l m
 
-  -- "`split,n` the list in groups of n": k groups
+  -- [8.5] a list cut into k groups of n
   abbrev pub groups : ℕ → ℕ → List (Datum N) → List (Datum N)
   groups zero n l = []
   groups (suc k) n l = arrayOf (take n l) ∷ groups k n (drop n l)
 
-  -- "`join` the groups as one list"
+  -- [8.5] groups put back together
   abbrev pub joined : List (Datum N) → List (Datum N)
   joined [] = []
   joined (v ∷ l) = elements v ++ joined l
 
-  -- "Arrays lie row by row, a pair's first before its second."
+  -- [3.4] A value in cells: elements one behind the other, a first part before its second.
   abbrev mutual
     pub flatten : Datum N → List N
     flatten (Datum.number x) = x ∷ []
@@ -89,19 +88,21 @@ module _ (𝓝 : NumberDomain) where
   numberOf (Datum.array vs) = noNumber
   numberOf (Datum.pair a b) = noNumber
 
-  -- The value of a term, of the inputs' values X and the variables' values env, innermost first. "A map is the list
-  -- of its body's values, the variable being each element in turn. `redseq` begins with its start's value as total;
-  -- each element, first to last, makes the body's value the new total, and the last total is its value."
+  -- The value of a term, of the inputs' values X and the variables' values env, innermost first.
   unfoldable pub value : List DatumOf → Term → List DatumOf → DatumOf
+  -- [8.2] What is named; and arithmetic.
   value X (Term.input k) env = getD X k noDatum
   value X (Term.variable d) env = getD env d noDatum
   value X (Term.literal v) env = Datum.number (𝓝 .literal v)
   value X (Term.negate e) env = Datum.number (𝓝 .negate (numberOf (value X e env)))
   value X (Term.operation o e f) env =
       Datum.number (𝓝 .operate o (numberOf (value X e env)) (numberOf (value X f env)))
+  -- [8.3] The body's value for each element.
   value X (Term.map kind a b) env = arrayOf (map (λ x. value X b (x ∷ env)) (elements (value X a env)))
+  -- [8.4] The start is the first total; with each element, first to last, the body's value is the next.
   value X (Term.reduce z a b) env =
       inTurn (elements (value X a env)) (λ x total. value X b (total ∷ x ∷ env)) (value X z env)
+  -- [8.5] Lists and pairs, put together and taken apart.
   value X (Term.zip a b) env = arrayOf (zipped (elements (value X a env)) (elements (value X b env)))
   value X (Term.pair a b) env = Datum.pair (value X a env) (value X b env)
   value X (Term.split n e) env =

@@ -1,4 +1,4 @@
--- An assignment writes the value that its expression holds, whatever order its `par`s take.
+-- [6.3] An assignment writes the value that its expression holds, whatever order its `par`s take.
 use mathlib.Core.Path.{refl}
 use mathlib.Core.List.{List, _∷_}
 use Prim.Native.Nat.{ℕ, suc}

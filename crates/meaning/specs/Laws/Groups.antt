@@ -1,4 +1,4 @@
--- Groups of n: element j of group i is element n * i + j of the flat array. Laws of quotient and remainder.
+-- [6.22] Groups of n: element j of group i is element n * i + j of the flat array. Laws of quotient and remainder.
 use mathlib.Core.Path.{_≡_, sym, ap, _∙_, subst}
 use Prim.Native.Nat.{ℕ, zero, suc, _+_, _*_, _/_, _%_, _≤_, _<_}
 use native.Mathlib.Nat.{mul-le-mul-right, suc-mul, mul-zero, not-suc-le-zero, div-lt-iff-lt-mul, mod-lt, mul-add-div}

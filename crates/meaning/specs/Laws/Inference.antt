@@ -1,4 +1,4 @@
--- The type check: whether a term has a type is decided, and the type is found. It is Figure 3's relation.
+-- The type check: whether a term has a type is decided, and the type is found. It is the relation of Figure 3, [5.2] to [5.10].
 use mathlib.Core.Path.{_≡_, refl, ap, ap₂, _∙_, subst}
 use mathlib.Core.List.{List, _∷_}
 use mathlib.Core.Option.{Option, none, some}

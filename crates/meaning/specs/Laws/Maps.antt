@@ -29,7 +29,7 @@ use Rattle.meaning.specs.Laws.Claims.{UsesRightly, WritesRightly, precon
 use Rattle.meaning.specs.Laws.Regions.{Added, region-after-use}
 
 module _ {W : Setting} {Γ : List DataType} where
-  -- "Use a map: `new` of its type, write it there, then C reads it."
+  -- [6.13] A region for the map, which is written into it, and then C.
   pub use-written : (writeE : Write) (t : DataType) (k : ℕ) (F : List (Contents W) → Contents W)
       → WritesRightly W writeE Γ t k F → UsesRightly W (useWritten t writeE) Γ t k F
   unfolding useWritten run
@@ -57,7 +57,7 @@ module _ {W : Setting} {Γ : List DataType} where
       (H .sameLength) (H .counted))
       (ch .1)
 
-  -- "Write a map: use the array, then `par` (`mapseq`: `for`), writing the body into the element's place."
+  -- [6.7] The array used, and a round for each element.
   pub write-map-rightly : (kind : LoopKind) (useA : Use) (writeB : Write) (ta tb : DataType) (ka kb : ℕ)
       (Fa Fb : List (Contents W) → Contents W)
       → IsArray ta → UsesRightly W useA Γ ta ka Fa → WritesRightly W writeB (element ta ∷ Γ) tb kb Fb

@@ -1,5 +1,4 @@
--- A whole plan: its loops, run on a store at least as long as the need, in any order, come to the outcome that
--- demand 3 asks for.
+-- A whole plan: its loops, run on a store at least as long as the need, in any order, come to the outcome of [9.8].
 use mathlib.Core.Path.{refl, sym, ap, _∙_}
 use mathlib.Core.List.{List, [], map}
 use Prim.Native.Nat.{ℕ, _+_, _-_, _≤_, _<_}

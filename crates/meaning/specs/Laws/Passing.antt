@@ -1,5 +1,4 @@
--- Expressions and acceptors that pass: every reading of the one, and every write to the other, passes questions 5
--- and 9.
+-- Expressions and acceptors that pass: every reading of the one, and every write to the other, passes [10.5] and [10.9].
 use mathlib.Core.Path.{_≡_, sym, _∙_, subst}
 use mathlib.Core.List.{List, _∷_}
 use Prim.Native.Nat.{ℕ, _*_, _≤_, _<_}

@@ -21,7 +21,7 @@ PathOf (DataType.pair s t) (index i ∷ p) = ⊥
 PathOf (DataType.pair s t) (first ∷ p) = PathOf s p
 PathOf (DataType.pair s t) (second ∷ p) = PathOf t p
 
--- the cell that it leads to: "Arrays lie row by row, a pair's first before its second."
+-- [3.4] the cell that it leads to
 abbrev pub cellOf : DataType → Path ℕ → ℕ
 cellOf number p = 0
 cellOf (array n t) p = cells t * headIndex 0 p + cellOf t (tail p)

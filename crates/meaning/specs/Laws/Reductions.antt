@@ -123,8 +123,7 @@ module _ (W : Setting) (writeB : Write) (Γ : List DataType) (z e : DataType) (k
         (T .kept) (T .sameLength) (T .counted))
         (ch .1 .1)
 
--- "use the array, then the start; `new` total; assign the start; `for` over elements: `new` next, write the body
--- into next, assign next to total"
+-- [6.14] The whole reduction: its array used, then its start, and then the above.
 pub use-reduce : {W : Setting} {Γ : List DataType} (useA useZ : Use) (writeB : Write) (ta tz : DataType) (ka kz kb : ℕ)
     (Fa Fz Fb : List (Contents W) → Contents W)
     → IsArray ta → UsesRightly W useA Γ ta ka Fa → UsesRightly W useZ Γ tz kz Fz

@@ -1,4 +1,4 @@
--- Loops that pass touch only cells below the need, whoever wrote them.
+-- [9.9] Loops that pass touch only cells below the need, whoever wrote them.
 use mathlib.Core.Path.{_≡_, refl, _∙_}
 use mathlib.Core.List.{List, [], _∷_, List·Memᴰ, List·Memᴰ·head, List·Memᴰ·tail}
 use Prim.Native.Nat.{ℕ, zero, suc, _+_, _/_, _%_, _≤_, _<_}
@@ -16,7 +16,7 @@ use Rattle.meaning.specs.Layout.{need}
 use Rattle.meaning.specs.Runs.{roundsIn, Orders, offsetAt, entry, Environment, withCounter, withRegion, target}
 use Rattle.meaning.specs.Runs.{startOf, State, cell, valueIn, run}
 use Rattle.meaning.specs.Limits.{bound, counterBound, OffsetPasses, OffsetFits, ValuePasses, PlacePasses}
-use Rattle.meaning.specs.Limits.{CommandPasses, LoopsPass, ReadsBelow, TouchesBelow}
+use Rattle.meaning.specs.Limits.{CommandPasses, LoopsPass, ReadsIn, Touches, TouchesBelow}
 use Rattle.meaning.specs.Laws.Orders.{rounds-below}
 use Rattle.meaning.specs.Laws.Layout.{first-inside, second-inside, round-inside, region-inside, body-inside}
 use Rattle.meaning.specs.Laws.Layout.{base-fits}
@@ -87,7 +87,7 @@ module _ {ins : List ℕ} {out : ℕ} {ns rs : List ℕ} {ρ : Environment} {L :
       omega arith
 
   value-below : (v : Value) → ValuePasses ins (length ns) (counterBound ns) (length rs) (entry rs) v
-      → ReadsBelow L (ρ .inputBases) (entry (ρ .counters)) (entry (ρ .regions)) v
+      → ReadsIn (λ x. x < L) (ρ .inputBases) (entry (ρ .counters)) (entry (ρ .regions)) v
   value-below (Value.input k o) h =
       let x = W .inputsBelow k (h .0) in let y = offset-below o (entry ins k) (h .1) in omega arith
   value-below (Value.region d o) h =
@@ -103,7 +103,7 @@ module _ {ins : List ℕ} {out : ℕ} {ns rs : List ℕ} {ρ : Environment} {L :
 
 command-below : {ins : List ℕ} {out : ℕ} (c : Command) {ns rs : List ℕ} {ρ : Environment} (a L : ℕ)
     → LaidOut ins out ns rs ρ L → CommandPasses ins out ns rs c → a + room c ≤ L → TouchesBelow L c ρ a
-unfolding CommandPasses TouchesBelow
+unfolding CommandPasses Touches
 command-below (Command.assignment p v) a L W h l = (place-below W p (h .0), value-below W v (h .1))
 command-below (seq c d) a L W h l =
     let x = first-inside a c d in
@@ -145,7 +145,7 @@ module _ (𝓝 : NumberDomain) where
   pub beyond-kept : (L : ℕ) (c : Command) (ch : Orders c) (ρ : Environment) (a : ℕ)
       → TouchesBelow L c ρ a
       → (st : State 𝓝) (x : ℕ) → L ≤ x → cell 𝓝 ((run 𝓝 c ch ρ a st) .store) x ≡ cell 𝓝 (st .store) x
-  unfolding run TouchesBelow
+  unfolding run Touches
   beyond-kept L (Command.assignment p v) ch ρ a h st x l =
       let y = h .0 in
       getD-set-other (st .store) (target ρ p) x

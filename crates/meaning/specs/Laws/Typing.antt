@@ -1,4 +1,5 @@
--- Figure 3's relation, by computing: a term has a type exactly when it is well typed, and then its type is `typeOf`.
+-- The relation of Figure 3, [5.2] to [5.10], by computing: a term has a type exactly when it is well typed, and then its type is
+-- `typeOf`.
 use mathlib.Core.Path.{_≡_, refl, sym, ap, ap₂, _∙_, subst}
 use mathlib.Core.List.{List, _∷_}
 use Prim.Native.Nat.{ℕ, _*_, _/_, _<_}

@@ -1,6 +1,6 @@
--- "Use E in C" without a continuation: C comes last in every clause, so a use is rows put first, then C's own. The
--- rows put first, the expression that C gets, the regions left open; and that they are what `useTerm` makes. The
--- code that emits rows goes by this.
+-- [6.2] To use a term in C, without a continuation: C comes last in every clause, so a use is rows put first, then C's own. The rows
+-- put first, the expression that C gets, the regions left open; and that they are what `useTerm` makes. The code that emits rows
+-- goes by this.
 use mathlib.Core.Path.{_≡_, refl, ap, sym, _∙_}
 use mathlib.Core.List.{List, [], _∷_, _++_, append-assoc}
 use Prim.Native.Nat.{ℕ, suc, _+_}

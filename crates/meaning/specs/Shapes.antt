@@ -1,0 +1,25 @@
+-- The shape that a type gives its values [8.1]. It is there for the law that every value has its type's shape. Definitions only;
+-- assumes nothing.
+use mathlib.Core.Path.{_≡_}
+use mathlib.Core.List.{List, [], _∷_}
+use lib.ListN.{length}
+use Rattle.meaning.specs.Types.{DataType, number, array}
+use Rattle.meaning.specs.Values.{Datum, toList}
+
+-- each of the list is such
+abbrev pub Every : {A : Type 0} → (A → Type 0) → List A → Type 0
+Every Such [] = Unit {0}
+Every Such (x ∷ l) = Such x × Every Such l
+
+-- A number for `num`; for an array of n elements a list of just n, each of the element's shape; for a pair two values
+-- of its two shapes; and nothing else.
+abbrev pub Shaped : {N : Type 0} → DataType → Datum N → Type 0
+Shaped number (Datum.number x) = Unit {0}
+Shaped number (Datum.array vs) = ⊥
+Shaped number (Datum.pair a b) = ⊥
+Shaped (array n t) (Datum.number x) = ⊥
+Shaped (array n t) (Datum.array vs) = (length (toList vs) ≡ n) × Every (λ v. Shaped t v) (toList vs)
+Shaped (array n t) (Datum.pair a b) = ⊥
+Shaped (DataType.pair s t) (Datum.number x) = ⊥
+Shaped (DataType.pair s t) (Datum.array vs) = ⊥
+Shaped (DataType.pair s t) (Datum.pair a b) = Shaped s a × Shaped t b
