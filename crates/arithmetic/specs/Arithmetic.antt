@@ -1,21 +1,21 @@
--- The arithmetic of cells: document 01, 'Arithmetic'. Definitions only; assumes nothing.
+-- The arithmetic of cells: [4.1] to [4.5]. Definitions only; assumes nothing.
 use mathlib.Core.Bool.{cond}
 use Prim.Native.Nat.{zero, suc}
 use lib.IntN.{ℤ, pos, negsuc, negℤ, _+ℤ_, _-ℤ_, _*ℤ_}
 use lib.Signed.{ltZ, quotZ}
 
--- "Cells are 32-bit signed": from −2,147,483,648, since `negsuc n` is −(n + 1), to 2,147,483,647.
+-- [4.1] The range of a cell [13.1]: from −2,147,483,648, since `negsuc n` is −(n + 1), to 2,147,483,647.
 abbrev pub lowest : ℤ
 lowest = negsuc 2147483647
 
 abbrev pub highest : ℤ
 highest = pos 2147483647
 
--- "clamped to the range": the number itself, or the end of the range that it lies beyond
+-- [4.2] The number itself, or the end of the range that it lies beyond.
 unfoldable pub clamp : ℤ → ℤ
 clamp z = cond (ltZ z lowest) lowest (cond (ltZ highest z) highest z)
 
--- "`add sub mul neg` give the exact result, clamped to the range."
+-- [4.2] The exact result, clamped; [4.5] so each operation is clamped for itself.
 unfoldable pub sum : ℤ → ℤ → ℤ
 sum x y = clamp (x +ℤ y)
 
@@ -28,20 +28,20 @@ product x y = clamp (x *ℤ y)
 unfoldable pub negation : ℤ → ℤ
 negation x = clamp (negℤ x)
 
--- "`div` rounds toward zero, is clamped, and gives 0 for divisor 0." (`quotZ` rounds toward zero.)
+-- [4.3] The quotient without its fraction, which is `quotZ`, clamped; 0 if the divisor is 0.
 unfoldable pub quotient : ℤ → ℤ → ℤ
 quotient x (pos zero) = pos 0
 quotient x (pos (suc n)) = clamp (quotZ x (pos (suc n)))
 quotient x (negsuc n) = clamp (quotZ x (negsuc n))
 
--- "`min` and `max` give the lesser and the greater."
+-- [4.4] One of the two numbers.
 unfoldable pub lesser : ℤ → ℤ → ℤ
 lesser x y = cond (ltZ x y) x y
 
 unfoldable pub greater : ℤ → ℤ → ℤ
 greater x y = cond (ltZ x y) y x
 
--- The six operations over two numbers, by their words `add sub mul div min max`.
+-- [3.8] The six operations over two numbers, by their words `add sub mul div min max`.
 pub data Operation : Type 0 where
   addition subtraction multiplication division minimum maximum : Operation
 

@@ -1,4 +1,4 @@
--- Examples of the arithmetic of cells, found by computing: zero, both ends of the range, and the numbers that document 01 names.
+-- Examples of the arithmetic of cells, found by computing: zero, both ends of the range, and the numbers of the cards P5 and P6 [15.2].
 -- Facts about the definitions, none of them a definition to believe; assumes nothing.
 use mathlib.Core.Path.{_≡_, refl}
 use mathlib.Core.List.{List, [], _∷_, map}
@@ -86,7 +86,7 @@ clamped : map clamp (pos 2147483648 ∷ highest ∷ pos 0 ∷ lowest ∷ negℤ 
 unfolding clamp
 clamped = refl
 
--- Every operation clamps, not the last alone: 2147483647 + 1 - 1.
+-- [4.5] Every operation clamps, not the last alone: 2147483647 + 1 - 1.
 clamped-each-time : difference (sum highest (pos 1)) (pos 1) ≡ pos 2147483646
 unfolding difference sum clamp
 clamped-each-time = refl

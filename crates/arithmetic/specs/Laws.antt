@@ -1,4 +1,4 @@
--- Laws of the arithmetic of cells: every result is the number of a cell, and clamping leaves such a number as it is.
+-- Laws of the arithmetic of cells: [4.1] every result is the number of a cell, and clamping leaves such a number as it is.
 -- `SFits w32 z` says that a 32-bit signed number can be `z`. Nothing here is a definition to believe; assumes nothing.
 use mathlib.Core.Bool.{Bool, true, false, cond}
 use mathlib.Core.Path.{_≡_, refl}

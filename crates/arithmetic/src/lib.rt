@@ -1,4 +1,4 @@
-// Arithmetic on cells: the exact result, made in 64 bits, clamped to 32. Every function answers every input.
+// Arithmetic on cells, [4.1] to [4.5]: the exact result, made in 64 bits, clamped to 32. Every function answers every input.
 ghost use mathlib.Core.Path.{_≡_};
 ghost use Rattle.arithmetic.specs.Arithmetic.{clamp, sum, difference, product, negation, quotient, lesser, greater};
 
@@ -38,7 +38,7 @@ pub fn neg(x: i32) -> i32
     clamp(-(x as i64))
 }
 
-// Toward zero; 0 for divisor 0. The one quotient beyond the range is -2147483648 by -1.
+// [4.3] Toward zero; 0 for divisor 0. The one quotient beyond the range is -2147483648 by -1.
 pub fn div(x: i32, y: i32) -> i32
     ensures { λ r. ⌜ r ≡ quotient x y ⌝ }
 {

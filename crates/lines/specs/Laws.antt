@@ -17,8 +17,9 @@ use lib.Seq.{take-append-seam, drop-append-add, append-snoc}
 use mir.Syntax.{w32}
 use mir.Val.{SFits}
 use Rattle.words.specs.Kinds.{Row, word-lit}
-use Rattle.words.specs.Words.{words, wordAt, lookUp, table}
-use Rattle.words.specs.Laws.{distinct, lowerCase, wellFormed, found-word, own-place, word-formed, words-formed}
+use Rattle.words.specs.Words.{wordAt, lookUp}
+use Rattle.words.specs.Good.{lowerCase, Good}
+use Rattle.words.specs.Laws.{found-word, own-place, word-formed}
 use Rattle.words.specs.declared.Found.{Found}
 use Rattle.words.specs.declared.Found.the-variants.{At, NotListed}
 use Rattle.numerals.specs.Numerals.{numberOf, decimal}
@@ -28,7 +29,7 @@ use Rattle.numerals.specs.declared.Numeral.the-variants.{Is, Malformed}
 use Rattle.refusals.specs.declared.Refusal.{Refusal}
 use Rattle.refusals.specs.declared.Refusal.the-variants.{TextForm, LineForm, LineCount}
 use Rattle.lines.specs.Reading.{linesOf, placeOf, beforeComma, afterComma, paired, lineOf, addRow, rowsIn, closed, whether, formed, limited, reading}
-use Rattle.lines.specs.Printing.{written, textOf}
+use Rattle.lines.specs.Printing.{written, textOf, Printable, Each}
 use Rattle.lines.specs.LineLaws.{lines-within, place-behind, place-split, lines-line, together, Closed, lines-together, last-closed, closed-last}
 use Rattle.lines.specs.declared.Line.{Line}
 use Rattle.lines.specs.declared.Line.the-variants.{IsRow, NoRow}
@@ -64,23 +65,14 @@ line-parts head w d f =
 
 -- ---- what is printed reads back
 
--- a row of a listed word and a cell's number
-pub record Printable (ws : List (List ℕ)) (r : Row) : Type 0 where
-  pub listed : r .0 < length ws
-  pub number : SFits w32 (r .1)
-
-unfoldable pub Each : (Row → Type 0) → List Row → Type 0
-Each P [] = Unit {0}
-Each P (r ∷ rs) = P r × Each P rs
-
-module _ (ws : List (List ℕ)) (most : ℕ) (one : T (distinct ws)) (lower : T (wellFormed most ws)) where
+module _ (ws : List (List ℕ)) (good : Good ws) where
   word-free : (b k : ℕ) → b < 97 → Free b (wordAt ws k)
-  word-free b k h = lower-free b (wordAt ws k) h (word-formed most ws k lower .0)
+  word-free b k h = lower-free b (wordAt ws k) h (word-formed ws k (good .formed) .0)
 
   row-line : (r : Row) → Printable ws r → lineOf (lookUp ws) (inside ws r) ≡ IsRow (r .0) (r .1)
   row-line r p =
       line-parts (lookUp ws) (wordAt ws (r .0)) (decimal (r .1)) (word-free 44 (r .0) (omega arith))
-      ∙ ap₂ paired (own-place ws (r .0) one (p .listed)) (read-back (r .1) (p .number))
+      ∙ ap₂ paired (own-place ws (r .0) (good .apart) (p .listed)) (read-back (r .1) (p .number))
 
   inside-free : (r : Row) → Free 10 (inside ws r)
   inside-free r =
@@ -238,7 +230,7 @@ module _ (ws : List (List ℕ)) where
       let p = passed (lookUp ws) limits t n e in
       printed 0 n (linesOf t) (p .1) ∙ lines-together t (p .0)
 
--- ---- how long a printed text is, with the built-in words
+-- ---- how long a printed text is
 
 -- a literal, or a row whose number is from 0 to 4,096, as question 5 lets them be
 pub record Ranged (r : Row) : Type 0 where
@@ -249,24 +241,24 @@ pub line-length : (ws : List (List ℕ)) (r : Row) → length (written ws r) ≡
 unfolding written
 line-length ws r = simp length-append (omega arith)
 
-literal-length : (k : ℕ) → k ≡ word-lit → length (wordAt words k) ≡ 3
-unfolding words table
-literal-length k e = ap (λ (j : ℕ). length (wordAt words j)) e
+module _ (ws : List (List ℕ)) (good : Good ws) where
+  literal-length : (k : ℕ) → k ≡ word-lit → length (wordAt ws k) ≤ 3
+  literal-length k e = subst (λ (j : ℕ). length (wordAt ws j) ≤ 3) (sym e) (good .literal)
 
-pub line-size : (r : Row) → Ranged r → length (written words r) ≤ 16
-line-size r p =
-    ⊎-elim
-    (λ e. omega (arith, line-length words r, literal-length (r .0) e, decimal-length (r .1) (p .number)))
-    (λ s. omega (
-      arith,
-      line-length words r,
-      word-formed 6 words (r .0) words-formed .1,
-      subst (λ (z : ℤ). length (decimal z) ≤ 4) (sym (s .1)) (decimal-short (s .0) (omega (arith, s .2))),
-    ))
-    (p .small)
+  pub line-size : (r : Row) → Ranged r → length (written ws r) ≤ 16
+  line-size r p =
+      ⊎-elim
+      (λ e. omega (arith, line-length ws r, literal-length (r .0) e, decimal-length (r .1) (p .number)))
+      (λ s. omega (
+        arith,
+        line-length ws r,
+        word-formed ws (r .0) (good .formed) .1,
+        subst (λ (z : ℤ). length (decimal z) ≤ 4) (sym (s .1)) (decimal-short (s .0) (omega (arith, s .2))),
+      ))
+      (p .small)
 
--- 4,096 such rows take at most 65,536 bytes.
-pub text-size : (rs : List Row) → Each Ranged rs → length (textOf words rs) ≤ 16 * length rs
-unfolding textOf Each
-text-size [] p = omega arith
-text-size (r ∷ rs) p = omega (arith, length-append (written words r) (textOf words rs), line-size r (p .0), text-size rs (p .1))
+  -- 4,096 such rows take at most 65,536 bytes.
+  pub text-size : (rs : List Row) → Each Ranged rs → length (textOf ws rs) ≤ 16 * length rs
+  unfolding textOf Each
+  text-size [] p = omega arith
+  text-size (r ∷ rs) p = omega (arith, length-append (written ws r) (textOf ws rs), line-size r (p .0), text-size rs (p .1))

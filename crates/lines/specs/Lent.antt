@@ -1,4 +1,4 @@
--- Rows of a text read into a lent table: question 12 of document 01, and what is left in the two slices. Definitions only; assumes
+-- Rows of a text read into a lent table, and what is left in its two slices: [10.12], [10.17], [10.22]. Definitions only; assumes
 -- nothing.
 use mathlib.Core.Bool.{cond, _&&_}
 use mathlib.Core.Path.{_≡_}
@@ -14,7 +14,7 @@ use Rattle.lines.specs.declared.Heads.the-variants.{Words}
 use Rattle.lines.specs.declared.Reading.{Reading}
 use Rattle.lines.specs.declared.Reading.the-variants.{Rows, Refused}
 
--- "Has each lent table at least the rows .. that are to be put in it?" A table has as many as the shorter of its slices.
+-- [10.12] Has the table room for the rows? [1.8] It has as many as the shorter of its slices.
 abbrev pub askRoom : ℕ → ℕ → ℕ → Reading
 askRoom rows kinds numbers = cond (leb rows kinds && leb rows numbers) (Rows rows) (Refused LentSize)
 
@@ -22,7 +22,7 @@ askRoom rows kinds numbers = cond (leb rows kinds && leb rows numbers) (Rows row
 abbrev pub textRows : List (List ℕ) → List ℕ → List Row
 textRows ws t = rowsIn (headOf ws Words) (linesOf t)
 
--- "All lent buffers keep their bytes" on a refusal. Else a column of the rows stands in front, and what lies past it is as it was.
+-- [10.17] Refused: the slice is as it was. [10.22] Else a column of the rows stands in front, and what lies behind is as it was.
 abbrev pub columnLeft : {A : Type 0} → Reading → List A → List A → List A
 columnLeft (Rows n) column held = column ++ drop (length column) held
 columnLeft (Refused q) column held = held

@@ -1,6 +1,6 @@
--- A text to rows, and rows to a text: document 01, 'Lines', and questions 1 to 3; and 12 where a table is lent.
+-- A text to rows, and rows to a text: part 1, [10.1] to [10.3], and [10.12] where a table is lent.
 
--- The definitions, in document 01's order: what a reader has to believe
+-- The definitions
 pub mod Reading
 pub mod Lent
 pub mod Printing

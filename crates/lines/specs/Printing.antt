@@ -1,10 +1,12 @@
--- From rows to a text: document 01, 'Lines'. The table of words is an argument. Definitions only; assumes nothing.
+-- From rows to a text: [1.9], [10.12]. The table of words is an argument. Definitions only; assumes nothing.
 use mathlib.Core.Bool.{Bool, cond}
 use mathlib.Core.Path.{_≡_}
 use mathlib.Core.List.{List, [], _∷_, _++_}
-use Prim.Native.Nat.{ℕ}
+use Prim.Native.Nat.{ℕ, _<_}
 use lib.Dec.{leb}
 use lib.ListN.{length}
+use mir.Syntax.{w32}
+use mir.Val.{SFits}
 use Rattle.refusals.specs.declared.Refusal.the-variants.{LentSize}
 use Rattle.words.specs.Kinds.{Row}
 use Rattle.words.specs.Words.{wordAt}
@@ -13,7 +15,7 @@ use Rattle.lines.specs.Reading.{filled}
 use Rattle.lines.specs.declared.Printing.{Printing}
 use Rattle.lines.specs.declared.Printing.the-variants.{Bytes, Refused}
 
--- "lines of `word,number`, each closed by byte 10"
+-- [1.1], [1.2] A row's line: its word, a comma (byte 44), its number, and byte 10.
 unfoldable pub written : List (List ℕ) → Row → List ℕ
 written ws r = wordAt ws (r .0) ++ (44 ∷ decimal (r .1)) ++ (10 ∷ [])
 
@@ -21,7 +23,7 @@ unfoldable pub textOf : List (List ℕ) → List Row → List ℕ
 textOf ws [] = []
 textOf ws (r ∷ rs) = written ws r ++ textOf ws rs
 
--- "Has .. each lent text at least the bytes, that are to be put in it?"
+-- [10.12] Has a text of so many bytes room for the text that goes into it?
 abbrev pub fitting : List ℕ → ℕ → Bool
 fitting text room = leb (length text) room
 
@@ -32,3 +34,13 @@ printing text room = cond (fitting text room) (Bytes (length text)) (Refused Len
 pub record PrintInto (ws : List (List ℕ)) (rows : List Row) (text : List ℕ) (r : Printing) (text′ : List ℕ) : Type 0 where
   pub answer : r ≡ printing (textOf ws rows) (length text)
   pub text-left : text′ ≡ filled (fitting (textOf ws rows) (length text)) (textOf ws rows) text
+
+-- ---- [1.9] what can be printed and read back: rows of listed words and of numbers in a cell's range
+
+pub record Printable (ws : List (List ℕ)) (r : Row) : Type 0 where
+  pub listed : r .0 < length ws
+  pub number : SFits w32 (r .1)
+
+unfoldable pub Each : (Row → Type 0) → List Row → Type 0
+Each P [] = Unit {0}
+Each P (r ∷ rs) = P r × Each P rs

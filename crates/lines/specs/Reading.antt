@@ -1,5 +1,5 @@
--- From a text to rows: document 01, 'Lines', and questions 1 to 3 of 'Questions at the door'. The table of words is an
--- argument. Definitions only; assumes nothing.
+-- From a text to rows: [1.1] to [1.5], [11.3], [11.4], and questions 1 to 3, [10.1] to [10.3]. The table of words is an argument.
+-- Definitions only; assumes nothing.
 use mathlib.Core.Bool.{Bool, false, cond, _&&_}
 use mathlib.Core.Path.{_≡_}
 use mathlib.Core.List.{List, [], _∷_, _++_, map}
@@ -25,7 +25,7 @@ use Rattle.lines.specs.declared.Reading.the-variants.{Rows, Refused}
 
 -- ---- lines
 
--- "A text is lines .., each closed by byte 10." Bytes behind the last byte 10 would be one line more.
+-- [1.1] Each line ends with byte 10. Bytes behind the last byte 10 would be one line more.
 abbrev pub begin : ℕ → List (List ℕ) → List (List ℕ)
 begin b [] = (b ∷ []) ∷ []
 begin b (l ∷ ls) = (b ∷ l) ∷ ls
@@ -39,7 +39,7 @@ unfoldable pub placeOf : ℕ → List ℕ → ℕ
 placeOf b [] = 0
 placeOf b (c ∷ cs) = cond (eqb c b) 0 (suc (placeOf b cs))
 
--- What stands before the first comma, byte 44, of a line, and what behind it.
+-- [1.2] What stands before the first comma, byte 44, of a line, and what behind it; a second comma makes this no number.
 abbrev pub beforeComma : List ℕ → List ℕ
 beforeComma l = take (placeOf 44 l) l
 
@@ -48,13 +48,13 @@ afterComma l = drop (suc (placeOf 44 l)) l
 
 -- ---- a line's row
 
--- "a well-written number not below 0 stands in place of the word and names an input cell"
+-- [11.3] In a values file a number that is not below 0 stands for the word, and is a cell; [11.4] no other number is one.
 abbrev pub cellOf : Numeral → Found
 cellOf (Is (pos n)) = At n
 cellOf (Is (negsuc n)) = NotListed
 cellOf Malformed = NotListed
 
--- What stands before the comma: a listed word, or in the values file a cell.
+-- [1.3] What stands before the comma: a listed word, or in the values file a cell.
 abbrev pub headOf : List (List ℕ) → Heads → List ℕ → Found
 headOf ws Words l = lookUp ws l
 headOf ws Cells l = cellOf (numberOf l)
@@ -64,11 +64,11 @@ paired (At k) (Is z) = IsRow k z
 paired (At k) Malformed = NoRow
 paired NotListed n = NoRow
 
--- "a listed word, a comma and a well-written number"
+-- [1.2] A line is a word, one comma and a number.
 unfoldable pub lineOf : (List ℕ → Found) → List ℕ → Line
 lineOf head l = paired (head (beforeComma l)) (numberOf (afterComma l))
 
--- The rows of lines.
+-- [1.5] The rows of lines.
 abbrev pub addRow : Line → List Row → List Row
 addRow (IsRow k z) rs = (k, z) ∷ rs
 addRow NoRow rs = rs
@@ -79,11 +79,11 @@ rowsIn head (l ∷ ls) = addRow (lineOf head l) (rowsIn head ls)
 
 -- ---- questions 1 to 3
 
--- "Is the text 1 to 4,096 bytes (loops 65,536), its last byte 10?"
+-- [10.1] The bytes are at least one and at most as many as they may be, and the last is byte 10.
 abbrev pub closed : ℕ → List ℕ → Bool
 closed limit t = leb 1 (length t) && leb (length t) limit && eqb (getD t (length t - 1) 0) 10
 
--- "Is every line a listed word, a comma and a well-written number?" n lines were asked already.
+-- [10.2] Every line is well written; else the first that is not is told, counted from 1 ([1.5]). n lines were asked already.
 abbrev pub whether : Line → Reading → Reading → Reading
 whether (IsRow k z) yes′ no′ = yes′
 whether NoRow yes′ no′ = no′
@@ -92,27 +92,29 @@ unfoldable pub formed : (List ℕ → Found) → ℕ → List (List ℕ) → Rea
 formed head n [] = Rows n
 formed head n (l ∷ ls) = whether (lineOf head l) (formed head (suc n) ls) (Refused (LineForm (suc n)))
 
--- "At most 256 lines (loops 4,096)?"
+-- [10.3] The lines are at most as many as they may be.
 abbrev pub limited : ℕ → Reading → Reading
 limited limit (Rows n) = cond (leb n limit) (Rows n) (Refused LineCount)
 limited limit (Refused r) = Refused r
 
--- The first "no" of the three; else how many rows there are.
+-- [10.2] All lines are asked for their form before they are counted. The first "no" of the three; else how many rows there are.
 unfoldable pub reading : (List ℕ → Found) → Limits → List ℕ → Reading
 reading head limits t =
     cond (closed (limits .bytes) t) (limited (limits .lines) (formed head 0 (linesOf t))) (Refused TextForm)
 
+-- [13.2], [13.4] Those of a plan.
 abbrev pub planLimits : Limits
 planLimits = record { bytes = 4096; lines = 256 }
 
+-- [13.3], [13.5] Those of loops.
 abbrev pub loopsLimits : Limits
 loopsLimits = record { bytes = 65536; lines = 4096 }
 
--- Question 3 is not put to a values file: 65,536 bytes have no more lines than that.
+-- [13.3] Question 3 is not put to a values file ([10.3]): 65,536 bytes have no more lines than that.
 abbrev pub valuesLimits : Limits
 valuesLimits = record { bytes = 65536; lines = 65536 }
 
--- ---- what lent slices hold in the end: the rows in front if both have room for them; else what they held
+-- ---- [10.22] what lent slices hold in the end: the rows in front if both have room for them; else what they held
 
 abbrev pub roomFor : Reading → ℕ → ℕ → Bool
 roomFor (Rows n) kinds numbers = leb n kinds && leb n numbers

@@ -1,4 +1,4 @@
-// Texts and rows: a text is read into kinds and numbers, and rows are printed as a text.
+// Texts and rows: a text is read into kinds and numbers ([1.8]), and rows are printed as a text ([1.9]).
 ghost use Rattle.words.specs.Kinds.{rowsOf};
 ghost use Rattle.words.specs.Words.{words};
 ghost use Rattle.lines.specs.Reading.{headOf, planLimits, loopsLimits, valuesLimits, ReadInto};
@@ -9,19 +9,19 @@ use refusals::Refusal;
 mod printer;
 mod reader;
 
-// What stands before a line's comma: a word of the table, or in the values file the number of a cell.
+// What stands before a line's comma: a word of the table ([1.3]), or in the values file the number of a cell ([11.3]).
 pub enum Heads {
     Words,
     Cells,
 }
 
-// What a line is: a row of a kind, or of a cell, and a number; or nothing well written.
+// [1.2] What a line is: a row of a kind, or of a cell, and a number; or nothing well written.
 pub enum Line {
     IsRow { kind: usize, number: i32 },
     NoRow,
 }
 
-// The most bytes and lines that a text may have.
+// [10.1], [10.3] The most bytes and lines that a text may have.
 pub struct Limits {
     pub bytes: usize,
     pub lines: usize,
@@ -57,7 +57,7 @@ fn read(text: &[u8], limits: Limits, kinds: &mut [u8], numbers: &mut [i32]) -> R
     answer
 }
 
-// Reads a plan's text.
+// Reads a plan's text: at most 4,096 bytes [13.2] and 256 lines [13.4].
 pub fn read_plan(text: &[u8], kinds: &mut [u8], numbers: &mut [i32]) -> Reading
     ensures { λ r. ⌜ ReadInto (headOf words Words) planLimits (now (text .entry)) (now (kinds .entry)) (now (numbers .entry)) r (now (kinds .exit)) (now (numbers .exit)) ⌝ }
 {
@@ -72,7 +72,7 @@ pub fn read_plan(text: &[u8], kinds: &mut [u8], numbers: &mut [i32]) -> Reading
     )
 }
 
-// Reads the text of loops.
+// Reads the text of loops: at most 65,536 bytes [13.3] and 4,096 lines [13.5].
 pub fn read_loops(text: &[u8], kinds: &mut [u8], numbers: &mut [i32]) -> Reading
     ensures { λ r. ⌜ ReadInto (headOf words Words) loopsLimits (now (text .entry)) (now (kinds .entry)) (now (numbers .entry)) r (now (kinds .exit)) (now (numbers .exit)) ⌝ }
 {
@@ -87,7 +87,7 @@ pub fn read_loops(text: &[u8], kinds: &mut [u8], numbers: &mut [i32]) -> Reading
     )
 }
 
-// Reads a values file: the cells and their values.
+// Reads a values file of at most 65,536 bytes [13.3]: the cells and their values.
 pub fn read_values(text: &[u8], cells: &mut [u32], values: &mut [i32]) -> Reading
     ensures { λ r. ⌜ ReadInto (headOf words Cells) valuesLimits (now (text .entry)) (now (cells .entry)) (now (values .entry)) r (now (cells .exit)) (now (values .exit)) ⌝ }
 {
@@ -112,7 +112,7 @@ pub fn read_values(text: &[u8], cells: &mut [u32], values: &mut [i32]) -> Readin
     answer
 }
 
-// Prints the rows of a table, as many as the shorter slice has, at the front of the lent text.
+// [1.9] Prints the rows of a table, as many as the shorter slice has ([1.8]), at the front of the lent text.
 pub fn print(kinds: &[u8], numbers: &[i32], text: &mut [u8]) -> Printing
     ensures { λ r. ⌜ PrintInto words (rowsOf (now (kinds .entry)) (now (numbers .entry))) (now (text .entry)) r (now (text .exit)) ⌝ }
 {

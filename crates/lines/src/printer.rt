@@ -1,4 +1,4 @@
-// From rows to a text, line by line.
+// [1.9] From rows to a text, line by line.
 ghost use mathlib.Core.Path.{_≡_};
 ghost use Prim.Native.Nat.{_+_, _≤_, _<_};
 ghost use lib.ListN.{length};
@@ -9,7 +9,7 @@ ghost use Rattle.lines.specs.Printing.{written, textOf, printing};
 use crate::Printing;
 use refusals::Refusal;
 
-// How many rows a table has.
+// [1.8] How many rows a table has.
 fn rows_of(kinds: &[u8], numbers: &[i32]) -> usize
     ensures { λ r. ⌜ (r ≡ length (rowsOf (now (kinds .entry)) (now (numbers .entry)))) × (r ≤ length (now (kinds .entry))) × (r ≤ length (now (numbers .entry))) ⌝ }
 {

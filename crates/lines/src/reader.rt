@@ -1,4 +1,4 @@
-// From a text to rows, line by line.
+// From a text to rows, line by line: [1.1] to [1.5].
 ghost use mathlib.Core.Path.{_≡_};
 ghost use mathlib.Core.List.{List};
 ghost use Prim.Native.Nat.{_+_, _≤_, _<_};
@@ -37,7 +37,7 @@ fn place_of(byte: u8, bytes: &[u8]) -> usize
     i
 }
 
-// The cell that a number names.
+// [11.3], [11.4] The cell that a number names.
 fn cell_of(number: Numeral) -> Found
     ensures { λ r. ⌜ r ≡ cellOf number ⌝ }
 {
@@ -62,7 +62,7 @@ fn head_of(heads: Heads, bytes: &[u8]) -> Found
     }
 }
 
-// What a line is.
+// [1.2] What a line is.
 fn line_of(heads: Heads, line: &[u8]) -> Line
     ensures { λ r. ⌜ r ≡ lineOf (headOf words heads) (now (line .entry)) ⌝ }
 {
@@ -98,7 +98,7 @@ fn next_line(heads: Heads, text: &[u8], at: usize) -> Next
     }
 }
 
-// Question 2, line by line.
+// [10.2], line by line.
 fn ask_lines(heads: Heads, text: &[u8]) -> Reading
     ensures { λ r. ⌜ r ≡ formed (headOf words heads) 0 (linesOf (now (text .entry))) ⌝ }
 {
@@ -116,7 +116,7 @@ fn ask_lines(heads: Heads, text: &[u8]) -> Reading
     Reading::Rows(lines)
 }
 
-// Questions 1, 2 and 3.
+// Questions 1, 2 and 3: [10.1] to [10.3].
 pub fn ask(heads: Heads, limits: Limits, text: &[u8]) -> Reading
     ensures { λ r. ⌜ r ≡ reading (headOf words heads) limits (now (text .entry)) ⌝ }
 {

@@ -59,4 +59,11 @@ input-cells (n ∷ l) = ap (λ (x : ℕ). n + x) (input-cells l)
 
 pub loops-cells : (L : Loops) → cellsIn (loopsRows L) ≡ need L
 unfolding cellsIn loopsRows need
-loops-cells L = omega (arith, cells-append (allCellsRows (L .inputs)) ((Rattle.words.specs.Kinds.word-cells, lib.IntN.pos (L .output)) ∷ commandRows (L .command)), input-cells (L .inputs), command-cells (L .command))
+loops-cells L = omega (
+  arith,
+  cells-append (allCellsRows (L .inputs))
+      ((Rattle.words.specs.Kinds.word-cells, lib.IntN.pos (L .output)) ∷ commandRows (L .command)),
+  input-cells
+      (L .inputs),
+  command-cells (L .command),
+)

@@ -1,4 +1,4 @@
--- The check of loops: questions 1 to 6, 9 and 11 of document 01, in this order. Definitions only; assumes nothing.
+-- The check of loops: [10.1] to [10.6], [10.9] and [10.11], in this order ([10.16]). Definitions only; assumes nothing.
 use mathlib.Core.Bool.{cond}
 use mathlib.Core.List.{List}
 use mathlib.Core.Option.{Option, none, some}
@@ -28,7 +28,7 @@ use Rattle.bounds.specs.Bounds.{askBounds}
 
 -- ---- loops as a tree
 
--- "At most 16,777,216 writes?" The answer for loops that pass is their writes and their need.
+-- [10.11], [13.15] The answer for loops that pass is their writes ([7.1]) and their need ([7.4]).
 abbrev pub askWrites : Loops → Checked
 askWrites L = cond (leb (commandWrites (L .command)) 16777216) (Passes (commandWrites (L .command)) (need L)) (Refused WriteCount)
 
@@ -41,14 +41,14 @@ unless (some q) next = Refused q
 unfoldable pub checkLoops : Loops → Checked
 checkLoops L = unless (askBounds L) (askWrites L)
 
--- "A check, the need": the need of loops that pass.
+-- [7.4] The need of loops that pass
 abbrev pub needOf : Checked → Needed
 needOf (Passes w n) = Cells n
 needOf (Refused q) = NoNeed q
 
 -- ---- loops as rows
 
--- Questions 2 (of the kinds) and 4 to 6 by the walk of `syntax`; then 9 and 11 of the loops whose rows these are.
+-- [10.2] (of the kinds) and [10.4] to [10.6] by the walk of `syntax`; then [10.9] and [10.11] of the loops whose rows these are ([10.18]).
 abbrev pub afterWalk : Answer → Checked → Checked
 afterWalk (walk.Passed m) next = next
 afterWalk (walk.Refused q) next = Refused q
@@ -58,14 +58,14 @@ checkRows R = afterWalk (walkTable sort.Loops R) (checkLoops (loopsOf R))
 
 -- ---- loops as a table that was not read from a text
 
--- Question 2 of the kinds; then "At most 256 lines (loops 4,096)?" of the rows; then what its rows are asked.
+-- [10.16] A lent table is asked 2, of its kinds; then 3, of its rows ([13.5]); then what its rows are asked.
 unfoldable pub checkTable : List Row → Checked
 checkTable R =
     afterWalk (listedFrom 0 R (walk.Passed (length R))) (cond (leb (length R) 4096) (checkRows R) (Refused LineCount))
 
 -- ---- loops as a text
 
--- Questions 1 to 3 by the reading of `lines`; then the rows. ws is the table of words.
+-- [10.1] to [10.3] by the reading of `lines`; then the rows. ws is the table of words.
 abbrev pub afterReading : Reading → Checked → Checked
 afterReading (read.Rows n) next = next
 afterReading (read.Refused q) next = Refused q

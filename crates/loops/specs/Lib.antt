@@ -1,6 +1,6 @@
--- The check of loops: document 01, questions 9 and 11; and what loops that pass do.
+-- The check of loops: [10.9] and [10.11] after [10.1] to [10.6]; and what loops that pass do: [9.9].
 
--- The definitions, in document 01's order: what a reader has to believe
+-- The definitions
 pub mod Check
 pub mod Reading
 -- What the contracts of parts say besides
@@ -10,3 +10,5 @@ pub mod Laws
 pub mod Theorems
 pub mod TableTheorems
 pub mod TextTheorems
+-- The contracts of the entries
+pub mod Contracts

@@ -1,4 +1,4 @@
--- The need of loops, summed over their rows: what the contract of a part of the check says. Definitions only; assumes nothing.
+-- [7.4] The need of loops, summed over their rows: what the contract of a part of the check says. Definitions only; assumes nothing.
 use mathlib.Core.Bool.{cond}
 use mathlib.Core.List.{List, [], _∷_}
 use Prim.Native.Nat.{ℕ, _+_}

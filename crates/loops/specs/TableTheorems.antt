@@ -3,7 +3,7 @@
 use mathlib.Core.Bool.{Bool, true, false, cond}
 use mathlib.Core.Path.{_≡_, refl, sym, ap, _∙_}
 use mathlib.Core.List.{List, []}
-use mathlib.Core.Logic.{_↔_, _⊎_, inl, inr}
+use mathlib.Core.Logic.{_↔_}
 use Prim.Native.Nat.{ℕ, _≤_, _<_}
 use native.Mathlib.Omega.{arith}
 use borrow.Author.Tests.{leb-true, leb-false, le-leb, lt-leb}
@@ -26,21 +26,14 @@ use Rattle.syntax.specs.Laws.Listed.{all-listed, one-unlisted}
 use Rattle.loops.specs.declared.Checked.{Checked}
 use Rattle.loops.specs.declared.Checked.the-variants.{Passes, Refused}
 use Rattle.loops.specs.Check.{checkLoops, afterWalk, checkRows, checkTable}
-use Rattle.loops.specs.Theorems.{Accepted, FirstNo, RunsSafely, passes-exactly, refused-exactly, safe, runs-safely}
+use Rattle.loops.specs.Theorems.{Accepted, RunsSafely, passes-exactly, safe, runs-safely}
 
 no-refusal : {A : Type 0} {q : Refusal} {w n : ℕ} → Refused q ≡ Passes w n → A
 no-refusal e = absurd (let z : _≡_ {A = ℕ} 0 1 = cc in omega arith)
 
--- question 2 of the kinds is answered "yes"
+-- [10.2] Every kind is that of a word.
 abbrev pub AllListed : List Row → Type 0
 AllListed R = listedFrom 0 R (walk.Passed (length R)) ≡ walk.Passed (length R)
-
--- The first "no" of a table: a kind that is no word (2); or more than 4,096 rows (3); or the first "no" of its rows.
-abbrev pub FirstNoOfTable : List Row → Refusal → Type 0
-FirstNoOfTable R q =
-    (listedFrom 0 R (walk.Passed (length R)) ≡ walk.Refused q)
-    ⊎ (AllListed R × (4096 < length R) × (q ≡ LineCount))
-    ⊎ (AllListed R × (length R ≤ 4096) × FirstNo R q)
 
 -- A table of no rows lacks its first.
 pub no-rows : checkTable [] ≡ Refused (RowDue 1)
@@ -95,34 +88,7 @@ module _ (R : List Row) where
     λ h. few-rows (h .0) ∙ passes-exactly R w n .1 (h .1),
   )
 
-  -- Each number on its condition.
-  pub table-refused-exactly : (q : Refusal) → (checkTable R ≡ Refused q) ↔ FirstNoOfTable R q
-  table-refused-exactly q = (λ e. by-kinds (λ p f g. inl (f ∙ ap walk.Refused (same p (sym g ∙ e)))) (λ f g. inr (go f (sym g ∙ e))), back)
-    where
-      same : (p : Refusal) → Refused p ≡ Refused q → p ≡ q
-      same p e = cc
-
-      go : AllListed R → limitedRows (leb (length R) 4096) ≡ Refused q
-          → (AllListed R × (4096 < length R) × (q ≡ LineCount)) ⊎ (AllListed R × (length R ≤ 4096) × FirstNo R q)
-      go f e =
-          by-rows (λ h. inr (f, h, refused-exactly R q .0 (sym (few h) ∙ e)))
-          (λ h. inl (f, h, sym (same LineCount (sym (many h) ∙ e))))
-
-      back : FirstNoOfTable R q → checkTable R ≡ Refused q
-      back (inl e) = by-kinds (λ p f g. g ∙ ap Refused (sent p (sym f ∙ e))) (λ f g. absurd (never (sym f ∙ e)))
-        where
-          sent : (p : Refusal) → walk.Refused p ≡ walk.Refused q → p ≡ q
-          sent p e = cc
-
-          never : walk.Passed (length R) ≡ walk.Refused q → ⊥
-          never e = let z : _≡_ {A = ℕ} 0 1 = cc in omega arith
-      back (inr (inl h)) = by-kinds (λ p f g. absurd (never (sym (h .0) ∙ f))) (λ f g. g ∙ many (h .1) ∙ ap Refused (sym (h .2)))
-        where
-          never : {p : Refusal} → walk.Passed (length R) ≡ walk.Refused p → ⊥
-          never e = let z : _≡_ {A = ℕ} 0 1 = cc in omega arith
-      back (inr (inr h)) = few-rows (h .1) ∙ refused-exactly R q .1 (h .2)
-
-  -- "Loops that pass run safely, whoever wrote them."
+  -- [9.9] Loops that pass run safely.
   rows-pass : (w n : ℕ) → checkTable R ≡ Passes w n → checkRows R ≡ Passes w n
   rows-pass w n e = passes-exactly R w n .1 (table-passes-exactly w n .0 e .1)
 

@@ -3,7 +3,7 @@
 use mathlib.Core.Bool.{Bool, true, false, cond, _&&_}
 use mathlib.Core.Path.{_≡_, refl, sym, ap, _∙_}
 use mathlib.Core.List.{List, []}
-use mathlib.Core.Logic.{_↔_, _⊎_, inl, inr}
+use mathlib.Core.Logic.{_↔_}
 use Prim.Native.Nat.{ℕ, _*_, _≤_, _<_, min}
 use native.Mathlib.Omega.{arith}
 use borrow.Author.Tests.{leb-true, leb-false}
@@ -14,12 +14,12 @@ use mir.Val.{SFits}
 use Rattle.refusals.specs.declared.Refusal.{Refusal}
 use Rattle.refusals.specs.declared.Refusal.the-variants.{LentSize}
 use Rattle.words.specs.Kinds.{Row}
-use Rattle.words.specs.Words.{words}
-use Rattle.words.specs.Laws.{words-distinct, words-formed}
+use Rattle.words.specs.Good.{Good}
 use Rattle.lines.specs.Reading.{reading, headOf, loopsLimits}
 use Rattle.lines.specs.Lent.{textRows, askRoom}
 use Rattle.lines.specs.Printing.{textOf}
-use Rattle.lines.specs.Laws.{Each, Printable, rows-back, reads-back, rows-read}
+use Rattle.lines.specs.Printing.{Each, Printable}
+use Rattle.lines.specs.Laws.{rows-back, reads-back, rows-read}
 use Rattle.lines.specs.declared.Heads.the-variants.{Words}
 use Rattle.lines.specs.declared.Reading.{Reading}
 use Rattle.lines.specs.declared.Reading.the-variants as read
@@ -40,7 +40,7 @@ use Rattle.loops.specs.declared.Checked.{Checked}
 use Rattle.loops.specs.declared.Checked.the-variants.{Passes, Refused}
 use Rattle.loops.specs.Check.{checkRows, afterReading, checkText}
 use Rattle.loops.specs.Reading.{afterCheck, readText}
-use Rattle.loops.specs.Theorems.{Accepted, FirstNo, RunsSafely, passes-exactly, refused-exactly, safe, runs-safely, own-pass}
+use Rattle.loops.specs.Theorems.{Accepted, RunsSafely, passes-exactly, safe, runs-safely, own-pass}
 use Rattle.loops.specs.Laws.Passing.{pass-loops}
 use Rattle.loops.specs.Laws.Literals.{CommandLiterals, plan-literals}
 use Rattle.loops.specs.Laws.TranslatedLiterals.{translation-literals}
@@ -49,19 +49,9 @@ use Rattle.loops.specs.Laws.Printed.{loops-printable, loops-size}
 no-refusal : {A : Type 0} {q : Refusal} {w n : ℕ} → Refused q ≡ Passes w n → A
 no-refusal e = absurd (let z : _≡_ {A = ℕ} 0 1 = cc in omega arith)
 
--- Questions 1 to 3 are answered "yes".
+-- [10.1] to [10.3] are answered "yes".
 abbrev pub Reads : List (List ℕ) → List ℕ → Type 0
 Reads ws t = reading (headOf ws Words) loopsLimits t ≡ read.Rows (length (textRows ws t))
-
--- The first "no" of a text: of questions 1 to 3, or of its rows.
-abbrev pub FirstNoOfText : List (List ℕ) → List ℕ → Refusal → Type 0
-FirstNoOfText ws t q = (reading (headOf ws Words) loopsLimits t ≡ read.Refused q) ⊎ (Reads ws t × FirstNo (textRows ws t) q)
-
--- The first "no" of reading a text into slices of these lengths: of the check, or too short a slice (12).
-abbrev pub FirstNoOfReading : List (List ℕ) → List ℕ → ℕ → ℕ → Refusal → Type 0
-FirstNoOfReading ws t kinds numbers q =
-    (checkText ws t ≡ Refused q)
-    ⊎ ((w : ℕ) × (n : ℕ) × (checkText ws t ≡ Passes w n) × (min kinds numbers < length (textRows ws t)) × (q ≡ LentSize))
 
 module _ (ws : List (List ℕ)) (t : List ℕ) where
   abbrev R : List Row
@@ -92,23 +82,7 @@ module _ (ws : List (List ℕ)) (t : List ℕ) where
     λ h. read-text (h .0) ∙ passes-exactly R w n .1 (h .1),
   )
 
-  -- Each number on its condition.
-  pub text-refused-exactly : (q : Refusal) → (checkText ws t ≡ Refused q) ↔ FirstNoOfText ws t q
-  text-refused-exactly q = (
-    λ e.
-        by-reading (λ r. inr (r, refused-exactly R q .0 (sym (read-text r) ∙ e)))
-        (λ p r. inl (r ∙ ap read.Refused (same p (sym (unread-text p r) ∙ e)))),
-    back,
-  )
-    where
-      same : (p : Refusal) → Refused p ≡ Refused q → p ≡ q
-      same p e = cc
-
-      back : FirstNoOfText ws t q → checkText ws t ≡ Refused q
-      back (inl e) = unread-text q e
-      back (inr h) = read-text (h .0) ∙ refused-exactly R q .1 (h .1)
-
-  -- "Loops that pass run safely, whoever wrote them."
+  -- [9.9] Loops that pass run safely.
   rows-pass : (w n : ℕ) → checkText ws t ≡ Passes w n → checkRows R ≡ Passes w n
   rows-pass w n e = passes-exactly R w n .1 (text-passes-exactly w n .0 e .1)
 
@@ -171,27 +145,6 @@ module _ (ws : List (List ℕ)) (t : List ℕ) where
         same : read.Rows (length R) ≡ read.Rows m → m ≡ length R
         same e = cc
 
-    -- Each number on its condition.
-    pub put-refused-exactly : (q : Refusal) → (readText ws t kinds numbers ≡ read.Refused q) ↔ FirstNoOfReading ws t kinds numbers q
-    put-refused-exactly q = (
-      λ e.
-          by-check
-          (λ w n p. by-room (λ l f. never (sym f ∙ sym (passed-text w n p) ∙ e)) (λ l f. inr (w, n, p, l, sym (same LentSize (sym f ∙ sym (passed-text w n p) ∙ e)))))
-          (λ p f. inl (f ∙ ap Refused (same p (sym (refused-text p f) ∙ e)))),
-      back,
-    )
-      where
-        never : {A : Type 0} → read.Rows (length R) ≡ read.Refused q → A
-        never e = absurd (let z : _≡_ {A = ℕ} 0 1 = cc in omega arith)
-
-        same : (p : Refusal) → read.Refused p ≡ read.Refused q → p ≡ q
-        same p e = cc
-
-        back : FirstNoOfReading ws t kinds numbers q → readText ws t kinds numbers ≡ read.Refused q
-        back (inl e) = refused-text q e
-        back (inr h) =
-            passed-text (h .0) (h .1) (h .2) ∙ by-room (λ l f. absurd (omega (arith, l, h .3))) (λ l f. f ∙ ap read.Refused (sym (h .4)))
-
 -- ---- the translator's own
 
 some-row : (L : Loops) → 0 < length (loopsRows L)
@@ -199,7 +152,7 @@ unfolding loopsRows
 some-row L = omega arith
 
 -- The loops made from any plan within the limits, whose numbers are 32-bit numbers, as a text.
-module _ (P : Plan) (t : DataType) (typed : HasType (P .inputs) [] (P .term) t) (within : PlanWithin P)
+module _ (ws : List (List ℕ)) (good : Good ws) (P : Plan) (t : DataType) (typed : HasType (P .inputs) [] (P .term) t) (within : PlanWithin P)
     (numbers : Each (λ (r : Row). SFits w32 (r .1)) (planRows P)) where
   abbrev own : List Row
   own = loopsRows (translation P)
@@ -210,23 +163,23 @@ module _ (P : Plan) (t : DataType) (typed : HasType (P .inputs) [] (P .term) t) 
   own-literals : CommandLiterals (SFits w32) (translation P .command)
   own-literals = translation-literals (SFits w32) (record { sfits = omega arith }) P (plan-literals (SFits w32) P numbers)
 
-  own-printable : Each (Printable words) own
-  own-printable = loops-printable (translation P) own-in-range own-literals
+  own-printable : Each (Printable ws) own
+  own-printable = loops-printable ws good (translation P) own-in-range own-literals
 
   -- at most 16 bytes a line
-  pub own-text-size : length (textOf words own) ≤ 16 * length own
-  own-text-size = loops-size (translation P) own-in-range own-literals
+  pub own-text-size : length (textOf ws own) ≤ 16 * length own
+  own-text-size = loops-size ws good (translation P) own-in-range own-literals
 
   -- it reads back
-  pub own-text-back : textRows words (textOf words own) ≡ own
-  own-text-back = rows-back words 6 words-distinct words-formed own own-printable
+  pub own-text-back : textRows ws (textOf ws own) ≡ own
+  own-text-back = rows-back ws good own own-printable
 
-  -- "The translator's own always pass": where they have at most 4,096 lines (10) and 16,777,216 writes (11).
+  -- [9.9] Loops that the translator made pass: where they have at most 4,096 lines ([10.10]) and 16,777,216 writes ([10.11]).
   pub own-text-passes : length own ≤ 4096 → planWrites P ≤ 16777216
-      → checkText words (textOf words own) ≡ Passes (planWrites P) (need (translation P))
+      → checkText ws (textOf ws own) ≡ Passes (planWrites P) (need (translation P))
   own-text-passes short few =
-      let T : List ℕ = textOf words own in
-      let reads : Reads words T =
-      reads-back words 6 words-distinct words-formed loopsLimits own own-printable (some-row (translation P)) (omega (arith, own-text-size, short)) short
+      let T : List ℕ = textOf ws own in
+      let reads : Reads ws T =
+      reads-back ws good loopsLimits own own-printable (some-row (translation P)) (omega (arith, own-text-size, short)) short
       ∙ ap (λ (S : List Row). read.Rows (length S)) (sym own-text-back) in
-      read-text words T reads ∙ ap checkRows own-text-back ∙ own-pass P t typed within few
+      read-text ws T reads ∙ ap checkRows own-text-back ∙ own-pass P t typed within few

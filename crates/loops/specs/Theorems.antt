@@ -3,11 +3,11 @@
 use mathlib.Core.Bool.{Bool, true, false, cond}
 use mathlib.Core.Path.{_≡_, refl, sym, ap, _∙_, subst}
 use mathlib.Core.List.{List, []}
-use mathlib.Core.Logic.{_↔_, _⊎_, inl, inr}
+use mathlib.Core.Logic.{_↔_}
 use mathlib.Core.Option.{Option, none, some}
-use Prim.Native.Nat.{ℕ, _≤_, _<_}
+use Prim.Native.Nat.{ℕ, _≤_}
 use native.Mathlib.Omega.{arith}
-use borrow.Author.Tests.{leb-true, leb-false, le-leb, lt-leb}
+use borrow.Author.Tests.{leb-true, le-leb}
 use lib.Dec.{leb}
 use lib.ListN.{length}
 use Rattle.refusals.specs.declared.Refusal.{Refusal}
@@ -116,64 +116,17 @@ passes-exactly R w n = (
       ap checkRows (h .rows) ∙ tree-checked L (pass-loops L (h .passes) .0) ∙ checked-loops L (h .passes) ∙ e,
 )
 
--- ---- what is refused
-
--- Each number on its condition: q is the first "no" of the walk (2, 4, 5, 6); or the walk finds nothing wrong, and q is the "no"
--- of the first place or reading that goes too far (9); or none does, and the writes are too many (11).
-abbrev pub FirstNo : List Row → Refusal → Type 0
-FirstNo R q =
-    (walkTable sort.Loops R ≡ walk.Refused q)
-    ⊎ (WalksWell sort.Loops R × (askBounds (loopsOf R) ≡ some q))
-    ⊎ (WalksWell sort.Loops R × (askBounds (loopsOf R) ≡ none) × (16777216 < commandWrites (loopsOf R .command)) × (q ≡ WriteCount))
-
-many-writes : (L : Loops) (q : Refusal) → askWrites L ≡ Refused q → (16777216 < commandWrites (L .command)) × (q ≡ WriteCount)
-many-writes L q e = go (leb (commandWrites (L .command)) 16777216) refl e
-  where
-    go : (b : Bool) → leb (commandWrites (L .command)) 16777216 ≡ b
-        → cond b (Passes (commandWrites (L .command)) (need L)) (Refused WriteCount) ≡ Refused q
-        → (16777216 < commandWrites (L .command)) × (q ≡ WriteCount)
-    go true h e = no-pass e
-    go false h e = let x : q ≡ WriteCount = cc in (leb-false _ _ h, x)
-
-refused-walk : (R : List Row) (q : Refusal) (a : Answer) → walkTable sort.Loops R ≡ a → afterWalk a (checkLoops (loopsOf R)) ≡ Refused q → FirstNo R q
-unfolding checkLoops
-refused-walk R q (walk.Refused p) h e = let x : p ≡ q = cc in inl (h ∙ ap walk.Refused x)
-refused-walk R q (walk.Passed m) h e = inr (go (askBounds (loopsOf R)) refl e)
-  where
-    well : WalksWell sort.Loops R
-    well = all-passed sort.Loops R m h
-
-    go : (b : Option Refusal) → askBounds (loopsOf R) ≡ b → unless b (askWrites (loopsOf R)) ≡ Refused q
-        → (WalksWell sort.Loops R × (askBounds (loopsOf R) ≡ some q))
-        ⊎ (WalksWell sort.Loops R × (askBounds (loopsOf R) ≡ none) × (16777216 < commandWrites (loopsOf R .command)) × (q ≡ WriteCount))
-    go (some p) g e = let x : p ≡ q = cc in inl (well, g ∙ ap some x)
-    go none g e = let w = many-writes (loopsOf R) q e in inr (well, g, w .0, w .1)
-
-no-refused : (R : List Row) (q : Refusal) → FirstNo R q → checkRows R ≡ Refused q
-unfolding checkRows checkLoops
-no-refused R q (inl e) = ap (λ (a : Answer). afterWalk a (checkLoops (loopsOf R))) e
-no-refused R q (inr (inl h)) = walked-rows R (h .0) ∙ ap (λ (a : Option Refusal). unless a (askWrites (loopsOf R))) (h .1)
-no-refused R q (inr (inr h)) =
-    let L = loopsOf R in
-    walked-rows R (h .0) ∙ ap (λ (a : Option Refusal). unless a (askWrites L)) (h .1)
-    ∙ ap (λ (b : Bool). cond b (Passes (commandWrites (L .command)) (need L)) (Refused WriteCount)) (lt-leb _ _ (h .2))
-    ∙ ap Refused (sym (h .3))
-
-pub refused-exactly : (R : List Row) (q : Refusal) → (checkRows R ≡ Refused q) ↔ FirstNo R q
-unfolding checkRows
-refused-exactly R q = (λ e. refused-walk R q (walkTable sort.Loops R) refl e, no-refused R q)
-
 -- ---- what loops that pass do
 
--- "Loops that pass run safely, whoever wrote them": every cell that is read or written, in any round of any loop, is below the need.
+-- [9.9] Loops that pass run safely: every cell that is read or written, in any round of any loop, is below the need.
 pub safe : (R : List Row) (w n : ℕ) → checkRows R ≡ Passes w n
     → (L : Loops) × (R ≡ loopsRows L) × TouchesBelow n (L .command) (startOf L) (regionsFrom L)
 safe R w n e =
     let a = passes-exactly R w n .0 e in
     (a .loops, a .rows, subst (λ (x : ℕ). TouchesBelow x (a .loops .command) (startOf (a .loops)) (regionsFrom (a .loops))) (sym (a .needs)) (safe-loops (a .loops) (a .passes)))
 
--- There is a run, and every run, in every order, ends after the writes answered, with a store of the same length in which every
--- cell from the need on is as it was.
+-- [9.9] There is a run, and every run, in every order ([9.5]), ends after the writes answered, with a store of the same length in
+-- which every cell from the need on is as it was.
 pub record RunsSafely (𝓝 : NumberDomain) (L : Loops) (w n : ℕ) (s : Store 𝓝) : Type 0 where
   pub runs : (st : State 𝓝) × RunOf 𝓝 L s st
   pub counted : (st : State 𝓝) → RunOf 𝓝 L s st → st .writes ≡ w
@@ -199,7 +152,7 @@ runs-safely 𝓝 R w n e =
       },
     )
 
--- "The translator's own always pass": the loops made from any plan within the limits that has few enough writes.
+-- [9.9] Loops that the translator made pass: those of any plan within the limits that has few enough writes.
 pub own-pass : (P : Plan) (t : DataType) → HasType (P .inputs) [] (P .term) t → PlanWithin P → planWrites P ≤ 16777216
     → checkRows (loopsRows (translation P)) ≡ Passes (planWrites P) (need (translation P))
 own-pass P t typed within few =

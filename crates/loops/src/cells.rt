@@ -1,4 +1,4 @@
-// The need: the cells of the inputs, of the output and of every `new` row.
+// [7.4] The need: the cells of the inputs, of the output and of every `new` row.
 ghost use mathlib.Core.Path.{_≡_};
 ghost use Prim.Native.Nat.{_≤_};
 ghost use lib.ListN.{length};

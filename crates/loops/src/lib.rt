@@ -1,14 +1,14 @@
-// The check of loops, whoever wrote them: questions 1 to 6, 9 and 11 of document 01; the need; and reading loops into a lent table.
+// The check of loops, whoever wrote them: [10.1] to [10.6], [10.9] and [10.11]; the need; and reading loops into a lent table.
+ghost use Rattle.words.specs.Words.{words};
 ghost use mathlib.Core.Path.{_≡_};
 ghost use Prim.Native.Nat.{_≤_};
 ghost use lib.ListN.{length};
 ghost use Rattle.words.specs.Kinds.{rowsOf};
-ghost use Rattle.words.specs.Words.{words};
 ghost use Rattle.meaning.specs.Loops.{Loops};
 ghost use Rattle.meaning.specs.Rows.{loopsRows};
 ghost use Rattle.syntax.specs.InRange.{LoopsInRange};
-ghost use Rattle.loops.specs.Check.{checkLoops, checkRows, checkTable, checkText, needOf};
-ghost use Rattle.loops.specs.Reading.{LoopsInto};
+ghost use Rattle.loops.specs.Check.{checkLoops, checkRows};
+ghost use Rattle.loops.specs.Contracts.{ChecksLoops, ChecksTable, TellsNeed, ReadsLoops};
 use bound_check::Asked;
 use lines::Reading;
 use refusals::Refusal;
@@ -64,9 +64,9 @@ fn check_rows(kinds: &[u8], numbers: &[i32]) -> Checked
     check_limits(kinds, numbers)
 }
 
-// The check of a lent table, whose rows are as many as the shorter slice has: questions 2 (of the kinds), 3 to 6, 9 and 11.
+// [10.16] The check of a lent table, whose rows are as many as the shorter slice has ([1.8]): questions 2 (of the kinds), 3 to 6, 9, 11.
 pub fn check_table(kinds: &[u8], numbers: &[i32]) -> Checked
-    ensures { λ r. ⌜ r ≡ checkTable (rowsOf (now (kinds .entry)) (now (numbers .entry))) ⌝ }
+    ensures { λ r. ⌜ ChecksTable (now (kinds .entry)) (now (numbers .entry)) r ⌝ }
 {
     let listed = syntax::listed_rows(kinds, numbers);
     let Answer::Passed(rows) = listed else {
@@ -81,9 +81,9 @@ pub fn check_table(kinds: &[u8], numbers: &[i32]) -> Checked
     check_rows(&kinds[..rows], &numbers[..rows])
 }
 
-// The check of a loops text: questions 1 to 6, 9 and 11.
+// [10.16] The check of a loops text: questions 1 to 6, 9 and 11.
 pub fn check_text(text: &[u8]) -> Checked
-    ensures { λ r. ⌜ r ≡ checkText words (now (text .entry)) ⌝ }
+    ensures { λ r. ⌜ ChecksLoops words (now (text .entry)) r ⌝ }
 {
     let mut kinds = [0u8; 4096];
     let mut numbers = [0i32; 4096];
@@ -97,9 +97,9 @@ pub fn check_text(text: &[u8]) -> Checked
     check_rows(&kinds[..rows], &numbers[..rows])
 }
 
-// The need of a loops text, under the same questions.
+// [7.4] The need of a loops text, under the same questions.
 pub fn need_text(text: &[u8]) -> Needed
-    ensures { λ r. ⌜ r ≡ needOf (checkText words (now (text .entry))) ⌝ }
+    ensures { λ r. ⌜ TellsNeed words (now (text .entry)) r ⌝ }
 {
     let checked = check_text(text);
     let Checked::Passes { writes: _, need } = checked else {
@@ -111,10 +111,10 @@ pub fn need_text(text: &[u8]) -> Needed
     Needed::Cells(need)
 }
 
-// Reads a loops text into a lent table: the same questions, then 12. How many rows were put in front of both slices; or the first "no",
-// and both are as they were.
+// [10.16] Reads a loops text into a lent table: the same questions, then 12. How many rows were put in front of both slices; or the
+// first "no", and both are as they were ([10.17], [10.22]).
 pub fn read_text(text: &[u8], kinds: &mut [u8], numbers: &mut [i32]) -> Reading
-    ensures { λ r. ⌜ LoopsInto words (now (text .entry)) (now (kinds .entry)) (now (numbers .entry)) r (now (kinds .exit)) (now (numbers .exit)) ⌝ }
+    ensures { λ r. ⌜ ReadsLoops words (now (text .entry)) (now (kinds .entry)) (now (numbers .entry)) r (now (kinds .exit)) (now (numbers .exit)) ⌝ }
 {
     let checked = check_text(text);
     let Checked::Passes { writes: _, need: _ } = checked else {

@@ -1,4 +1,6 @@
--- What the entries of the check of a plan promise: document 01, questions 1 to 8 (crate `typing`), and 12 where a table is lent.
+-- What the entries of the check of a plan promise: [10.1] to [10.8] (crate `typing`), and [10.12] where a table is lent.
 
--- The definitions: what a reader has to believe
+-- The definitions
 pub mod Reading
+-- The contracts of the entries
+pub mod Contracts

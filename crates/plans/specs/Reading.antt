@@ -1,4 +1,4 @@
--- Reading a plan into a lent table: the check of the text, and question 12 of document 01 last. Definitions only; assumes nothing.
+-- Reading a plan into a lent table: the check of the text, and [10.12] last. Definitions only; assumes nothing.
 use mathlib.Core.List.{List}
 use Prim.Native.Nat.{ℕ}
 use lib.IntN.{ℤ}
@@ -15,7 +15,7 @@ abbrev pub afterCheck : Answer → Reading → Reading
 afterCheck (answer.Passed n) next = next
 afterCheck (answer.Refused q) next = Refused q
 
--- How many rows are put into slices of these lengths, or the first "no"; ws is the table of words.
+-- [10.16] How many rows are put into slices of these lengths, or the first "no"; ws is the table of words.
 unfoldable pub readText : List (List ℕ) → List ℕ → ℕ → ℕ → Reading
 readText ws t kinds numbers = afterCheck (checkText ws t) (askRoom (length (textRows ws t)) kinds numbers)
 

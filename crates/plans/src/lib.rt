@@ -1,11 +1,11 @@
-// The check of a plan: questions 1 to 8 of document 01, and 12 where a table is lent.
+// The check of a plan: [10.1] to [10.8], and [10.12] where a table is lent.
 ghost use mathlib.Core.Path.{_≡_};
 ghost use Prim.Native.Nat.{_≤_};
 ghost use lib.ListN.{length};
 ghost use Rattle.words.specs.Kinds.{rowsOf};
 ghost use Rattle.words.specs.Words.{words};
-ghost use Rattle.typing.specs.Entry.{checkRows, checkText};
-ghost use Rattle.plans.specs.Reading.{PlanInto};
+ghost use Rattle.typing.specs.Entry.{checkRows};
+ghost use Rattle.plans.specs.Contracts.{ChecksPlan, ReadsPlan};
 use lines::Reading;
 use refusals::Refusal;
 use syntax::Answer;
@@ -34,9 +34,9 @@ fn check_rows(kinds: &[u8], numbers: &[i32]) -> Answer
     }
 }
 
-// The check of a plan's text: how many rows it has, or the first "no" to questions 1 to 8.
+// [10.16], [10.21] The check of a plan's text: how many rows it has, or the first "no" to questions 1 to 8.
 pub fn check_text(text: &[u8]) -> Answer
-    ensures { λ r. ⌜ r ≡ checkText words (now (text .entry)) ⌝ }
+    ensures { λ r. ⌜ ChecksPlan words (now (text .entry)) r ⌝ }
 {
     let mut kinds = [0u8; 256];
     let mut numbers = [0i32; 256];
@@ -50,10 +50,10 @@ pub fn check_text(text: &[u8]) -> Answer
     check_rows(&kinds[..rows], &numbers[..rows])
 }
 
-// Reads a plan's text into a lent table: the same questions, then 12. How many rows were put in front of both slices; or the first "no",
-// and both are as they were.
+// [10.16] Reads a plan's text into a lent table: the same questions, then 12. How many rows were put in front of both slices; or the
+// first "no", and both are as they were ([10.17], [10.22]).
 pub fn read_text(text: &[u8], kinds: &mut [u8], numbers: &mut [i32]) -> Reading
-    ensures { λ r. ⌜ PlanInto words (now (text .entry)) (now (kinds .entry)) (now (numbers .entry)) r (now (kinds .exit)) (now (numbers .exit)) ⌝ }
+    ensures { λ r. ⌜ ReadsPlan words (now (text .entry)) (now (kinds .entry)) (now (numbers .entry)) r (now (kinds .exit)) (now (numbers .exit)) ⌝ }
 {
     let checked = check_text(text);
     let Answer::Passed(_) = checked else {

@@ -1,4 +1,5 @@
--- Every refusal, with its number and its line: document 01, 'Questions at the door'.
+-- Every refusal, with its number and its line: [10.1] to [10.15].
+-- Numbers in brackets, here and in every file, are those of the rules in docs/REQUIREMENTS.md.
 
--- The definitions: what a reader has to believe
+-- The definitions
 pub mod Refusals

@@ -1,4 +1,4 @@
--- Document 01's number and line for every refusal: 'Questions at the door'. Definitions only; assumes nothing.
+-- The number and the line of every refusal: [10.1] to [10.15]. Definitions only; assumes nothing.
 use Prim.Native.Nat.{ℕ}
 use Rattle.refusals.specs.declared.Refusal.{Refusal}
 use Rattle.refusals.specs.declared.Refusal.the-variants.{
@@ -19,7 +19,7 @@ use Rattle.refusals.specs.declared.Refusal.the-variants.{
   ValueLines,
 }
 
--- "the first "no" gives the number"
+-- [10.17] A refusal is told by the number of its question,
 abbrev pub numberOf : Refusal → ℕ
 numberOf TextForm = 1
 numberOf (LineForm l) = 2
@@ -37,7 +37,7 @@ numberOf UnknownOrder = 13
 numberOf StoreSize = 14
 numberOf ValueLines = 15
 
--- "A refusal is number and line (from 1; 0 for 1, 3 and 10 to 15)."
+-- [10.17] and by a line: from 1, or 0 where the question is put to a whole.
 abbrev pub lineOf : Refusal → ℕ
 lineOf TextForm = 0
 lineOf (LineForm l) = l

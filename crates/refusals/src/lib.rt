@@ -1,8 +1,8 @@
-// The refusals of document 01: one case for each question that can be answered "no".
+// The refusals: one case for each question, [10.1] to [10.15], that can be answered "no".
 ghost use mathlib.Core.Path.{_≡_};
 ghost use Rattle.refusals.specs.Refusals.{numberOf, lineOf};
 
-// Which question was answered "no"; where document 01 gives a line, that line, from 1.
+// Which question was answered "no"; where its rule gives a line, that line, counted from 1 [1.5].
 pub enum Refusal {
     TextForm,
     LineForm(usize),
@@ -21,7 +21,7 @@ pub enum Refusal {
     ValueLines,
 }
 
-// The refusal's number.
+// [10.17] The refusal's number.
 pub fn number(refusal: Refusal) -> u8
     ensures { λ r. ⌜ r ≡ numberOf refusal ⌝ }
 {
@@ -44,7 +44,7 @@ pub fn number(refusal: Refusal) -> u8
     }
 }
 
-// The refusal's line: 0 where the question is put to a whole.
+// [10.17] The refusal's line: 0 where the question is put to a whole.
 pub fn line(refusal: Refusal) -> usize
     ensures { λ r. ⌜ r ≡ lineOf refusal ⌝ }
 {

@@ -1,6 +1,8 @@
--- What the run entries answer, and what store they leave: document 01, 'Value and run', second part, and questions 13 and 14.
+-- What the run entries answer, and what store they leave: [9.10], [10.13] and [10.14].
 
--- The definitions: what a reader has to believe
+-- The definitions
 pub mod Run
 -- What is proved
 pub mod Theorems
+-- The contracts of the entries
+pub mod Contracts

@@ -1,5 +1,5 @@
--- What it means that loops are run. It rests on Run, on `runOf` of `interpreter`, on `RunOf` and `runLoops` of `meaning`, and on the check of `loops`. Assumes
--- nothing.
+-- What it means that loops are run. It rests on Run, on `runOf` of `interpreter`, on `RunOf` and `runLoops` of `meaning`, and on the
+-- check of `loops`. Assumes nothing.
 use mathlib.Core.Bool.{Bool, true, false, cond}
 use mathlib.Core.Path.{_≡_, refl, ap, _∙_}
 use mathlib.Core.List.{List}
@@ -27,7 +27,7 @@ use Rattle.interpreter.specs.Orders.{named, runOf}
 use Rattle.run.specs.declared.Ran.the-variants.{Refused}
 use Rattle.run.specs.Run.{Outcome, finished, refused, askedRun, afterCheck, runTable, runText}
 
--- The run that an entry makes is one of the runs of the loops.
+-- [9.5], [9.10] The run that an entry makes is one of the runs of the loops.
 pub run-is-run : (L : Loops) (order : ℕ) (s : List ℤ) → RunOf clamped32 L s (runOf L order s)
 unfolding runOf
 run-is-run L order s = run-is-choice clamped32 L s _ .1 (always (named order) (L .command), refl)
@@ -54,7 +54,7 @@ pub text-finished : (ws : List (List ℕ)) (t : List ℕ) (w n order : ℕ) (s :
 unfolding runText
 text-finished ws t w n order s e h g = checked-finished (checkText ws t) (loopsOf (rowsIn (headOf ws Words) (linesOf t))) w n order s e h g
 
--- ---- a refusal leaves the store as it was
+-- ---- [10.17] a refusal leaves the store as it was
 
 StoreKept : Outcome → List ℤ → Type 0
 StoreKept x s = (q : Refusal) → x .answer ≡ Refused q → x .store ≡ s

@@ -33,7 +33,10 @@ module _ (l : List ℕ) (k : ℕ) (h : k < length l / 4) where
       let g : n ≡ bitsOf z = e ∙ ap bitsOf (toZ-ofZ w32 z f) in
       let v : cellOf a b c d ≡ z =
       ap signedOf
-      (ap₂ _+_ (ap₂ _+_ (ap₂ _+_ (e₀ ∙ ap (λ (x : ℕ). x % 256) g) (ap (λ (x : ℕ). 256 * x) (e₁ ∙ ap (λ (x : ℕ). x / 256 % 256) g))) (ap (λ (x : ℕ). 65536 * x) (e₂ ∙ ap (λ (x : ℕ). x / 65536 % 256) g))) (ap (λ (x : ℕ). 16777216 * x) (e₃ ∙ ap (λ (x : ℕ). x / 16777216 % 256) g)))
+      (ap₂ _+_ (ap₂ _+_ (ap₂ _+_ (e₀ ∙ ap (λ (x : ℕ). x % 256) g) (ap (λ (x : ℕ). 256 * x)
+      (e₁ ∙ ap (λ (x : ℕ). x / 256 % 256) g))) (ap (λ (x : ℕ). 65536 * x)
+      (e₂ ∙ ap (λ (x : ℕ). x / 65536 % 256) g))) (ap (λ (x : ℕ). 16777216 * x)
+      (e₃ ∙ ap (λ (x : ℕ). x / 16777216 % 256) g)))
       ∙ reads-back z (f .sfits) in (
         cell-put a b c d l k last-below ∙ ap (set (cellsOf l) k) v,
         (

@@ -1,17 +1,13 @@
 -- Bytes are told by their cells and the left-over bytes: where neither changed, no byte did. A reader need not believe any of it.
 use mathlib.Core.Path.{_≡_, refl, sym, ap, ap₂, _∙_}
 use mathlib.Core.List.{List, [], _∷_}
-use Prim.Native.Nat.{ℕ, _+_, _-_, _*_, _/_, _%_, _<_}
+use Prim.Native.Nat.{ℕ, _+_, _*_, _/_, _%_, _<_}
 use native.Mathlib.Nat.{add-mul-mod-self-left, mod-eq-of-lt}
 use native.Mathlib.Decide.{decLt}
 use native.Mathlib.Omega.{arith}
 use lib.IntN.{ℤ}
-use Rattle.store.specs.Cells.{signedOf, bitsOf, cellsOf, leftOver}
+use Rattle.store.specs.Cells.{signedOf, bitsOf, AllBytes, cellsOf, leftOver}
 use Rattle.store.specs.Laws.{signed-low, signed-high}
-
-abbrev pub AllBytes : List ℕ → Type 0
-AllBytes [] = Unit {0}
-AllBytes (b ∷ l) = (b < 256) × AllBytes l
 
 bits-of-signed : (n : ℕ) → n < 4294967296 → bitsOf (signedOf n) ≡ n
 unfolding bitsOf

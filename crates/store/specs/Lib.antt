@@ -1,6 +1,6 @@
--- What a store is: document 01, 'Value and run', and its sentence on stores in bytes.
+-- What a store is: [9.1] and [9.11].
 
--- The definitions: what a reader has to believe
+-- The definitions
 pub mod Cells
 pub mod Store
 -- Their laws

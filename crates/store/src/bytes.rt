@@ -1,4 +1,4 @@
-// Cells in bytes: four to a cell, two's complement, lowest byte first.
+// [9.11] Cells in bytes: four to a cell, two's complement, lowest byte first.
 ghost use mathlib.Core.Path.{_≡_};
 ghost use Prim.Native.Nat.{_%_, _<_};
 ghost use lib.IntN.{pos};

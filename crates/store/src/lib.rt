@@ -1,5 +1,5 @@
-// A store lent as two slices, either of which may be empty: first cells, then bytes, four to a cell. Every place is answered: past the
-// end a cell reads as 0, and nothing is put.
+// [9.1] A store lent as two slices, either of which may be empty: first cells, then bytes, four to a cell. Every place is answered:
+// past the end a cell reads as 0, and nothing is put.
 ghost use mathlib.Core.Path.{_≡_};
 ghost use lib.IntN.{pos};
 ghost use lib.ListN.{length, getD, set};

@@ -8,7 +8,8 @@ use native.Mathlib.Omega.{arith}
 use borrow.Author.Tests.{ne-eqb, not-true, not-false}
 use lib.Dec.{eqb}
 use types.Run.{OneOf}
-use Rattle.words.specs.Kinds.{word-plan, word-arr, word-in, word-var, word-lit, word-mappar, word-mapseq, word-redseq, word-split, word-idx, word-loops, word-cells, word-for, word-par, word-new, word-loc, word-ctr}
+use Rattle.words.specs.Kinds.{word-plan, word-arr, word-in, word-var, word-lit, word-mappar, word-mapseq, word-redseq, word-split, word-idx}
+use Rattle.words.specs.Kinds.{word-loops, word-cells, word-for, word-par, word-new, word-loc, word-ctr}
 use Rattle.words.specs.declared.Sort.{Sort}
 use Rattle.syntax.specs.declared.names.Names.{Names}
 use Rattle.syntax.specs.Ranges.{oneOf, sizes, inRange}
@@ -72,11 +73,22 @@ module _ (k : ℕ) where
 -- ---- `in_range`
 
 module _ (s : Sort) (names : Names) (k n : ℕ) where
-  pub range-rest : oneOf k sizes ≡ false → (OneOf (word-plan ∷ word-loops ∷ []) k → ⊥) → (k ≡ word-idx → ⊥) → (k ≡ word-in → ⊥) → (k ≡ word-var → ⊥) → (k ≡ word-ctr → ⊥) → (k ≡ word-loc → ⊥) → (k ≡ word-lit → ⊥)
+  pub range-rest : oneOf k sizes ≡ false → (OneOf (word-plan ∷ word-loops ∷ []) k → ⊥) → (k ≡ word-idx → ⊥)
+      → (k ≡ word-in → ⊥) → (k ≡ word-var → ⊥) → (k ≡ word-ctr → ⊥) → (k ≡ word-loc → ⊥) → (k ≡ word-lit → ⊥)
       → eqb n 0 ≡ inRange s names k n
   unfolding inRange
   range-rest size h idx inp var ctr loc lit =
-      simp (size, not-one k (word-plan ∷ word-loops ∷ []) ((λ e. h (inl e)), ((λ e. h (inr e)), tt)), ne-eqb k word-idx idx, ne-eqb k word-in inp, ne-eqb k word-var var, ne-eqb k word-ctr ctr, ne-eqb k word-loc loc, ne-eqb k word-lit lit)
+      simp (
+        size,
+        not-one k (word-plan ∷ word-loops ∷ []) ((λ e. h (inl e)), ((λ e. h (inr e)), tt)),
+        ne-eqb k
+            word-idx idx,
+        ne-eqb k word-in inp,
+        ne-eqb k word-var var,
+        ne-eqb k word-ctr ctr,
+        ne-eqb k word-loc loc,
+        ne-eqb k word-lit lit,
+      )
 
 -- ---- `opened`: the two maps and the two loops are neighbours
 

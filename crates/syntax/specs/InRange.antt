@@ -1,5 +1,4 @@
--- Trees whose numbers are in range and whose names are in force: questions 5 and 6 of document 01, put to a tree. Definitions only;
--- assumes nothing.
+-- Trees whose numbers are in range and whose names are in force: [10.5] and [10.6], put to a tree. Definitions only; assumes nothing.
 use mathlib.Core.List.{List, [], _∷_}
 use Prim.Native.Nat.{ℕ, _+_, _≤_, _<_}
 use lib.ListN.{length}
@@ -10,6 +9,7 @@ use Rattle.meaning.specs.Limits.{IsCount}
 
 -- ---- plans
 
+-- [13.7] the lengths of a type's arrays
 abbrev pub TypeInRange : DataType → Type 0
 TypeInRange number = Unit {0}
 TypeInRange (array n t) = IsCount n × TypeInRange t
@@ -19,8 +19,8 @@ abbrev pub AllTypesInRange : List DataType → Type 0
 AllTypesInRange [] = Unit {0}
 AllTypesInRange (t ∷ ts) = TypeInRange t × AllTypesInRange ts
 
--- K inputs and v variables are in force. "`in`, `var` .. naming one in force"; "`idx` .. 0 to 4,095"; "those in force there and its
--- own together: at most 16 variables".
+-- K inputs and v variables are in force: [10.5] `in` and `var` name one of them, and [13.7] and [13.8] bound `split` and `idx`; [10.6]
+-- at most 16 variables [13.9].
 abbrev pub TermInRange : ℕ → ℕ → Term → Type 0
 TermInRange K v (Term.input k) = k < K
 TermInRange K v (Term.variable d) = d < v
@@ -44,7 +44,7 @@ pub record PlanInRange (P : Plan) : Type 0 where
 
 -- ---- loops
 
--- k counters are in force. "offset `lit` 0 to 4,095"
+-- k counters are in force: [10.5] `ctr` names one of them, and [13.7] and [13.8] bound the other numbers
 abbrev pub OffsetInRange : ℕ → Offset → Type 0
 OffsetInRange k (Offset.literal v) = v ≤ 4095
 OffsetInRange k (Offset.counter d) = d < k
@@ -66,7 +66,7 @@ ValueInRange K k r (Value.literal z) = Unit {0}
 ValueInRange K k r (Value.negate v) = ValueInRange K k r v
 ValueInRange K k r (Value.operation o v w) = ValueInRange K k r v × ValueInRange K k r w
 
--- "at most .. (loops: 32 counters, 256 regions)"
+-- [10.6] at most 32 counters [13.10] and 256 regions [13.11]
 abbrev pub CommandInRange : ℕ → ℕ → ℕ → Command → Type 0
 CommandInRange K k r (Command.assignment p v) = PlaceInRange k r p × ValueInRange K k r v
 CommandInRange K k r (seq c d) = CommandInRange K k r c × CommandInRange K k r d

@@ -1,6 +1,7 @@
--- The walk over rows, and the tree whose rows they are: document 01, 'Lines', and questions 4 to 6.
+-- The walk over rows, and the tree whose rows they are: [1.7], [2.1], [10.4] to [10.6].
+-- Numbers in brackets, here and in every file, are those of the rules in docs/REQUIREMENTS.md.
 
--- The definitions, in document 01's order: what a reader has to believe
+-- The definitions
 pub mod Operands
 pub mod Ranges
 pub mod Names

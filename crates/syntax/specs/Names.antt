@@ -1,4 +1,4 @@
--- Question 6 of document 01: the names that rows open, and how many may be in force. Definitions only; assumes nothing.
+-- The names that rows open, and how many may be in force: [10.6]. Definitions only; assumes nothing.
 use mathlib.Core.Bool.{Bool, cond, _&&_}
 use mathlib.Core.List.{[], _∷_}
 use Prim.Native.Nat.{ℕ, _+_, _≤_}
@@ -13,8 +13,8 @@ names i v c r = record { inputs = i; variables = v; counters = c; regions = r }
 abbrev pub noNames : Names
 noNames = names 0 0 0 0
 
--- The names in force and a row's own: `plan` and `loops` have K inputs, a map "a body with one variable", `redseq` "a body with
--- two variables", `for` and `par` "one counter", `new` "one region".
+-- The names in force and a row's own: the K inputs of `plan` [3.6] and `loops` [3.12], one variable of a map [3.9], two of `redseq`
+-- [3.10], one counter of `for` and `par`, one region of `new` [3.13].
 unfoldable pub openedBy : ℕ → ℕ → Names → Names
 openedBy k n s =
     cond (oneOf k (word-plan ∷ word-loops ∷ [])) (names n (s .variables) (s .counters) (s .regions))
@@ -24,8 +24,8 @@ openedBy k n s =
     (cond (eqb k word-new) (names (s .inputs) (s .variables) (s .counters) (s .regions + 1))
     s))))
 
--- "those in force there and its own together: at most 16 variables (loops: 32 counters, 256 regions)?" A row that opens none is
--- asked about those in force, which were asked about where they were opened.
+-- [10.6] At most 16 variables [13.9], 32 counters [13.10] and 256 regions [13.11]. A row that opens none is asked about those in force,
+-- which were asked about where they were opened.
 abbrev pub namesFit : Names → Bool
 namesFit s = leb (s .variables) 16 && leb (s .counters) 32 && leb (s .regions) 256
 

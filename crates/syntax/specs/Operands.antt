@@ -1,4 +1,4 @@
--- What is due behind a row: document 01, 'Lines', "each is followed by its operands". Definitions only; assumes nothing.
+-- What is due behind a row, its operands: [1.7], [2.1] to [2.3]. Definitions only; assumes nothing.
 use mathlib.Core.Bool.{Bool, true, false, cond}
 use mathlib.Core.List.{List, [], _∷_}
 use Prim.Native.Nat.{ℕ, zero, suc}
@@ -11,8 +11,7 @@ use Rattle.syntax.specs.declared.operands.Due.{Due}
 use Rattle.syntax.specs.Ranges.{oneOf}
 use Rattle.syntax.specs.Names.{openedBy}
 
--- "`plan,K`, then K input types, then one term"; "`loops,K`, then `cells,c` for each input and one for the output, then a
--- command": the inputs stand before the operands that the table lists
+-- [2.3] The K types behind `plan` [3.6] and the K `cells` behind `loops` [3.12] stand before the operands that the table lists.
 abbrev pub inputsCounted : Sort → ℕ → ℕ
 inputsCounted Plan n = n
 inputsCounted DataType n = 0
@@ -24,8 +23,8 @@ inputsCounted Place n = 0
 inputsCounted Value n = 0
 inputsCounted Offset n = 0
 
--- The sort of a row's operand, the last one or another: `set` has a place and a value; a place and a reading, `in` or `loc`,
--- have an offset; the others have operands of their own sort.
+-- [2.2] The sort of a row's operand, the last one or another: `set` has a place and a value [3.13]; a place and a reading, `in` or
+-- `loc`, have an offset [3.14]; the others have operands of their own sort.
 abbrev pub operandSort : Sort → ℕ → Bool → Sort
 operandSort Plan k last = cond last Term DataType
 operandSort DataType k last = DataType
@@ -40,7 +39,7 @@ operandSort Offset k last = Offset
 abbrev pub due : Sort → Names → Due
 due s n = record { sort = s; names = n }
 
--- the names that a row opens are in force in its last operand
+-- [3.9] [3.10] [3.13] the names that a row opens are in force in its last operand
 unfoldable pub operandOf : Due → ℕ → ℕ → Bool → Due
 operandOf d k n true = due (operandSort (d .sort) k true) (openedBy k n (d .names))
 operandOf d k n false = due (operandSort (d .sort) k false) (d .names)

@@ -1,10 +1,11 @@
--- Question 5 of document 01: "Number in range ..?" Definitions only; assumes nothing.
+-- The range of each word's number: [10.5]. Definitions only; assumes nothing.
 use mathlib.Core.Bool.{Bool, true, false, cond, _&&_}
 use mathlib.Core.List.{List, [], _∷_, map}
 use Prim.Native.Nat.{ℕ}
 use lib.Dec.{eqb, ltb, leb}
 use lib.IntN.{ℤ, pos, negsuc}
-use Rattle.words.specs.Kinds.{word-plan, word-arr, word-in, word-var, word-lit, word-split, word-idx, word-loops, word-cells, word-for, word-par, word-new, word-loc, word-ctr, word-times, word-over, word-rest}
+use Rattle.words.specs.Kinds.{word-plan, word-arr, word-in, word-var, word-lit, word-split, word-idx, word-loops, word-cells, word-for}
+use Rattle.words.specs.Kinds.{word-par, word-new, word-loc, word-ctr, word-times, word-over, word-rest}
 use Rattle.words.specs.declared.Sort.{Sort}
 use Rattle.words.specs.declared.Sort.the-variants.{Plan, DataType, Term, Loops, Cells, Command, Place, Value, Offset}
 use Rattle.syntax.specs.declared.names.Names.{Names}
@@ -35,9 +36,9 @@ literalInRange s n = cond (isOffset s) (leb n 4095) true
 abbrev pub sizes : List ℕ
 sizes = word-arr ∷ word-split ∷ word-for ∷ word-par ∷ word-new ∷ word-cells ∷ word-times ∷ word-over ∷ word-rest ∷ []
 
--- "K 0 to 8; `arr split for par new cells times over rest` 1 to 4,096; `idx` and offset `lit` 0 to 4,095; `in`, `var`, `ctr`,
--- `loc` naming one in force; value and term `lit` any; else 0": of a row of kind k and number n where a row of sort s is due and
--- these names are in force
+-- [10.5] K as in [13.6], sizes as in [13.7], `idx` and the `lit` of an offset as in [13.8]; `in`, `var`, `ctr` and `loc` name one in
+-- force; the `lit` of a term or value is any; every other number is 0. Of a row of kind k and number n where a row of sort s is due
+-- and these names are in force.
 unfoldable pub inRange : Sort → Names → ℕ → ℕ → Bool
 inRange s names k n =
     cond (oneOf k sizes) (leb 1 n && leb n 4096)

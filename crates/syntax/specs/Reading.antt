@@ -1,4 +1,4 @@
--- The tree of rows: the rows are read from the last to the first, each over the trees that stand behind it. What this gives is
+-- The tree of rows [1.7]: the rows are read from the last to the first, each over the trees that stand behind it. What this gives is
 -- said by `Theorems`. Definitions only; assumes nothing.
 use mathlib.Core.Bool.{cond}
 use mathlib.Core.List.{List, [], _∷_, map}
@@ -7,7 +7,10 @@ use lib.Dec.{eqb}
 use lib.IntN.{ℤ, pos}
 use lib.ListN.{getD, take, drop}
 use Rattle.arithmetic.specs.Arithmetic.{Operation}
-use Rattle.words.specs.Kinds.{Row, word-num, word-arr, word-two, word-in, word-var, word-lit, word-neg, word-add, word-sub, word-mul, word-div, word-min, word-max, word-mappar, word-mapseq, word-redseq, word-zip, word-pair, word-split, word-join, word-fst, word-snd, word-idx, word-set, word-seq, word-for, word-par, word-new, word-out, word-loc, word-ctr, word-plus, word-times, word-over, word-rest}
+use Rattle.words.specs.Kinds.{Row, word-num, word-arr, word-two, word-in, word-var, word-lit, word-neg, word-add, word-sub, word-mul}
+use Rattle.words.specs.Kinds.{word-div, word-min, word-max, word-mappar, word-mapseq, word-redseq, word-zip, word-pair, word-split}
+use Rattle.words.specs.Kinds.{word-join, word-fst, word-snd, word-idx, word-set, word-seq, word-for, word-par, word-new, word-out, word-loc}
+use Rattle.words.specs.Kinds.{word-ctr, word-plus, word-times, word-over, word-rest}
 use Rattle.words.specs.Words.{operandsOf}
 use Rattle.words.specs.declared.Operands.{Operands}
 use Rattle.words.specs.declared.Operands.the-variants.{Count, NotOfSort}

@@ -1,5 +1,5 @@
--- What it means that a table walks well. It rests on `walkTable` of Walk, on InRange, and on the rows of trees in `meaning`; the
--- proofs stand in Laws. Assumes nothing.
+-- What it means that a table walks well, that is, passes [10.4] to [10.6]. It rests on `walkTable` of Walk, on InRange, and on the rows
+-- of trees in `meaning`; the proofs stand in Laws. Assumes nothing.
 use mathlib.Core.Path.{_≡_, sym, ap, _∙_, subst}
 use mathlib.Core.List.{List, [], _∷_, append-nil}
 use mathlib.Core.Logic.{_↔_}
@@ -26,7 +26,7 @@ use Rattle.syntax.specs.Laws.ReadPlans.{plan-back}
 use Rattle.syntax.specs.Laws.ReadLoops.{loops-back}
 use Rattle.syntax.specs.Laws.Listed.{table-walk, walk-table, table-passed}
 
--- questions 2 (of the kinds), 4, 5 and 6 are answered "yes" on every row
+-- [10.2], of the kinds, [10.4], [10.5] and [10.6] are answered "yes" on every row
 abbrev pub WalksWell : Sort → List Row → Type 0
 WalksWell s R = walkTable s R ≡ Passed (length R)
 

@@ -1,4 +1,4 @@
--- The walk of questions 4, 5 and 6 of document 01: "Then per row, from the top". Definitions only; assumes nothing.
+-- The walk that puts [10.4], [10.5] and [10.6] to one row after the other, from the top [10.18]. Definitions only; assumes nothing.
 use mathlib.Core.Bool.{Bool, cond}
 use mathlib.Core.List.{List, [], _∷_, _++_}
 use Prim.Native.Nat.{ℕ, suc, _+_}
@@ -19,13 +19,13 @@ use Rattle.syntax.specs.Operands.{inputsCounted, due, operandsDue}
 
 -- ---- one row
 
--- the answers to 4, 5 and 6, and how many inputs and operands follow
+-- the answers to questions 4, 5 and 6, and how many inputs and operands follow
 abbrev pub firstNo : Operands → Bool → Bool → ℕ → ℕ → Answer
 firstNo NotOfSort ranged fit inputs line = Refused (RowDue line)
 firstNo (Count m) ranged fit inputs line = cond ranged (cond fit (Passed (inputs + m)) (Refused (NameCount line))) (Refused (NumberRange line))
 
--- "Is a row of this sort due here?" "Number in range?" Do the names in force and its own fit? Of a row of kind k and number n
--- where d is due: how many operands follow, or the first "no".
+-- [10.18] Is the row of the sort that is due [10.4], its number in range [10.5], and do the names in force and its own fit [10.6]? Of a
+-- row of kind k and number n where d is due: how many operands follow, or the first "no".
 unfoldable pub askRow : Due → ℕ → ℕ → ℕ → Answer
 askRow d k n line = firstNo (operandsOf k (d .sort)) (inRange (d .sort) (d .names) k n) (namesFit (openedBy k n (d .names))) (inputsCounted (d .sort) n) line
 
@@ -36,8 +36,8 @@ abbrev pub after : Answer → (ℕ → Answer) → Answer
 after (Passed m) next = next m
 after (Refused q) next = Refused q
 
--- What is due, the rows, and how many rows stand before them. "Rows stand in prefix order: each is followed by its operands."
--- "At the end, is none still due (line: last + 1)?"
+-- What is due, the rows, and how many rows stand before them. [1.7] Behind a row its operands are due. [10.4] At the end nothing is
+-- still due, and no row is left.
 unfoldable pub walkFrom : ℕ → List Due → List Row → Answer
 walkFrom p [] [] = Passed p
 walkFrom p [] (r ∷ rs) = Refused (RowDue (suc p))
@@ -45,7 +45,7 @@ walkFrom p (d ∷ ds) [] = Refused (RowDue (suc p))
 walkFrom p (d ∷ ds) (r ∷ rs) =
     after (askRow d (r .0) (asNatural (r .1)) (suc p)) (λ m. walkFrom (suc p) (operandsDue d (r .0) (asNatural (r .1)) m ++ ds) rs)
 
--- question 2, of a table that was not read from a text: is every kind a word's, `rest` being the last?
+-- [10.2], of a table that was not read from a text: is every kind a word's, `rest` being the last?
 unfoldable pub listedFrom : ℕ → List Row → Answer → Answer
 listedFrom p [] next = next
 listedFrom p (r ∷ rs) next = cond (ltb word-rest (r .0)) (Refused (LineForm (suc p))) (listedFrom (suc p) rs next)

@@ -1,5 +1,5 @@
-// The walk over rows in prefix order that puts questions 4, 5 and 6 of document 01 to them, row by row from the top. One
-// walk serves plans and loops: what a row is asked depends on what is due.
+// The walk over rows in prefix order [1.7] that puts questions 4, 5 and 6 to them, row by row from the top: [10.4] to [10.6]. One walk
+// serves plans and loops: what a row is asked depends on what is due.
 mod names;
 mod operands;
 pub mod ranges;
@@ -26,7 +26,7 @@ pub enum Answer {
     Refused(Refusal),
 }
 
-// Questions 4, 5 and 6, in this order, put to a row: how many operands it has, or the first "no".
+// [10.18] Questions 4, 5 and 6, in this order, put to a row: how many operands it has, or the first "no".
 fn ask(due: Due, kind: u8, number: usize, line: usize) -> Answer
     requires { ⌜ (number ≤ 2147483648) × Bounded (due .names) ⌝ }
     ensures { λ r. ⌜ r ≡ askRow due kind number line ⌝ }
@@ -100,7 +100,7 @@ fn shorter(a: usize, b: usize) -> usize
     b
 }
 
-// Question 2 of a table that was not read from a text: how many rows it has, as many as the shorter slice; or its first kind that is
+// [10.2] of a table that was not read from a text: how many rows it has, as many as the shorter slice [1.8]; or its first kind that is
 // no word.
 pub fn listed_rows(kinds: &[u8], numbers: &[i32]) -> Answer
     ensures bounds { λ r. ⌜ (passed r ≤ length (now (kinds .entry))) × (passed r ≤ length (now (numbers .entry))) ⌝ }

@@ -1,4 +1,4 @@
-// Question 6: the names that rows open, and how many may be in force.
+// The names that rows open, and how many may be in force: [10.6].
 ghost use mathlib.Core.Path.{_≡_};
 ghost use Rattle.syntax.specs.Names.{names as namesOf, openedBy, namesFit, Bounded};
 use words::kinds::*;
@@ -41,7 +41,7 @@ pub fn opened(names: Names, kind: u8, number: usize) -> Names
     }
 }
 
-// Question 6: at most 16 variables, 32 counters and 256 regions?
+// [13.9] [13.10] [13.11] At most 16 variables, 32 counters and 256 regions?
 pub fn names_fit(names: Names) -> bool
     ensures { λ r. ⌜ r ≡ namesFit names ⌝ }
 {

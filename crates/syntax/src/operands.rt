@@ -1,4 +1,4 @@
-// What is due behind a row: its operands, their sorts, and the names in force in each.
+// What is due behind a row [1.7]: its operands, their sorts, and the names in force in each.
 ghost use mathlib.Core.Path.{_≡_};
 ghost use Prim.Native.Nat.{_≤_};
 ghost use Rattle.syntax.specs.Names.{Bounded};
@@ -14,7 +14,7 @@ pub struct Due {
     pub names: Names,
 }
 
-// The inputs that stand before the operands that the table lists for a row of this sort.
+// [2.3] The inputs that stand before the operands that the table lists for a row of this sort.
 pub fn inputs_counted(sort: Sort, number: usize) -> usize
     ensures { λ r. ⌜ (r ≡ inputsCounted sort number) × (r ≤ number) ⌝ }
 {

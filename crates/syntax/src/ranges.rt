@@ -1,4 +1,4 @@
-// Question 5: the range of each word's number.
+// The range of each word's number: [10.5].
 ghost use mathlib.Core.Path.{_≡_};
 ghost use mathlib.Core.Bool.{_&&_};
 ghost use Prim.Native.Nat.{_≤_};
@@ -34,7 +34,7 @@ fn is_offset(sort: Sort) -> bool
     }
 }
 
-// Whether a row of this kind has a size as its number: 1 to 4,096.
+// [13.7] Whether a row of this kind has a size as its number.
 fn is_size(kind: u8) -> bool
     ensures { λ r. ⌜ r ≡ oneOf kind sizes ⌝ }
 {
@@ -61,7 +61,7 @@ fn between(least: usize, number: usize, most: usize) -> bool
     number <= most
 }
 
-// A literal of an offset is a position; any other is free.
+// [13.8] A literal of an offset is a position; any other is free.
 fn literal_in_range(sort: Sort, number: usize) -> bool
     ensures { λ r. ⌜ r ≡ literalInRange sort number ⌝ }
 {
@@ -71,7 +71,7 @@ fn literal_in_range(sort: Sort, number: usize) -> bool
     true
 }
 
-// Question 5: is the number in the range of its word?
+// [10.5] Is the number in the range of its word?
 pub fn in_range(sort: Sort, names: Names, kind: u8, number: usize) -> bool
     ensures { λ r. ⌜ r ≡ inRange sort names kind number ⌝ }
 {

@@ -84,7 +84,7 @@ module _ (v : Made) (ks : List ℕ) (ns : List ℤ) (r : Made) (is : r ≡ v) (l
 module _ (ws : List (List ℕ)) (t : List ℕ) (r : Made) (ks ks′ : List ℕ) (ns ns′ : List ℤ) (lk : length ks ≡ 4096) (ln : length ns ≡ 4096)
     (I : RowsInto (makeText ws t) (rowsMade ws t) ks ns r ks′ ns′) where
   -- a table of 4,096 rows has room for all that is made
-  own-answer : r ≡ makeText ws t
+  pub own-answer : r ≡ makeText ws t
   own-answer = go (makeText ws t) refl (I .answer)
     where
       go : (v : Made) → makeText ws t ≡ v → r ≡ lentTable v (length ks) (length ns) → r ≡ v

@@ -2,7 +2,7 @@
 use mathlib.Core.Path.{_≡_}
 use mathlib.Core.List.{List, []}
 use Prim.Native.Nat.{ℕ}
-use Rattle.words.specs.Words.{words, lookUp}
+use Rattle.words.specs.Words.{lookUp}
 use Rattle.lines.specs.Reading.{linesOf, rowsIn}
 use Rattle.meaning.specs.Types.{DataType}
 use Rattle.meaning.specs.Terms.{Plan}
@@ -11,10 +11,10 @@ use Rattle.meaning.specs.Limits.{PlanWithin}
 use Rattle.meaning.specs.Rows.{planRows}
 use Rattle.typing.specs.Accepted.{Numbers32}
 
--- P is well typed within the limits, its rows are the text's, and their numbers are a cell's
-pub record TextPlan (t : List ℕ) (P : Plan) : Type 0 where
+-- ws is the table of words. P is well typed within the limits ([5.1]), its rows are the text's, and their numbers are a cell's ([1.4]).
+pub record TextPlan (ws : List (List ℕ)) (t : List ℕ) (P : Plan) : Type 0 where
   pub type : DataType
   pub well-typed : HasType (P .inputs) [] (P .term) type
   pub within : PlanWithin P
   pub numbers : Numbers32 (planRows P)
-  pub rows : rowsIn (lookUp words) (linesOf t) ≡ planRows P
+  pub rows : rowsIn (lookUp ws) (linesOf t) ≡ planRows P

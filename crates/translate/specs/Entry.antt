@@ -1,5 +1,5 @@
--- The translation of a plan's text: document 01, 'Questions at the door', questions 1 to 8 and 10 to 12, "in this order; the first "no"
--- gives the number". The table of words is an argument. Definitions only; assumes nothing.
+-- The translation of a plan's text: [10.1] to [10.8] and [10.10] to [10.12], in this order ([10.16]). The table of words is an
+-- argument. Definitions only; assumes nothing.
 use mathlib.Core.Bool.{Bool, true, false, cond, _&&_}
 use mathlib.Core.Path.{_≡_}
 use mathlib.Core.List.{List}
@@ -27,11 +27,11 @@ use Rattle.translate.specs.declared.Made.the-variants.{Rows, Refused}
 
 -- ---- plans
 
--- The rows of the loops that are made from a plan.
+-- [6.1] The rows of the loops that are made from a plan.
 abbrev pub madeRows : Plan → List Row
 madeRows P = loopsRows (translation P)
 
--- "Do the made loops take at most 4,096 lines? 10" Then "At most 16,777,216 writes? 11": "the number counted from a plan is its term's w".
+-- [10.10] The rows made are at most 4,096 ([13.5]). [10.11] The writes, which are the plan's w ([7.3]), are at most 16,777,216 ([13.15]).
 unfoldable pub makePlan : Plan → Made
 makePlan P =
     cond (leb (length (madeRows P)) 4096)
@@ -53,13 +53,13 @@ planIn ws t = planOf (rowsIn (lookUp ws) (linesOf t))
 abbrev pub rowsMade : List (List ℕ) → List ℕ → List Row
 rowsMade ws t = madeRows (planIn ws t)
 
--- Questions 1 to 8 by the check of `typing`; then 10 and 11.
+-- [10.1] to [10.8] by the check of `typing`; then [10.10] and [10.11].
 unfoldable pub makeText : List (List ℕ) → List ℕ → Made
 makeText ws t = afterCheck (checkText ws t) (makePlan (planIn ws t))
 
 -- ---- what is lent
 
--- "Has each lent table at least the rows .. that are to be put in it? 12"
+-- [10.12] The table has room for the rows.
 abbrev pub lentTable : Made → ℕ → ℕ → Made
 lentTable (Rows n) kinds numbers = cond (leb n kinds && leb n numbers) (Rows n) (Refused LentSize)
 lentTable (Refused q) kinds numbers = Refused q
@@ -68,7 +68,7 @@ abbrev pub isMade : Made → Bool
 isMade (Rows n) = true
 isMade (Refused q) = false
 
--- "and each lent text at least the bytes", which `printing` of `lines` asks
+-- [10.12] The text has room for the bytes, which `printing` of `lines` asks.
 abbrev pub lentText : Made → Printing → Printing
 lentText (Rows n) next = next
 lentText (Refused q) next = print.Refused q
@@ -77,8 +77,8 @@ abbrev pub isPrinted : Printing → Bool
 isPrinted (print.Bytes n) = true
 isPrinted (print.Refused q) = false
 
--- What is promised of the answer r and of a lent table, as lent and as left, where the translation answers v and makes the rows R: they
--- stand in front, and the rest is as it was; with a refusal all is.
+-- What is promised of the answer r and of a lent table, as lent and as left, where the translation answers v and makes the rows R:
+-- they stand in front, and the rest is as it was ([10.22]); with a refusal all is ([10.17]).
 pub record RowsInto (v : Made) (R : List Row) (kinds : List ℕ) (numbers : List ℤ) (r : Made) (kinds′ : List ℕ) (numbers′ : List ℤ) : Type 0 where
   pub answer : r ≡ lentTable v (length kinds) (length numbers)
   pub kinds-left : kinds′ ≡ filled (isMade r) (kindsOf R) kinds

@@ -1,6 +1,6 @@
--- The translation of a plan's text: document 01, questions 1 to 8 and 10 to 12.
+-- The translation of a plan's text: [6.1], [10.1] to [10.8] and [10.10] to [10.12].
 
--- The definitions: what a reader has to believe
+-- The definitions
 pub mod Entry
 pub mod Accepted
 pub mod Questions
@@ -9,3 +9,5 @@ pub mod Making
 -- Their laws, and what is proved
 pub mod Laws
 pub mod Theorems
+-- The contracts of the entries
+pub mod Contracts

@@ -1,7 +1,7 @@
-// The translation of a plan's text: questions 1 to 8 and 10 to 12 of document 01, and the loops as rows or as a text. Nothing lent is
-// touched before the last "no" has been ruled out.
+// The translation of a plan's text: [10.1] to [10.8] and [10.10] to [10.12], and the loops as rows or as a text. Nothing lent is
+// touched before the last "no" has been ruled out ([10.17]).
 ghost use Rattle.words.specs.Words.{words};
-ghost use Rattle.translate.specs.Entry.{rowsMade, makeText, RowsInto, TextInto};
+ghost use Rattle.translate.specs.Contracts.{TranslatesRows, TranslatesText};
 use lines::Printing;
 use lines::Reading;
 use refusals::Refusal;
@@ -15,9 +15,9 @@ pub enum Made {
     Refused(Refusal),
 }
 
-// Translates a plan's text; the rows of the loops go to the front of the lent table.
+// [10.16] Translates a plan's text; the rows of the loops go to the front of the lent table.
 pub fn translate_rows(text: &[u8], kinds: &mut [u8], numbers: &mut [i32]) -> Made
-    ensures { λ r. ⌜ RowsInto (makeText words (now (text .entry))) (rowsMade words (now (text .entry))) (now (kinds .entry)) (now (numbers .entry)) r (now (kinds .exit)) (now (numbers .exit)) ⌝ }
+    ensures { λ r. ⌜ TranslatesRows words (now (text .entry)) (now (kinds .entry)) (now (numbers .entry)) r (now (kinds .exit)) (now (numbers .exit)) ⌝ }
 {
     let mut plan_kinds = [0u8; 256];
     let mut plan_numbers = [0i32; 256];
@@ -31,9 +31,9 @@ pub fn translate_rows(text: &[u8], kinds: &mut [u8], numbers: &mut [i32]) -> Mad
     making::make_rows(&plan_kinds[..rows], &plan_numbers[..rows], kinds, numbers)
 }
 
-// Translates a plan's text; the text of the loops goes to the front of the lent one.
+// [10.16] Translates a plan's text; the text of the loops goes to the front of the lent one.
 pub fn translate_text(text: &[u8], lent: &mut [u8]) -> Printing
-    ensures { λ r. ⌜ TextInto words (makeText words (now (text .entry))) (rowsMade words (now (text .entry))) (now (lent .entry)) r (now (lent .exit)) ⌝ }
+    ensures { λ r. ⌜ TranslatesText words (now (text .entry)) (now (lent .entry)) r (now (lent .exit)) ⌝ }
 {
     let mut kinds = [0u8; 4096];
     let mut numbers = [0i32; 4096];

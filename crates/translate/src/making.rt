@@ -1,4 +1,4 @@
-// The loops of a plan's rows: questions 4 to 8 and 10 to 12.
+// The loops of a plan's rows ([6.1]): [10.4] to [10.8] and [10.10] to [10.12].
 ghost use mathlib.Core.Path.{_≡_};
 ghost use Prim.Native.Nat.{ℕ, _≤_, _<_};
 ghost use lib.IntN.{pos};
@@ -73,8 +73,8 @@ fn put_inputs(
     put_inputs(types, &places[1..], outkinds, outnumbers, next)
 }
 
-// The loops of a plan whose types were found, from the first row on: where they end. `inputs` are the places of the inputs' types, `row` is
-// the term's first row and `place` that of its type.
+// [6.1] The loops of a plan whose types were found, from the first row on: where they end. `inputs` are the places of the inputs'
+// types, `row` is the term's first row and `place` that of its type.
 fn put_loops(
     kinds: &[u8],
     numbers: &[i32],
@@ -120,7 +120,7 @@ fn put_loops(
     written.to
 }
 
-// Question 11, put to made rows: their writes are counted by the check of loops.
+// [10.11], put to made rows: their writes are counted by the check of loops ([7.3]).
 fn ask_writes(kinds: &[u8], numbers: &[i32]) -> Made
     ensures { λ r. ⌜ r ≡ byCheck (length (now (kinds .entry))) (checkTable (rowsOf (now (kinds .entry)) (now (numbers .entry)))) ⌝ }
 {
@@ -134,7 +134,7 @@ fn ask_writes(kinds: &[u8], numbers: &[i32]) -> Made
     Made::Rows(kinds.len())
 }
 
-// Questions 11 and 12 of made rows; then they are put at the front of the lent table.
+// [10.11] and [10.12] of made rows; then they are put at the front of the lent table.
 fn hand_over(kinds: &[u8], numbers: &[i32], lentkinds: &mut [u8], lentnumbers: &mut [i32]) -> Made
     requires { ⌜ length (now kinds) ≡ length (now numbers) ⌝ }
     ensures { λ r. ⌜ RowsInto (byCheck (length (now (kinds .entry))) (checkTable (rowsOf (now (kinds .entry)) (now (numbers .entry))))) (rowsOf (now (kinds .entry)) (now (numbers .entry)))

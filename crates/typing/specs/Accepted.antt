@@ -1,5 +1,4 @@
--- Which plans, rows and texts are to be accepted, said without the check: document 01, 'Lines' and 'Questions at the door'. Definitions
--- only; assumes nothing.
+-- Which plans, rows and texts are to be accepted, said without the check: [10.21], [5.1]. Definitions only; assumes nothing.
 use mathlib.Core.Path.{_≡_}
 use mathlib.Core.List.{List, [], _∷_}
 use Prim.Native.Nat.{ℕ, _≤_}
@@ -8,7 +7,7 @@ use mir.Syntax.{w32}
 use mir.Val.{SFits}
 use Rattle.words.specs.Kinds.{Row}
 use Rattle.lines.specs.Printing.{textOf}
-use Rattle.lines.specs.Laws.{Each}
+use Rattle.lines.specs.Printing.{Each}
 use Rattle.meaning.specs.Types.{DataType, number, array}
 use Rattle.meaning.specs.Terms.{Plan}
 use Rattle.meaning.specs.Typing.{HasType}
@@ -16,7 +15,7 @@ use Rattle.meaning.specs.Limits.{PlanWithin}
 use Rattle.meaning.specs.Rows.{planRows}
 use Rattle.syntax.specs.InRange.{PlanInRange}
 
--- "`arr` .. 1 to 4,096": no array in a type is empty
+-- [3.1] no array in a type is empty
 abbrev pub Nonempty : DataType → Type 0
 Nonempty number = Unit {0}
 Nonempty (array n t) = (1 ≤ n) × Nonempty t
@@ -26,7 +25,7 @@ abbrev pub AllNonempty : List DataType → Type 0
 AllNonempty [] = Unit {0}
 AllNonempty (t ∷ ts) = Nonempty t × AllNonempty ts
 
--- A plan that is well typed by Figure 3's relation, its numbers in range and its names in force, within the limits.
+-- [5.1] A plan that is well typed by Figure 3's relation, its numbers in range and its names in force, within the limits.
 pub record Admitted (P : Plan) : Type 0 where
   pub type : DataType
   pub well-typed : HasType (P .inputs) [] (P .term) type
@@ -40,11 +39,11 @@ pub record AcceptedRows (R : List Row) : Type 0 where
   pub rows : R ≡ planRows plan
   pub only : (Q : Plan) → R ≡ planRows Q → Q ≡ plan
 
--- "range −2,147,483,648 to 2,147,483,647", of every row's number
+-- [13.1] every row's number is in the range
 abbrev pub Numbers32 : List Row → Type 0
 Numbers32 R = Each (λ (r : Row). SFits w32 (r .1)) R
 
--- A text of n rows that is an admitted plan's rows as text, in at most 4,096 bytes.
+-- [10.21] A text of n rows that is an admitted plan's rows as text, in at most 4,096 bytes [13.2].
 pub record AcceptedText (ws : List (List ℕ)) (t : List ℕ) (n : ℕ) : Type 0 where
   pub plan : Plan
   pub admitted : Admitted plan

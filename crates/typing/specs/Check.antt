@@ -1,5 +1,5 @@
--- The check of a plan on its tree: document 01, questions 7 and 8, "in a plan, type rows included, each row after its operands,
--- left to right". Definitions only; assumes nothing.
+-- The check of a plan on its tree: [10.7] and [10.8], put to the types of inputs too, and to each row after its operands, from left to
+-- right [10.19]. Definitions only; assumes nothing.
 use mathlib.Core.Bool.{Bool, true, false, cond, _&&_}
 use mathlib.Core.List.{List, [], _∷_}
 use Prim.Native.Nat.{ℕ, suc, _+_, _*_, _/_}
@@ -44,37 +44,37 @@ sameType (DataType.pair r s) number = false
 sameType (DataType.pair r s) (array n t) = false
 sameType (DataType.pair r s) (DataType.pair t u) = sameType r t && sameType s u
 
--- "`zip` needs equal lengths."
+-- [5.6] two arrays of one length
 abbrev pub zipFits : DataType → DataType → Bool
 zipFits s t = isArray s && isArray t && eqb (arrayLength s) (arrayLength t)
 
--- "`split,n` makes groups of n, n dividing the length"
+-- [5.8] an array whose length n divides
 abbrev pub splitFits : ℕ → DataType → Bool
 splitFits n t = isArray t && eqb (arrayLength t / n * n) (arrayLength t)
 
--- an array of arrays
+-- [5.9] an array of arrays
 abbrev pub joinFits : DataType → Bool
 joinFits t = isArray t && isArray (element t)
 
--- "`idx,k` needs k below the length."
+-- [5.10] an array of more than k elements
 abbrev pub indexFits : ℕ → DataType → Bool
 indexFits k t = isArray t && ltb k (arrayLength t)
 
--- "at most 4,096 cells and 8 levels"
+-- [13.13] the cells, and [13.14] the levels
 abbrev pub inLimits : DataType → Bool
 inLimits t = leb (cells t) 4096 && leb (levels t) 8
 
 -- ---- the questions on a row
 
--- "Has its type .. at most 4,096 cells and 8 levels? 8"
+-- [10.8] The size of the row's type.
 abbrev pub sized : ℕ → DataType → Verdict
 sized line t = cond (inLimits t) (typed t) (refused (TypeSize line))
 
--- "Do the types fit? 7", and then 8
+-- [10.7] The fit of the operands' types, and then [10.8].
 abbrev pub fitted : ℕ → Bool → DataType → Verdict
 fitted line fits t = cond fits (sized line t) (refused (TypeMisfit line))
 
--- "each row after its operands": an operand's refusal is handed on
+-- [5.11] a row comes after its operands: an operand's refusal is handed on
 abbrev pub afterOperand : Verdict → (DataType → Verdict) → Verdict
 afterOperand (typed t) next = next t
 afterOperand (refused q) next = refused q
@@ -88,8 +88,8 @@ behind e line = line + length (termRows e)
 
 -- ---- terms
 
--- The inputs' types, those of the variables in force (innermost first), a term, and the line of its first row. "A map or
--- `redseq` over no array is refused on its own line before its body is typed." "A `redseq` body has the start's type."
+-- [5.2] to [5.10] The inputs' types, those of the variables in force (innermost first), a term, and the line of its first row.
+-- [5.11] A map or `redseq` whose array is none is refused before its body is typed.
 unfoldable pub check : List DataType → List DataType → Term → ℕ → Verdict
 check I Γ (Term.input k) line = sized line (getD I k number)
 check I Γ (Term.variable d) line = sized line (getD Γ d number)
@@ -122,9 +122,9 @@ check I Γ (Term.first e) line = afterOperand (check I Γ e (suc line)) λ t. fi
 check I Γ (Term.second e) line = afterOperand (check I Γ e (suc line)) λ t. fitted line (isPair t) (secondType t)
 check I Γ (Term.index k e) line = afterOperand (check I Γ e (suc line)) λ t. fitted line (indexFits k t) (element t)
 
--- ---- "type rows included"
+-- ---- types of inputs
 
--- a type row's type is the one it spells
+-- [5.1] a type row's type is the one it spells
 unfoldable pub checkType : DataType → ℕ → Verdict
 checkType number line = sized line number
 checkType (array n t) line = afterOperand (checkType t (suc line)) λ u. sized line (array n t)
@@ -132,12 +132,12 @@ checkType (DataType.pair s t) line =
     afterOperand (checkType s (suc line)) λ u. afterOperand (checkType t (behindType s (suc line))) λ v.
     sized line (DataType.pair s t)
 
--- the input types from a line on, and what comes behind them
+-- [10.19] the input types from a line on, and what comes behind them
 unfoldable pub checkTypes : List DataType → ℕ → Verdict → Verdict
 checkTypes [] line next = next
 checkTypes (t ∷ I) line next = afterOperand (checkType t line) λ u. checkTypes I (behindType t line) next
 
--- the line on which a plan's term begins: `plan,K` is line 1, and the input types begin on line 2
+-- [3.6] the line on which a plan's term begins: `plan,K` is line 1, and the input types begin on line 2
 abbrev pub termLine : List DataType → ℕ
 termLine I = 2 + length (allTypeRows I)
 

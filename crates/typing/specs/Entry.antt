@@ -1,5 +1,5 @@
--- The check of a plan from its rows and from its text: document 01, 'Questions at the door', "in this order; the first "no" gives the
--- number". Definitions only; assumes nothing.
+-- The check of a plan from its rows and from its text: questions 1 to 8 in the order of [10.16], of which the first "no" is told
+-- [10.17]. Definitions only; assumes nothing.
 use mathlib.Core.List.{List}
 use Prim.Native.Nat.{ℕ}
 use Rattle.words.specs.Kinds.{Row}
@@ -19,7 +19,7 @@ abbrev pub answered : ℕ → Verdict → Answer
 answered n (typed t) = Passed n
 answered n (refused q) = Refused q
 
--- Questions 4 to 6 on every row; then 7 and 8 on the plan whose rows they are.
+-- [10.18] Questions 4 to 6 on every row; then 7 and 8 on the plan whose rows they are.
 unfoldable pub checkRows : List Row → Answer
 checkRows R = after (walkTable sort.Plan R) (λ n. answered n (checkPlan (planOf R)))
 
@@ -28,6 +28,6 @@ abbrev pub afterReading : Reading → Answer → Answer
 afterReading (read.Rows n) next = next
 afterReading (read.Refused q) next = Refused q
 
--- Questions 1 to 3 on the text; then 4 to 8 on its rows. The table of words is an argument.
+-- [10.16] Questions 1 to 3 on the text; then 4 to 8 on its rows. The table of words is an argument.
 unfoldable pub checkText : List (List ℕ) → List ℕ → Answer
 checkText ws t = afterReading (reading (lookUp ws) planLimits t) (checkRows (rowsIn (lookUp ws) (linesOf t)))

@@ -1,5 +1,5 @@
--- Questions 1 to 8 of document 01 as one list for a text, and 2 and 4 to 8 as one for rows, in the order in which they are put. That the
--- check of a text or of rows is the first "no" of this list is said by `Theorems`. Definitions only; assumes nothing.
+-- Questions 1 to 8 as one list for a text, and 2 and 4 to 8 as one for rows, in the order in which they are put: [10.16]. That the check
+-- of a text or of rows is the first "no" of this list is said by `Theorems`. Definitions only; assumes nothing.
 use mathlib.Core.Bool.{Bool, true, false, not}
 use mathlib.Core.List.{List, [], _∷_, _++_}
 use Prim.Native.Nat.{ℕ, suc, _+_}
@@ -12,7 +12,8 @@ use Rattle.words.specs.declared.Found.{Found}
 use Rattle.words.specs.declared.Operands.{Operands}
 use Rattle.words.specs.declared.Operands.the-variants.{Count, NotOfSort}
 use Rattle.words.specs.declared.Sort.the-variants as sort
-use Rattle.lines.specs.Reading.{linesOf, lineOf, rowsIn, closed}
+use Rattle.lines.specs.Reading.{linesOf, lineOf, rowsIn, closed, planLimits}
+use Rattle.lines.specs.declared.Limits.{Limits}
 use Rattle.lines.specs.declared.Line.{Line}
 use Rattle.lines.specs.declared.Line.the-variants.{IsRow, NoRow}
 use Rattle.syntax.specs.declared.operands.Due.{Due}
@@ -29,16 +30,19 @@ abbrev pub isRow : Line → Bool
 isRow (IsRow k z) = true
 isRow NoRow = false
 
--- "Is every line a listed word, a comma and a well-written number? 2", n lines standing before these
+-- [10.2] Of every line, n lines standing before these
 unfoldable pub lineQuestions : (List ℕ → Found) → ℕ → List (List ℕ) → List Question
 lineQuestions head n [] = []
 lineQuestions head n (l ∷ ls) = question (isRow (lineOf head l)) (LineForm (suc n)) ∷ lineQuestions head (suc n) ls
 
--- "Is the text 1 to 4,096 bytes .., its last byte 10? 1" and "At most 256 lines ..? 3" around them
-unfoldable pub readQuestions : (List ℕ → Found) → List ℕ → List Question
-readQuestions head t =
-    question (closed 4096 t) TextForm
-    ∷ (lineQuestions head 0 (linesOf t) ++ (question (leb (length (linesOf t)) 256) LineCount ∷ []))
+-- [10.1] before them
+unfoldable pub formQuestions : (List ℕ → Found) → ℕ → List ℕ → List Question
+formQuestions head bytes t = question (closed bytes t) TextForm ∷ lineQuestions head 0 (linesOf t)
+
+-- [10.3] and behind them
+unfoldable pub readQuestions : (List ℕ → Found) → Limits → List ℕ → List Question
+readQuestions head limits t =
+    formQuestions head (limits .bytes) t ++ (question (leb (length (linesOf t)) (limits .lines)) LineCount ∷ [])
 
 -- ---- 4 to 6
 
@@ -50,8 +54,8 @@ abbrev pub countOf : Operands → ℕ
 countOf (Count m) = m
 countOf NotOfSort = 0
 
--- "Then per row, from the top": "Is a row of this sort due here? At the end, is none still due (line: last + 1)? 4", "Number in
--- range ..? 5", names in force "and its own together: at most 16 variables ..? 6". p rows stand before these.
+-- [10.18] Of each row, from the top: [10.4], [10.5], [10.6]. At the end, [10.4] again: nothing is still due, and no row is left. p rows
+-- stand before these.
 unfoldable pub walkQuestions : ℕ → List Due → List Row → List Question
 walkQuestions p [] [] = []
 walkQuestions p [] (r ∷ rs) = question false (RowDue (suc p)) ∷ []
@@ -64,7 +68,7 @@ walkQuestions p (d ∷ ds) (r ∷ rs) =
     (operandsDue d (r .0) (asNatural (r .1)) (inputsCounted (d .sort) (asNatural (r .1)) + countOf (operandsOf (r .0) (d .sort))) ++ ds)
     rs
 
--- question 2 of a table that was not read from a text: a text's kinds are words'
+-- [10.2] of a table that was not read from a text: a text's kinds are words'
 unfoldable pub kindQuestions : ℕ → List Row → List Question
 kindQuestions p [] = []
 kindQuestions p (r ∷ rs) = question (not (ltb word-rest (r .0))) (LineForm (suc p)) ∷ kindQuestions (suc p) rs
@@ -75,4 +79,4 @@ unfoldable pub rowQuestions : List Row → List Question
 rowQuestions R = (kindQuestions 0 R ++ walkQuestions 0 (due sort.Plan noNames ∷ []) R) ++ planQuestions (planOf R)
 
 unfoldable pub textQuestions : List (List ℕ) → List ℕ → List Question
-textQuestions ws t = readQuestions (lookUp ws) t ++ rowQuestions (rowsIn (lookUp ws) (linesOf t))
+textQuestions ws t = readQuestions (lookUp ws) planLimits t ++ rowQuestions (rowsIn (lookUp ws) (linesOf t))

@@ -1,5 +1,5 @@
--- The bench cards of document 01 that the check of a plan answers, and examples of questions 7 and 8, computed on `checkText` from
--- their texts. Facts about the definitions, none of them a definition to believe; assumes nothing.
+-- The cards that the check of a plan answers [15.2], and examples of questions 7 and 8, computed on `checkText` from their texts.
+-- Facts about the definitions, none of them a definition to believe; assumes nothing.
 use mathlib.Core.Path.{_≡_, refl}
 use mathlib.Core.Bool.{cond}
 use mathlib.Core.List.{List, [], _∷_, _++_, map}
@@ -40,7 +40,7 @@ answers cs = map (λ (c : Card). shown (checkText words (text (c .0)))) cs
 abbrev expected : List Card → List (ℕ × ℕ)
 expected cs = map (λ (c : Card). (c .1, c .2)) cs
 
--- "P3 `split,3` of 7: 7. P4 `idx,1` of two passes, `idx,2`: 7. P9 64 × 64 cells pass, 65 × 64: 8. P10 `lit,-0`: 2."
+-- [15.2] P3, P4, P9 and P10.
 abbrev pub cards : List Card
 cards =
     ("plan,1 arr,7 num,0 split,3 in,0", 7, 4)
@@ -51,8 +51,7 @@ cards =
     ∷ ("plan,0 lit,-0", 2, 2)
     ∷ []
 
--- 7 before 8 on a row; "A map or `redseq` over no array is refused on its own line before its body is typed"; "`zip` of
--- 3 and 4: 7".
+-- [10.19] 7 before 8 on a row; [5.11] a map or `redseq` whose array is none, before its body; [15.2] `zip` of 3 and 4 elements.
 abbrev order : List Card
 order =
     ("plan,2 arr,2049 num,0 arr,2048 num,0 zip,0 in,0 in,1", 7, 6)
@@ -61,7 +60,7 @@ order =
     ∷ ("plan,2 arr,3 num,0 arr,4 num,0 zip,0 in,0 in,1", 7, 6)
     ∷ []
 
--- Questions 7 and 8: which row is named, and which "no" comes first; "9 levels 8".
+-- [10.19] Questions 7 and 8: which row is named, and which "no" comes first; [15.2] a type of 9 levels.
 abbrev types : List Card
 types =
     ("plan,1 arr,65 arr,64 num,0 fst,0 lit,1", 8, 2)
@@ -91,7 +90,7 @@ types =
     ∷ ("plan,1 arr,6 num,0 idx,1 idx,2 split,2 in,0", 0, 7)
     ∷ []
 
--- "`arr,4097` 5", a "no" of each of the questions 2 and 4 to 6, and the plan of P1.
+-- [15.2] `arr,4097`; a "no" of each of the questions 2 and 4 to 6; and the plan of P1 [15.1].
 abbrev others : List Card
 others =
     ("plan,1 arr,4097 num,0 in,0", 5, 2)
@@ -108,13 +107,22 @@ others =
     ∷ []
 
 pub cards-answered : answers cards ≡ expected cards
-unfolding words table sameLetters lookFrom operandsOf allDigits value leadingZero unsigned notBelowZero belowZero numeralOf linesOf placeOf rowOf rowsIn formed reading typeRows allTypeRows termRows oneOf inRange openedBy operandOf operandsDue askRow walkFrom listedFrom walkTable operandsAmong readRows choose planOf check checkType checkTypes checkPlan checkRows checkText
+unfolding words table sameLetters lookFrom operandsOf allDigits value leadingZero unsigned notBelowZero belowZero
+    numeralOf linesOf placeOf rowOf rowsIn formed reading typeRows allTypeRows termRows oneOf inRange openedBy
+    operandOf operandsDue askRow walkFrom listedFrom walkTable operandsAmong readRows choose planOf check checkType
+    checkTypes checkPlan checkRows checkText
 cards-answered = refl
 
 order-answered : answers order ≡ expected order
-unfolding words table sameLetters lookFrom operandsOf allDigits value leadingZero unsigned notBelowZero belowZero numeralOf linesOf placeOf rowOf rowsIn formed reading typeRows allTypeRows termRows oneOf inRange openedBy operandOf operandsDue askRow walkFrom listedFrom walkTable operandsAmong readRows choose planOf check checkType checkTypes checkPlan checkRows checkText
+unfolding words table sameLetters lookFrom operandsOf allDigits value leadingZero unsigned notBelowZero belowZero
+    numeralOf linesOf placeOf rowOf rowsIn formed reading typeRows allTypeRows termRows oneOf inRange openedBy
+    operandOf operandsDue askRow walkFrom listedFrom walkTable operandsAmong readRows choose planOf check checkType
+    checkTypes checkPlan checkRows checkText
 order-answered = refl
 
 examples-answered : answers (types ++ others) ≡ expected (types ++ others)
-unfolding words table sameLetters lookFrom operandsOf allDigits value leadingZero unsigned notBelowZero belowZero numeralOf linesOf placeOf rowOf rowsIn formed reading typeRows allTypeRows termRows oneOf inRange openedBy operandOf operandsDue askRow walkFrom listedFrom walkTable operandsAmong readRows choose planOf check checkType checkTypes checkPlan checkRows checkText
+unfolding words table sameLetters lookFrom operandsOf allDigits value leadingZero unsigned notBelowZero belowZero
+    numeralOf linesOf placeOf rowOf rowsIn formed reading typeRows allTypeRows termRows oneOf inRange openedBy
+    operandOf operandsDue askRow walkFrom listedFrom walkTable operandsAmong readRows choose planOf check checkType
+    checkTypes checkPlan checkRows checkText
 examples-answered = refl

@@ -4,6 +4,7 @@ pub mod TypeQuestions
 pub mod EntryQuestions
 pub mod Tests
 pub mod Accept
+pub mod Sized
 pub mod Plans
 pub mod Lengths
 pub mod Rows

@@ -1,5 +1,5 @@
--- Plans that differ in a length only: the bench cards P3, P4 and P9 of document 01, and `zip` of 3 and 4, for every length. Definitions
--- only; assumes nothing.
+-- Plans that differ in a length only: the cards P3, P4 and P9 and `zip` of 3 and 4 elements [15.2], for every length. Definitions only;
+-- assumes nothing.
 use mathlib.Core.Path.{_≡_}
 use mathlib.Core.List.{[], _∷_}
 use Prim.Native.Nat.{ℕ}

@@ -1,7 +1,8 @@
--- The check of a plan, as a definition: questions 1 to 8 put to a text in document 01's order; and that it accepts exactly the plans that
--- are well typed within the limits.
+-- The check of a plan, as a definition: questions 1 to 8, [10.1] to [10.8], put to a text in the order of [10.16]; and that it accepts
+-- exactly the plans that are well typed within the limits [10.21].
+-- Numbers in brackets, here and in every file, are those of the rules in docs/REQUIREMENTS.md.
 
--- The definitions, in document 01's order: what a reader has to believe
+-- The definitions
 pub mod Check
 pub mod Entry
 pub mod Accepted

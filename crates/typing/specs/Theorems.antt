@@ -5,13 +5,13 @@ use mathlib.Core.Path.{_≡_, sym, subst}
 use mathlib.Core.List.{List, [], _∷_, _++_}
 use mathlib.Core.Logic.{_↔_}
 use Prim.Native.Nat.{ℕ, _≤_, _<_, _*_, _/_}
-use lib.Dec.{T}
 use lib.ListN.{length}
 use Rattle.refusals.specs.declared.Refusal.{Refusal}
 use Rattle.refusals.specs.declared.Refusal.the-variants.{TypeMisfit, TypeSize}
 use Rattle.words.specs.Kinds.{Row}
 use Rattle.words.specs.Words.{words, lookUp}
-use Rattle.words.specs.Laws.{distinct, wellFormed, words-count, words-distinct, words-formed}
+use Rattle.words.specs.Good.{Good}
+use Rattle.words.specs.Laws.{words-good}
 use Rattle.words.specs.declared.Sort.{Sort}
 use Rattle.lines.specs.Reading.{linesOf, rowsIn, reading, planLimits}
 use Rattle.lines.specs.declared.Reading.the-variants as read
@@ -41,7 +41,7 @@ use Rattle.typing.specs.Laws.Texts.{accepted-text, text-accepted}
 
 -- ---- trees
 
--- The check of a term, and of a plan, is the first "no" of questions 7 and 8 in document 01's order; without one, the term's type.
+-- [10.17] [10.19] The check of a term, and of a plan, is the first "no" of questions 7 and 8 in order; without one, the term's type.
 pub term-first-no : (I Γ : List DataType) (e : Term) (line : ℕ)
     → check I Γ e line ≡ ask refused (termQuestions I Γ e line) (typed (typeOf I Γ e))
 term-first-no = check-asks
@@ -49,15 +49,15 @@ term-first-no = check-asks
 pub plan-first-no : (P : Plan) → checkPlan P ≡ ask refused (planQuestions P) (typed (planType P))
 plan-first-no = plan-asks
 
--- The check finds a type exactly when Figure 3's relation gives it and every row's type is within the limits. Question 5 was
--- asked before: numbers are in range, and no array of an input or a variable is empty.
+-- [5.1] The check finds a type exactly when Figure 3's relation gives it and every row's type is within the limits. Question 5 was asked
+-- before: numbers are in range, and no array of an input or a variable is empty.
 pub term-check : (I Γ : List DataType) (e : Term) (line : ℕ) (t : DataType)
     → AllNonempty I → AllNonempty Γ → TermInRange (length I) (length Γ) e
     → (check I Γ e line ≡ typed t) ↔ (HasType I Γ e t × TermWithin I Γ e)
 term-check I Γ e line t full g r =
     ((λ h. term-accepted I Γ e line t full g r h), (λ h. term-accepts I Γ e line t (h .0) (h .1)))
 
--- The same of a plan, its rows being few enough for question 3.
+-- [5.1] The same of a plan, its rows being few enough for question 3.
 pub plan-check : (P : Plan) (t : DataType) → PlanInRange P
     → ((checkPlan P ≡ typed t) × (length (planRows P) ≤ 256)) ↔ (HasType (P .inputs) [] (P .term) t × PlanWithin P)
 plan-check P t r = (
@@ -65,8 +65,8 @@ plan-check P t r = (
   (λ h. (plan-accepts P t (h .0) (h .1), h .1 .rowsFew)),
 )
 
--- Where arrays differ in length only (P3, P4, P9, and `zip`), for every length: `split,n` passes when n divides the length, `idx,k` when k is
--- below it, `zip` when the lengths are equal, m × n cells when they are at most 4,096; and else it is refused.
+-- [15.2] Where arrays differ in length only (P3, P4, P9, and `zip`), for every length: `split,n` passes when n divides the length, `idx,k`
+-- when k is below it, `zip` when the lengths are equal, m × n cells when they are at most 4,096; and else it is refused.
 pub split-any-length : (n l : ℕ) → 0 < n → l ≤ 4096
     → Decided (checkPlan (splitPlan n l)) ((m : ℕ) × (l ≡ m * n)) (array (l / n) (array n number)) (TypeMisfit 4)
 split-any-length = split-decided
@@ -83,8 +83,8 @@ cells-any-length = table-decided
 
 -- ---- rows
 
--- Demand 2 for rows: they are at most 256 and pass exactly when they are the rows of a plan that is well typed and within the limits;
--- it is the only one.
+-- [10.21] Demand 2 for rows: they are at most 256 and pass exactly when they are the rows of a plan that is well typed and within the
+-- limits; it is the only one.
 pub rows-accepted : (R : List Row) → ((checkRows R ≡ Passed (length R)) × (length R ≤ 256)) ↔ AcceptedRows R
 rows-accepted R = (
   (λ h. accepted-rows R (h .1) (h .0)),
@@ -92,13 +92,13 @@ rows-accepted R = (
       (admitted-rows (a .plan) (a .admitted), a .admitted .within .rowsFew)),
 )
 
--- The walk is the first "no" of questions 2 (of kinds) and 4 to 6, of plans and of loops.
+-- [10.18] The walk is the first "no" of questions 2 (of kinds) and 4 to 6, of plans and of loops.
 pub walk-first-no : (s : Sort) (R : List Row)
     → walkTable s R ≡ ask Refused (kindQuestions 0 R ++ walkQuestions 0 (due s noNames ∷ []) R) (Passed (length R))
 walk-first-no = table-asks
 
--- Demand 1 for rows: their check is the first "no" of questions 2 (of kinds) and 4 to 8 in document 01's order. So each refusal is given
--- exactly when it is the first "no", and rows pass exactly when every answer is "yes".
+-- [10.17] Demand 1 for rows: their check is the first "no" of questions 2 (of kinds) and 4 to 8 in order. So each refusal is given exactly
+-- when it is the first "no", and rows pass exactly when every answer is "yes".
 pub rows-first-no : (R : List Row) → checkRows R ≡ ask Refused (rowQuestions R) (Passed (length R))
 rows-first-no = rows-ask
 
@@ -108,23 +108,23 @@ rows-refused R = asked-refused (checkRows R) (rowQuestions R) (length R) (rows-a
 pub rows-passed : (R : List Row) → (checkRows R ≡ Passed (length R)) ↔ AllYes (rowQuestions R)
 rows-passed R = asked-passed (checkRows R) (rowQuestions R) (length R) (rows-ask R)
 
--- ---- texts, with any table of 38 distinct lower-case words
+-- ---- texts, with any good table of words
 
-module _ (ws : List (List ℕ)) (most : ℕ) (count : length ws ≡ 38) (one : T (distinct ws)) (lower : T (wellFormed most ws)) where
-  -- Demand 2 for texts.
+module _ (ws : List (List ℕ)) (good : Good ws) where
+  -- [10.21] Demand 2 for texts.
   pub text-check : (t : List ℕ) (n : ℕ) → (checkText ws t ≡ Passed n) ↔ AcceptedText ws t n
-  text-check t n = (accepted-text ws most count one lower t n, text-accepted ws most count one lower t n)
+  text-check t n = (accepted-text ws good t n, text-accepted ws good t n)
 
--- Demand 2 for texts in document 01's words.
+-- [10.21] Demand 2 for texts in the words of [2.2].
 pub plan-text-check : (t : List ℕ) (n : ℕ) → (checkText words t ≡ Passed n) ↔ AcceptedText words t n
-plan-text-check = text-check words 6 words-count words-distinct words-formed
+plan-text-check = text-check words words-good
 
--- The reading is the first "no" of questions 1 to 3.
+-- [10.17] The reading is the first "no" of questions 1 to 3.
 pub reading-first-no : (ws : List (List ℕ)) (t : List ℕ)
-    → reading (lookUp ws) planLimits t ≡ ask read.Refused (readQuestions (lookUp ws) t) (read.Rows (length (linesOf t)))
-reading-first-no ws t = reading-asks (lookUp ws) t
+    → reading (lookUp ws) planLimits t ≡ ask read.Refused (readQuestions (lookUp ws) planLimits t) (read.Rows (length (linesOf t)))
+reading-first-no ws t = reading-asks (lookUp ws) planLimits t
 
--- Demand 1 for texts, with any table of words: the check is the first "no" of questions 1 to 8 in document 01's order.
+-- [10.17] Demand 1 for texts, with any table of words: the check is the first "no" of questions 1 to 8 in order.
 pub text-first-no : (ws : List (List ℕ)) (t : List ℕ)
     → checkText ws t ≡ ask Refused (textQuestions ws t) (Passed (length (rowsIn (lookUp ws) (linesOf t))))
 text-first-no = text-asks

@@ -1,5 +1,5 @@
--- Questions 7 and 8 of document 01 as one list for a plan: "in a plan, type rows included, each row after its operands, left to right".
--- That the check is the first "no" of this list is said by `Theorems`. Definitions only; assumes nothing.
+-- Questions 7 and 8 as one list for a plan, in the order of [10.19]. That the check is the first "no" of this list is said by
+-- `Theorems`. Definitions only; assumes nothing.
 use mathlib.Core.Bool.{Bool, _&&_}
 use mathlib.Core.List.{List, [], _∷_, _++_}
 use Prim.Native.Nat.{ℕ, suc}
@@ -10,16 +10,16 @@ use Rattle.meaning.specs.Typing.{typeOf}
 use Rattle.typing.specs.Check.{isNumber, isArray, isPair, sameType, zipFits, splitFits, joinFits, indexFits, inLimits, behindType, behind, termLine}
 use Rattle.typing.specs.Questions.{Question, question}
 
--- "Do the types fit? 7"
+-- [10.7] the operands' types
 abbrev pub fits : ℕ → Bool → Question
 fits line b = question b (TypeMisfit line)
 
--- "Has its type .. at most 4,096 cells and 8 levels? 8"
+-- [10.8] the row's own type
 abbrev pub size : ℕ → DataType → Question
 size line t = question (inLimits t) (TypeSize line)
 
--- "each row after its operands, left to right: 7, 8"; "A map or `redseq` over no array is refused on its own line before its body is
--- typed." `typeOf` is the type of a term that has one; where a "no" came before, nobody hears the rest.
+-- [5.11] Each row after its operands, from left to right; a map or `redseq` is asked for its array before its body is. `typeOf` is the
+-- type of a term that has one; where a "no" came before, nobody hears the rest.
 unfoldable pub termQuestions : List DataType → List DataType → Term → ℕ → List Question
 termQuestions I Γ (Term.input k) line = size line (typeOf I Γ (Term.input k)) ∷ []
 termQuestions I Γ (Term.variable d) line = size line (typeOf I Γ (Term.variable d)) ∷ []
@@ -66,7 +66,7 @@ termQuestions I Γ (Term.index k e) line =
     termQuestions I Γ e (suc line)
     ++ (fits line (indexFits k (typeOf I Γ e)) ∷ size line (typeOf I Γ (Term.index k e)) ∷ [])
 
--- "type rows included"
+-- [10.8] of the rows of an input's type
 unfoldable pub typeQuestions : DataType → ℕ → List Question
 typeQuestions number line = size line number ∷ []
 typeQuestions (array n t) line = typeQuestions t (suc line) ++ (size line (array n t) ∷ [])

@@ -1,8 +1,10 @@
--- The values file: document 01, 'Two programs', and question 15.
+-- The values file: [11.3], [11.4] and [10.15].
 
--- The definitions: what a reader has to believe
+-- The definitions
 pub mod Values
 -- What the contracts of parts say besides
 pub mod Steps
 -- Their laws
 pub mod Laws
+-- The contracts of the entries
+pub mod Contracts

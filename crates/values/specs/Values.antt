@@ -1,4 +1,4 @@
--- The values file: document 01, 'Two programs', and question 15 of 'Questions at the door'. Definitions only; assumes nothing.
+-- The values file: [11.3], and the questions that it is asked, [10.14] and [10.15]. Definitions only; assumes nothing.
 use mathlib.Core.Bool.{Bool, true, false, cond, _&&_}
 use mathlib.Core.Path.{_≡_}
 use mathlib.Core.List.{List, [], _∷_, map}
@@ -14,7 +14,7 @@ use Rattle.lines.specs.declared.Reading.{Reading}
 use Rattle.lines.specs.declared.Reading.the-variants.{Rows, Refused}
 use Rattle.meaning.specs.Sequence.{upFrom}
 
--- ---- "Exactly one value line per input cell, and no other line?"
+-- ---- [10.15] every input cell has exactly one line, and there is no other line
 
 -- how many lines name cell k; the list has the cell that each line names
 unfoldable pub linesFor : ℕ → List ℕ → ℕ
@@ -36,12 +36,12 @@ oneLineEach n cs = oneEach n cs && noOther n cs
 
 -- ---- the answer
 
--- Question 14, of n input cells and a store of so many cells; then 15, of the cells that the lines name. The runner has asked 14
+-- [10.14], of n input cells and a store of so many cells; then [10.15], of the cells that the lines name. The runner has asked 14
 -- before: there it is never the "no".
 abbrev pub asked : ℕ → ℕ → List ℕ → Reading → Reading
 asked n store cs yes′ = cond (leb n store) (cond (oneLineEach n cs) yes′ (Refused ValueLines)) (Refused StoreSize)
 
--- Questions 1 and 2 by the reading of `lines`; then the next.
+-- [10.1] and [10.2], by the reading of `lines`; then the next.
 abbrev pub afterReading : Reading → (Reading → Reading) → Reading
 afterReading (Rows m) next = next (Rows m)
 afterReading (Refused q) next = Refused q
@@ -50,13 +50,13 @@ afterReading (Refused q) next = Refused q
 abbrev pub valueRows : List (List ℕ) → List ℕ → List Row
 valueRows ws t = rowsIn (headOf ws Cells) (linesOf t)
 
--- "`values.txt` to questions 1 (65,536 bytes), 2 and 15": how many lines there are, or the first "no".
+-- [10.16] Filling a store from values asks 1, 2, 14, 15: how many lines there are, or the first "no".
 unfoldable pub filling : List (List ℕ) → List ℕ → ℕ → ℕ → Reading
 filling ws t n store = afterReading (reading (headOf ws Cells) valuesLimits t) (asked n store (kindsOf (valueRows ws t)))
 
 -- ---- the store
 
--- "A values line is `cell,v`": the value of cell k is v on the first line that names it; question 15 leaves no second one.
+-- [11.3] The value of cell k is the number on the first line that names it; [10.15] leaves no second one.
 unfoldable pub valueOf : List Row → ℕ → ℤ
 valueOf [] k = pos 0
 valueOf (r ∷ rs) k = cond (eqb (r .0) k) (r .1) (valueOf rs k)
@@ -66,7 +66,7 @@ accepted (Rows m) = true
 accepted (Refused q) = false
 
 -- What `fill` promises of its answer r and of the store, as lent and as left. Accepted: the cells 0 to n − 1 hold their values and
--- the others what they held. Refused: all hold what they held.
+-- the others what they held. Refused: all hold what they held ([10.17]).
 pub record FillInto (ws : List (List ℕ)) (t : List ℕ) (n : ℕ) (store : List ℤ) (r : Reading) (store′ : List ℤ) : Type 0 where
   pub answer : r ≡ filling ws t n (length store)
   pub store-left : store′ ≡ filled (accepted r) (map (valueOf (valueRows ws t)) (upFrom 0 n)) store

@@ -1,10 +1,11 @@
-// The values file of the runner: questions 1, 2, 14 and 15 of document 01, and each value into its cell.
+// The values file of the runner: questions 1, 2, 14 and 15 of [10.16], and each value into its cell ([11.3]).
+ghost use Rattle.words.specs.Words.{words};
 ghost use mathlib.Core.Path.{_≡_};
 ghost use Prim.Native.Nat.{_≤_};
 ghost use lib.ListN.{length};
 ghost use Rattle.words.specs.Kinds.{rowsOf};
-ghost use Rattle.words.specs.Words.{words};
-ghost use Rattle.values.specs.Values.{oneLineEach, FillInto};
+ghost use Rattle.values.specs.Contracts.{FillsStore};
+ghost use Rattle.values.specs.Values.{oneLineEach};
 ghost use Rattle.values.specs.Steps.{stored};
 use lines::Reading;
 use refusals::Refusal;
@@ -16,7 +17,7 @@ fn place(cell: u32) -> usize
     cell as usize
 }
 
-// Question 15: has each cell below the count exactly one line, and is there no other line?
+// [10.15] Has each cell below the count exactly one line, and is there no other line?
 fn one_line_each(cells: &[u32], count: usize) -> bool
     requires { ⌜ length (now cells) ≤ 16384 ⌝ }
     ensures { λ r. ⌜ r ≡ oneLineEach count (now (cells .entry)) ⌝ }
@@ -54,7 +55,7 @@ fn put_values(cells: &[u32], values: &[i32], store: &mut [i32])
 
 // Fills the cells below the count from a values file: how many lines it has, or the first "no".
 pub fn fill(text: &[u8], count: usize, store: &mut [i32]) -> Reading
-    ensures { λ r. ⌜ FillInto words (now (text .entry)) count (now (store .entry)) r (now (store .exit)) ⌝ }
+    ensures { λ r. ⌜ FillsStore words (now (text .entry)) count (now (store .entry)) r (now (store .exit)) ⌝ }
 {
     let mut cells = [0u32; 16384];
     let mut values = [0i32; 16384];

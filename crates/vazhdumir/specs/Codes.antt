@@ -1,6 +1,4 @@
--- What an entry tells C, as one number of 64 bits: its highest byte is 0 and the rest the value; or its highest byte is the refusal's
--- number and the rest its line. Document 01: "A refusal is number and line", "callable from firmware written in C". Definitions
--- only; assumes nothing.
+-- What an entry tells C, as one number of 64 bits: [12.2] and [12.3]. Definitions only; assumes nothing.
 use mathlib.Core.Path.{_≡_}
 use mathlib.Core.List.{List}
 use Prim.Native.Nat.{ℕ, _+_, _*_, min}
@@ -25,36 +23,36 @@ use Rattle.run.specs.declared.Ran.{Ran}
 use Rattle.run.specs.declared.Ran.the-variants as ran
 use Rattle.run.specs.Run.{Outcome}
 
--- A line is far below 2^56; were it not, it would stop there.
+-- [12.2] The highest byte is the refusal's number, the rest its line. A line is far below 2^56; were it not, it would stop there.
 abbrev pub refusalCode : Refusal → ℕ
 refusalCode q = numberOf q * 72057594037927936 + min (lineOf q) 72057594037927935
 
--- a plan that is accepted: 0
+-- [12.3] A plan that is accepted: 0
 abbrev pub acceptedCode : Answer → ℕ
 acceptedCode (walk.Passed n) = 0
 acceptedCode (walk.Refused q) = refusalCode q
 
--- loops that pass: their writes
+-- [12.3] Loops that pass: their writes
 abbrev pub checkedCode : Checked → ℕ
 checkedCode (check.Passes w n) = w
 checkedCode (check.Refused q) = refusalCode q
 
--- their need
+-- [12.3] Their need
 abbrev pub neededCode : Needed → ℕ
 neededCode (needed.Cells n) = n
 neededCode (needed.Refused q) = refusalCode q
 
--- the rows that were put
+-- [12.3] The rows that were put
 abbrev pub readCode : Reading → ℕ
 readCode (read.Rows n) = n
 readCode (read.Refused q) = refusalCode q
 
--- the bytes that were put
+-- [12.3] The bytes that were put
 abbrev pub printedCode : Printing → ℕ
 printedCode (print.Bytes n) = n
 printedCode (print.Refused q) = refusalCode q
 
--- the writes that were made
+-- [12.3] The writes that were made
 abbrev pub ranCode : Ran → ℕ
 ranCode (ran.Finished w) = w
 ranCode (ran.Refused q) = refusalCode q
@@ -71,8 +69,8 @@ pub record TextCoded (ws : List (List ℕ)) (t lent : List ℕ) (r : ℕ) (lent�
   pub answer : r ≡ printedCode printing
   pub left : TextInto ws (makeText ws t) (rowsMade ws t) lent printing lent′
 
--- "There a store is bytes, four to a cell": what is promised of the answer r and of a store, as lent and as left, where o is the run's
--- outcome on its cells. Left-over bytes are as they were.
+-- [12.4] What is promised of the answer r and of a store in bytes, as lent and as left, where o is the run's outcome on its cells.
+-- [9.11] Left-over bytes are as they were.
 pub record RunCoded (o : Outcome) (bytes : List ℕ) (r : ℕ) (bytes′ : List ℕ) : Type 0 where
   pub answer : r ≡ ranCode (o .answer)
   pub cells-left : cellsOf bytes′ ≡ o .store

@@ -1,4 +1,6 @@
--- What an entry tells C: document 01, 'How each place should look'.
+-- What an entry tells C: [12.1] to [12.4].
 
--- The definitions: what a reader has to believe
+-- The definitions
 pub mod Codes
+-- The contracts of the entries
+pub mod Contracts

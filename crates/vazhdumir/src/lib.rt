@@ -1,12 +1,10 @@
-// The entries for firmware written in C.
-ghost use mathlib.Core.Path.{_≡_};
+// The entries for firmware written in C: [12.1]. Each answers as [12.2] and [12.3] say; slices and stores come as [12.4] says, and
+// nothing is allocated or kept ([12.5]).
 ghost use Rattle.words.specs.Words.{words};
-ghost use Rattle.typing.specs.Entry.{checkText as checkPlanText};
-ghost use Rattle.loops.specs.Check.{checkText, needOf};
-ghost use Rattle.words.specs.Kinds.{rowsOf};
-ghost use Rattle.store.specs.Cells.{cellsOf};
-ghost use Rattle.run.specs.Run.{runText, runTable};
-ghost use Rattle.vazhdumir.specs.Codes.{refusalCode, acceptedCode, checkedCode, neededCode, readCode, ReadCoded, printedCode, TextCoded, ranCode, RunCoded};
+ghost use mathlib.Core.Path.{_≡_};
+ghost use Rattle.vazhdumir.specs.Codes.{refusalCode, acceptedCode, checkedCode, neededCode, readCode, printedCode, ranCode};
+ghost use Rattle.vazhdumir.specs.Contracts.{ChecksPlanForC, TranslatesForC, ChecksLoopsForC, TellsNeedForC};
+ghost use Rattle.vazhdumir.specs.Contracts.{ReadsLoopsForC, RunsTextForC, RunsRowsForC};
 use lines::Printing;
 use lines::Reading;
 use loops::Checked;
@@ -15,7 +13,7 @@ use refusals::Refusal;
 use run::Ran;
 use syntax::Answer;
 
-// The greatest line that an answer holds.
+// [12.2] The greatest line that an answer holds.
 const MOST_LINE: usize = 72057594037927935;
 
 fn code(refusal: Refusal) -> u64
@@ -86,7 +84,7 @@ fn ran_code(ran: Ran) -> u64
 // Checks a plan's text.
 #[no_mangle]
 pub extern "C" fn vazhdumir_check_plan(text: &[u8]) -> u64
-    ensures { λ r. ⌜ r ≡ acceptedCode (checkPlanText words (now (text .entry))) ⌝ }
+    ensures { λ r. ⌜ ChecksPlanForC words (now (text .entry)) r ⌝ }
 {
     accepted_code(plans::check_text(text))
 }
@@ -94,7 +92,7 @@ pub extern "C" fn vazhdumir_check_plan(text: &[u8]) -> u64
 // Translates a plan's text; the text of the loops goes to the front of the lent one: how many bytes were put.
 #[no_mangle]
 pub extern "C" fn vazhdumir_translate(text: &[u8], lent: &mut [u8]) -> u64
-    ensures { λ r. ⌜ TextCoded words (now (text .entry)) (now (lent .entry)) r (now (lent .exit)) ⌝ }
+    ensures { λ r. ⌜ TranslatesForC words (now (text .entry)) (now (lent .entry)) r (now (lent .exit)) ⌝ }
 {
     printed_code(translate::translate_text(text, lent))
 }
@@ -102,7 +100,7 @@ pub extern "C" fn vazhdumir_translate(text: &[u8], lent: &mut [u8]) -> u64
 // Checks a text of loops: the writes that every run of them makes.
 #[no_mangle]
 pub extern "C" fn vazhdumir_check_loops(text: &[u8]) -> u64
-    ensures { λ r. ⌜ r ≡ checkedCode (checkText words (now (text .entry))) ⌝ }
+    ensures { λ r. ⌜ ChecksLoopsForC words (now (text .entry)) r ⌝ }
 {
     checked_code(loops::check_text(text))
 }
@@ -110,7 +108,7 @@ pub extern "C" fn vazhdumir_check_loops(text: &[u8]) -> u64
 // The cells that a text of loops needs.
 #[no_mangle]
 pub extern "C" fn vazhdumir_need(text: &[u8]) -> u64
-    ensures { λ r. ⌜ r ≡ neededCode (needOf (checkText words (now (text .entry)))) ⌝ }
+    ensures { λ r. ⌜ TellsNeedForC words (now (text .entry)) r ⌝ }
 {
     needed_code(loops::need_text(text))
 }
@@ -118,7 +116,7 @@ pub extern "C" fn vazhdumir_need(text: &[u8]) -> u64
 // Reads a text of loops into a lent table: how many rows were put.
 #[no_mangle]
 pub extern "C" fn vazhdumir_read_loops(text: &[u8], kinds: &mut [u8], numbers: &mut [i32]) -> u64
-    ensures { λ r. ⌜ ReadCoded words (now (text .entry)) (now (kinds .entry)) (now (numbers .entry)) r (now (kinds .exit)) (now (numbers .exit)) ⌝ }
+    ensures { λ r. ⌜ ReadsLoopsForC words (now (text .entry)) (now (kinds .entry)) (now (numbers .entry)) r (now (kinds .exit)) (now (numbers .exit)) ⌝ }
 {
     read_code(loops::read_text(text, kinds, numbers))
 }
@@ -126,7 +124,7 @@ pub extern "C" fn vazhdumir_read_loops(text: &[u8], kinds: &mut [u8], numbers: &
 // Runs a text of loops on a store in bytes, every `par` in the order named: how many writes were made.
 #[no_mangle]
 pub extern "C" fn vazhdumir_run(text: &[u8], order: u32, bytes: &mut [u8]) -> u64
-    ensures { λ r. ⌜ RunCoded (runText words (now (text .entry)) order (cellsOf (now (bytes .entry)))) (now (bytes .entry)) r (now (bytes .exit)) ⌝ }
+    ensures { λ r. ⌜ RunsTextForC words (now (text .entry)) order (now (bytes .entry)) r (now (bytes .exit)) ⌝ }
 {
     let mut none = [0i32; 0];
     ran_code(run::run_text(text, order, &mut none, bytes))
@@ -140,7 +138,7 @@ pub extern "C" fn vazhdumir_run_rows(
     order: u32,
     bytes: &mut [u8],
 ) -> u64
-    ensures { λ r. ⌜ RunCoded (runTable (rowsOf (now (kinds .entry)) (now (numbers .entry))) order (cellsOf (now (bytes .entry)))) (now (bytes .entry)) r (now (bytes .exit)) ⌝ }
+    ensures { λ r. ⌜ RunsRowsForC (now (kinds .entry)) (now (numbers .entry)) order (now (bytes .entry)) r (now (bytes .exit)) ⌝ }
 {
     let mut none = [0i32; 0];
     ran_code(run::run_rows(kinds, numbers, order, &mut none, bytes))

@@ -1,14 +1,16 @@
 -- The code's table is the table of words, packed: what its length, letters and columns tell of the entry. Assumes nothing.
 use mathlib.Core.Path.{_≡_, refl, sym, ap, _∙_, subst}
+use mathlib.Core.Bool.{Bool, true, _&&_}
 use mathlib.Core.List.{List, [], _∷_, _++_, map}
 use Prim.Native.Nat.{ℕ, zero, suc, _+_, _-_, _≤_, _<_}
 use native.Mathlib.Nat.{le-of-suc-le-suc, not-suc-le-zero}
 use native.Mathlib.Omega.{arith}
+use lib.Dec.{T, leb, leb→le}
+use lib.Ieee.Fits.{and-l, and-r}
 use lib.ListN.{length, getD, take, length-append, List·getD-map, List·getD-eq-default, List·getD-append}
 use lib.Seq.{getD-take, getD-append-add, length-take-le}
 use Rattle.words.specs.Packed.{packed, columnFor, sorts}
 use Rattle.words.specs.Words.{Entry, entry, table, words, wordAt, entryAt, bytes, columnOf, operandsAs, operandsOf}
-use Rattle.words.specs.Laws.{word-formed, words-formed}
 use Rattle.words.specs.declared.Sort.{Sort}
 use Rattle.words.specs.declared.Sort.the-variants.{Plan, DataType, Term, Loops, Cells, Command, Place, Value, Offset}
 use Rattle.words.specs.declared.Operands.{Operands}
@@ -54,8 +56,23 @@ letters-at : (k : ℕ) → wordAt words k ≡ entryAt k .letters
 unfolding words
 letters-at k = List·getD-map (λ (e : Entry). e .letters) table k (entry "" [])
 
+-- every built-in word has at most six of them, by a test that is computed
+unfoldable allShort : List (List ℕ) → Bool
+allShort [] = true
+allShort (w ∷ ws) = leb (length w) 6 && allShort ws
+
+short-at : (ws : List (List ℕ)) (k : ℕ) → T (allShort ws) → length (wordAt ws k) ≤ 6
+unfolding allShort
+short-at [] k t = omega arith
+short-at (w ∷ ws) zero t = leb→le (length w) 6 (and-l (leb (length w) 6) (allShort ws) t)
+short-at (w ∷ ws) (suc k) t = short-at ws k (and-r (leb (length w) 6) (allShort ws) t)
+
+words-short : T (allShort words)
+unfolding words table allShort
+words-short = tt
+
 pub word-short : (k : ℕ) → length (wordAt words k) ≤ 6
-word-short k = word-formed 6 words k words-formed .1
+word-short k = short-at words k words-short
 
 module _ (k : ℕ) (w : List ℕ) (is : w ≡ packed (entryAt k)) where
   pub word-length : getD w 7 0 ≡ 48 + length (wordAt words k)

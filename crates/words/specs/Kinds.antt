@@ -1,20 +1,19 @@
--- A row of a table, and the number by which each word is named there: its place in the table of words, from 0. Definitions
--- only; assumes nothing.
+-- A row of a table, and the number by which each word is named there, its kind: [1.5], [1.8]. Definitions only; assumes nothing.
 use mathlib.Core.List.{List, [], _∷_}
 use Prim.Native.Nat.{ℕ}
 use lib.IntN.{ℤ}
 
--- "A text is lines of `word,number`": a row is the word's number, called the row's kind, and the line's number.
+-- [1.8] A row: the kind of its word, and its number.
 abbrev pub Row : Type 0
 Row = ℕ × ℤ
 
--- The rows of a table that is lent as kinds and numbers: as many as the shorter of the two has.
+-- [1.8] The rows of a table that is lent as kinds and numbers: as many as the shorter of the two has.
 unfoldable pub rowsOf : List ℕ → List ℤ → List Row
 rowsOf [] ns = []
 rowsOf (k ∷ ks) [] = []
 rowsOf (k ∷ ks) (n ∷ ns) = (k, n) ∷ rowsOf ks ns
 
--- Document 01's order of mention: plan, types, terms, then the words of loops that are new.
+-- [2.2] Each word's place in the table, from 0: plan, types, terms, then the words that loops alone have.
 abbrev pub word-plan : ℕ
 word-plan = 0
 

@@ -13,7 +13,12 @@ use lib.Dec.{T, T-not, eqb, leb, eqb→eq, eqb-refl, leb→le}
 use lib.Ieee.Fits.{and-i, and-l, and-r}
 use lib.ListN.{length, getD, drop, drop-of-length-le}
 use lib.Seq.{drop-cons}
-use Rattle.words.specs.Kinds.{Row, rowsOf, word-plan, word-num, word-arr, word-two, word-in, word-var, word-lit, word-neg, word-add, word-sub, word-mul, word-div, word-min, word-max, word-mappar, word-mapseq, word-redseq, word-zip, word-pair, word-split, word-join, word-fst, word-snd, word-idx, word-loops, word-cells, word-set, word-seq, word-for, word-par, word-new, word-out, word-loc, word-ctr, word-plus, word-times, word-over, word-rest}
+use Rattle.words.specs.Kinds.{Row, rowsOf, word-plan, word-num, word-arr, word-two, word-in, word-var, word-lit, word-neg, word-add}
+use Rattle.words.specs.Kinds.{word-sub, word-mul, word-div, word-min, word-max, word-mappar, word-mapseq, word-redseq, word-zip}
+use Rattle.words.specs.Kinds.{word-pair, word-split, word-join, word-fst, word-snd, word-idx, word-loops, word-cells, word-set}
+use Rattle.words.specs.Kinds.{word-seq, word-for, word-par, word-new, word-out, word-loc, word-ctr, word-plus, word-times, word-over}
+use Rattle.words.specs.Kinds.{word-rest}
+use Rattle.words.specs.Good.{absent, distinct, lowerCase, wellFormed, Good}
 use Rattle.words.specs.Words.{bytes, table, words, wordAt, sameLetters, lookFrom, lookUp}
 use Rattle.words.specs.declared.Found.{Found}
 use Rattle.words.specs.declared.Found.the-variants.{At, NotListed}
@@ -46,27 +51,6 @@ same-false l w h = go (sameLetters l w) (λ t. h (same-equal l w t))
     go : (b : Bool) → (T b → ⊥) → false ≡ b
     go true h = absurd (h tt)
     go false h = refl
-
--- ---- tests of a table, to be computed
-
--- no two places of a table have the same word
-unfoldable pub absent : List ℕ → List (List ℕ) → Bool
-absent l [] = true
-absent l (w ∷ ws) = not (sameLetters l w) && absent l ws
-
-unfoldable pub distinct : List (List ℕ) → Bool
-distinct [] = true
-distinct (w ∷ ws) = absent w ws && distinct ws
-
--- "Words are lower case."
-abbrev pub lowerCase : List ℕ → Bool
-lowerCase [] = true
-lowerCase (b ∷ bs) = leb 97 b && leb b 122 && lowerCase bs
-
--- every word of a table is lower case and has at most n letters
-unfoldable pub wellFormed : ℕ → List (List ℕ) → Bool
-wellFormed n [] = true
-wellFormed n (w ∷ ws) = lowerCase w && leb (length w) n && wellFormed n ws
 
 -- ---- looking up
 
@@ -139,27 +123,25 @@ own-place ws k t h = own-from 0 ws k t h ∙ ap At (omega arith)
 
 -- ---- the words of a well-formed table
 
-pub word-formed : (n : ℕ) (ws : List (List ℕ)) (k : ℕ) → T (wellFormed n ws) → T (lowerCase (wordAt ws k)) × (length (wordAt ws k) ≤ n)
+pub word-formed : (ws : List (List ℕ)) (k : ℕ) → T (wellFormed ws) → T (lowerCase (wordAt ws k)) × (length (wordAt ws k) ≤ 8)
 unfolding wellFormed
-word-formed n [] k t = (tt, omega arith)
-word-formed n (w ∷ ws) zero t =
-    let u = and-l (lowerCase w && leb (length w) n) (wellFormed n ws) t in
-    (and-l (lowerCase w) (leb (length w) n) u, leb→le (length w) n (and-r (lowerCase w) (leb (length w) n) u))
-word-formed n (w ∷ ws) (suc k) t = word-formed n ws k (and-r (lowerCase w && leb (length w) n) (wellFormed n ws) t)
+word-formed [] k t = (tt, omega arith)
+word-formed (w ∷ ws) zero t =
+    let u = and-l (lowerCase w && leb 1 (length w) && leb (length w) 8) (wellFormed ws) t in
+    let v = and-l (lowerCase w && leb 1 (length w)) (leb (length w) 8) u in
+    (and-l (lowerCase w) (leb 1 (length w)) v, leb→le (length w) 8 (and-r (lowerCase w && leb 1 (length w)) (leb (length w) 8) u))
+word-formed (w ∷ ws) (suc k) t =
+    word-formed ws k (and-r (lowerCase w && leb 1 (length w) && leb (length w) 8) (wellFormed ws) t)
 
--- ---- the built-in table: three tests that are computed
+-- ---- the built-in table: a test that is computed
 
 pub words-count : length words ≡ 38
 unfolding words table
 words-count = refl
 
-pub words-distinct : T (distinct words)
-unfolding words table distinct absent sameLetters
-words-distinct = tt
-
-pub words-formed : T (wellFormed 6 words)
-unfolding words table wellFormed
-words-formed = tt
+pub words-good : Good words
+unfolding words table distinct absent sameLetters wellFormed
+words-good = record { count = refl; apart = tt; formed = tt; literal = omega arith }
 
 -- ---- the rows of a table that is lent as kinds and numbers
 

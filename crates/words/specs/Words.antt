@@ -1,5 +1,4 @@
--- The table of words: document 01, 'Lines', "All 38 words stand in one table with sort and operand count". Definitions only;
--- assumes nothing.
+-- The table of words: [2.1] to [2.3]; and looking a word up in it: [1.3]. Definitions only; assumes nothing.
 use mathlib.Core.Bool.{Bool, true, false, cond, _&&_}
 use mathlib.Core.List.{List, [], _∷_, map}
 use Prim.Native.Nat.{ℕ, suc}
@@ -19,7 +18,7 @@ abbrev pub bytes : String → List ℕ
 bytes none = []
 bytes (c before s) = code c ∷ bytes s
 
--- A word: its letters, and for each sort of which it makes rows the count of their operands.
+-- [2.2] A word: its letters, and for each sort of which it makes rows the count of their operands.
 pub record Entry : Type 0 where
   pub letters : List ℕ
   pub uses : List (Sort × ℕ)
@@ -27,8 +26,8 @@ pub record Entry : Type 0 where
 abbrev pub entry : String → List (Sort × ℕ) → Entry
 entry w us = record { letters = bytes w; uses = us }
 
--- In document 01's order of mention: plan, types, terms, then the words of loops that are new. The operands of `plan` and
--- `loops` stand behind the inputs that their number counts: a term; the output's `cells` and a command.
+-- [2.2] In the order of the kinds [1.8]. [2.3] The operands of `plan` and `loops` stand behind the inputs that their number counts: a
+-- term; the output's `cells` and a command.
 unfoldable pub table : List Entry
 table =
     entry "plan" ((Plan, 1) ∷ [])
@@ -85,7 +84,7 @@ sameLetters [] (w ∷ ws) = false
 sameLetters (l ∷ ls) [] = false
 sameLetters (l ∷ ls) (w ∷ ws) = eqb l w && sameLetters ls ws
 
--- the first place, counted from k, at which a table has the word
+-- [1.3] the first place, counted from k, at which a table has the word
 unfoldable pub lookFrom : ℕ → List (List ℕ) → List ℕ → Found
 lookFrom k [] l = NotListed
 lookFrom k (w ∷ ws) l = cond (sameLetters l w) (At k) (lookFrom (suc k) ws l)
@@ -93,7 +92,7 @@ lookFrom k (w ∷ ws) l = cond (sameLetters l w) (At k) (lookFrom (suc k) ws l)
 abbrev pub lookUp : List (List ℕ) → List ℕ → Found
 lookUp ws l = lookFrom 0 ws l
 
--- the sorts in document 01's order
+-- [2.1] the sorts, in that order
 abbrev pub columnOf : Sort → ℕ
 columnOf Plan = 0
 columnOf DataType = 1
@@ -114,6 +113,6 @@ operandsAs s (u ∷ us) = cond (eqb (columnOf s) (columnOf (u .0))) (Count (u .1
 abbrev pub entryAt : ℕ → Entry
 entryAt k = getD table k (entry "" [])
 
--- the operands of a row of kind k as a row of sort s
+-- [2.2] the operands of a row of kind k as a row of sort s
 unfoldable pub operandsOf : ℕ → Sort → Operands
 operandsOf k s = operandsAs s (entryAt k .uses)

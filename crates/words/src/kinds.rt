@@ -1,4 +1,4 @@
-// The kinds of rows: each word's place in the table.
+// [1.8] The kinds of rows: each word's place in the table.
 pub const WORD_PLAN: u8 = 0;
 
 pub const WORD_NUM: u8 = 1;

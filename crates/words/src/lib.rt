@@ -1,4 +1,4 @@
-// The words of plans and loops: one table, and looking a word up in it.
+// The words of plans and loops: one table, and looking a word up in it: [2.1] to [2.3], [1.3].
 pub mod kinds;
 
 ghost use mathlib.Core.Path.{_≡_};
@@ -7,7 +7,7 @@ ghost use lib.ListN.{length, getD};
 ghost use Rattle.words.specs.Packed.{packed, packedTable};
 ghost use Rattle.words.specs.Words.{words, wordAt, entryAt, sameLetters, lookUp, columnOf, operandsOf};
 
-// The sorts of rows.
+// [2.1] The sorts of rows.
 pub enum Sort {
     Plan,
     DataType,
@@ -32,9 +32,9 @@ pub enum Operands {
     NotOfSort,
 }
 
-// A row for each word: its letters, how many they are, and its operands as a row of each sort, '-' where it makes none:
-// plan, type, term, loops, cells, command, place, value, offset. The operands of `plan` and `loops` stand behind the
-// inputs that their number counts.
+// [2.2] A row for each word: its letters, how many they are, and its operands as a row of each sort, '-' where it makes none: plan,
+// type, term, loops, cells, command, place, value, offset. [2.3] The operands of `plan` and `loops` stand behind the inputs that their
+// number counts.
 const WORDS: [[u8; 18]; 38] = [
     *b"plan   4 1--------",
     *b"num    3 -0-------",
@@ -170,7 +170,7 @@ fn same(letters: &[u8], word: [u8; 18]) -> bool
     true
 }
 
-// Where the word with these letters stands.
+// [1.3] Where the word with these letters stands.
 pub fn look_up(letters: &[u8]) -> Found
     ensures { λ r. ⌜ r ≡ lookUp words (now (letters .entry)) ⌝ }
 {

@@ -1,7 +1,8 @@
 -- `div` finds the divisor 0 by its bits; else it is `clamp` of the exact quotient, which 64 bits hold.
 use mathlib.Core.Path.{_∙_}
 use borrow.Author.Needs.{needs}
-use Rattle.arithmetic.proofs.Laws.{operand-fits, result-fits, result-clamped, quotient-exact, quotient-by-zero, divisor-nonzero, quotient-by-nonzero}
+use Rattle.arithmetic.proofs.Laws.{operand-fits, result-fits, result-clamped, quotient-exact, quotient-by-zero, divisor-nonzero}
+use Rattle.arithmetic.proofs.Laws.{quotient-by-nonzero}
 use Rattle.arithmetic.proofs.div.Statement.{statement}
 use Rattle.arithmetic.proofs.div.Tie as tie
 

@@ -26,10 +26,14 @@ returns c = search needs
 
 returns-2 : tie.Need-returns-2
 returns-2 c =
-    let a = c .before .before .before .before .before .before .before .before .args in
-    let walk-loops = c .before .before .before .before .before .before .walk-loops in
-    let walked = c .before .before .before .before .walked in
-    limits.rows-refused (rowsOf (a .kinds .now) (a .numbers .now)) _ (sym (walk-loops .ensures) ∙ walked .given .1 ∙ c .before .walked2 .given .1)
+    let at-args = c .before .before .before .before .before .before .before .before .args in
+    let at-walk-loops = c .before .before .before .before .before .before .walk-loops in
+    let at-walked = c .before .before .before .before .walked in
+    let a = at-args in
+    let walk-loops = at-walk-loops in
+    let walked = at-walked in
+    limits.rows-refused (rowsOf (a .kinds .now) (a .numbers .now)) _ (sym (walk-loops .ensures) ∙ walked .given .1 ∙
+    c .before .walked2 .given .1)
 
 check-limits-requires : tie.Need-check-limits-requires
 check-limits-requires c κs = search needs

@@ -3,7 +3,7 @@ use mathlib.Core.List.{List, [], _∷_, _++_}
 use Prim.Native.Nat.{ℕ, suc}
 use lib.IntN.{ℤ}
 use Rattle.words.specs.Kinds.{Row}
-use Rattle.lines.specs.Laws.{Each}
+use Rattle.lines.specs.Printing.{Each}
 use Rattle.meaning.specs.Types.{DataType, number, array}
 use Rattle.meaning.specs.Terms.{Term, Plan}
 use Rattle.meaning.specs.Paths.{Path, index, first, second, byPart, tail}

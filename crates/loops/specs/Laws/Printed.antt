@@ -11,10 +11,11 @@ use mir.Syntax.{w32}
 use mir.Val.{SFits}
 use Rattle.arithmetic.specs.Arithmetic.{Operation}
 use Rattle.words.specs.Kinds.{Row, word-loops, word-cells, word-set, word-seq, word-new, word-out, word-loc, word-in, word-lit, word-neg, word-ctr, word-plus, word-times, word-over, word-rest}
-use Rattle.words.specs.Words.{words}
+use Rattle.words.specs.Good.{Good}
 use Rattle.words.specs.Laws.{words-count}
 use Rattle.lines.specs.Printing.{textOf}
-use Rattle.lines.specs.Laws.{Each, Printable, Ranged, text-size}
+use Rattle.lines.specs.Printing.{Each, Printable}
+use Rattle.lines.specs.Laws.{Ranged, text-size}
 use Rattle.meaning.specs.Terms.{LoopKind}
 use Rattle.meaning.specs.Loops.{Offset, Place, Value, Command, Loops, plus, times, over, rest, seq, loop, new}
 use Rattle.meaning.specs.Rows.{operationWord, loopWord, offsetRows, valueRows, placeRows, commandRows, allCellsRows, loopsRows}
@@ -121,11 +122,11 @@ unfolding Each
 each-is P Q f [] h = tt
 each-is P Q f (r ∷ R) h = (f r (h .0), each-is P Q f R (h .1))
 
-module _ (L : Loops) (h : LoopsInRange L) (g : CommandLiterals (SFits w32) (L .command)) where
-  pub loops-printable : Each (Printable words) (loopsRows L)
+module _ (ws : List (List ℕ)) (good : Good ws) (L : Loops) (h : LoopsInRange L) (g : CommandLiterals (SFits w32) (L .command)) where
+  pub loops-printable : Each (Printable ws) (loopsRows L)
   loops-printable =
-      each-is Fits (Printable words) (λ r f. record { listed = omega (arith, words-count, f .listed); number = f .ranged .number }) (loopsRows L)
-      (loops-fit L h g)
+      each-is Fits (Printable ws)
+      (λ r f. record { listed = omega (arith, words-count, good .count, f .listed); number = f .ranged .number }) (loopsRows L) (loops-fit L h g)
 
-  pub loops-size : length (textOf words (loopsRows L)) ≤ 16 * length (loopsRows L)
-  loops-size = text-size (loopsRows L) (each-is Fits Ranged (λ r f. f .ranged) (loopsRows L) (loops-fit L h g))
+  pub loops-size : length (textOf ws (loopsRows L)) ≤ 16 * length (loopsRows L)
+  loops-size = text-size ws good (loopsRows L) (each-is Fits Ranged (λ r f. f .ranged) (loopsRows L) (loops-fit L h g))

@@ -10,18 +10,15 @@ use Rattle.plans.proofs.check_rows.Lts as lts
 use Rattle.type_check.proofs.type_plan.Reads as type-plan-reads
 use Rattle.syntax.proofs.walk_plan.Reads as walk-plan-reads
 
--- src/lib.rt:82:9
 walk-plan-requires : tie.Need-walk-plan-requires
 walk-plan-requires c κs = search needs
 
 enum-told : tie.Need-enum-told
 enum-told c = search needs
 
--- src/lib.rt:84:9
 enum-told-2 : tie.Need-enum-told-2
 enum-told-2 c = search needs
 
--- src/lib.rt:84:9
 returns : tie.Need-returns
 returns c =
     let args′ = c .before .before .before .before .args in
@@ -29,52 +26,60 @@ returns c =
     let enum-told2′ = c .enum-told2 in
     laws.walk-no (rowsOf (args′ .kinds .now) (args′ .numbers .now)) (walk-plan′ .result) _ (walk-plan′ .ensures) (enum-told2′ .given .1)
 
--- src/lib.rt:88:42
 slice-aggregate-type-plan : tie.Need-slice-aggregate-type-plan
 slice-aggregate-type-plan c = search needs
 
--- src/lib.rt:88:54
 slice-aggregate-type-plan-2 : tie.Need-slice-aggregate-type-plan-2
 slice-aggregate-type-plan-2 c = search needs
 
--- src/lib.rt:88:9
 type-plan-requires : tie.Need-type-plan-requires
 type-plan-requires c κs =
-    let args′ = c .before .before .before .before .before .before .args in
-    let pre′ = c .before .before .before .before .before .before .pre in
+    let entry = c .before .before .before .before .before .before in
+    let args′ = entry .args in
+    let pre′ = entry .pre in
     let walk-plan′ = c .before .before .before .before .walk-plan in
     let enum-told′ = c .before .before .enum-told in
-    laws.plan-room (args′ .kinds .now) (args′ .numbers .now) (pre′ .0) (pre′ .1) (walk-plan′ .result) _ (walk-plan′ .ensures) (enum-told′ .given .1) _ _ (omega arith) (omega arith)
+    laws.plan-room (args′ .kinds .now) (args′ .numbers .now) (pre′ .0) (pre′ .1) (walk-plan′ .result) _
+    (walk-plan′ .ensures) (enum-told′ .given .1) _ _ (omega arith) (omega arith)
 
--- src/lib.rt:91:25
 enum-known-typing : tie.Need-enum-known-typing
 enum-known-typing c = search needs
 
--- src/lib.rt:96:14
 enum-told-3 : tie.Need-enum-told-3
 enum-told-3 c = search needs
 
--- src/lib.rt:78:1
 returns-2 : tie.Need-returns-2
 returns-2 c =
-    let args′ = c .before .before .before .before .before .before .before .before .before .before .before .before .args in
-    let pre′ = c .before .before .before .before .before .before .before .before .before .before .before .before .pre in
-    let walk-plan′ = c .before .before .before .before .before .before .before .before .before .before .walk-plan in
-    let enum-told′ = c .before .before .before .before .before .before .before .before .enum-told in
-    let type-plan′ = c .before .before .before .before .before .type-plan in
+    let entry = c .before .before .before .before .before .before .before .before .before .before .before .before in
+    let at-walk-plan = c .before .before .before .before .before .before .before .before .before .before .walk-plan
+    in
+    let at-enum-told = c .before .before .before .before .before .before .before .before .enum-told in
+    let at-type-plan = c .before .before .before .before .before .type-plan in
+    let args′ = entry .args in
+    let pre′ = entry .pre in
+    let walk-plan′ = at-walk-plan in
+    let enum-told′ = at-enum-told in
+    let type-plan′ = at-type-plan in
     let typing′ = c .before .typing in
-    laws.types-no (args′ .kinds .now) (args′ .numbers .now) (pre′ .0) (pre′ .1) (walk-plan′ .result) _ (walk-plan′ .ensures) (enum-told′ .given .1) _ _ _ _ (type-plan′ .result) (type-plan′ .ensures) _ (typing′ .given .1)
+    laws.types-no (args′ .kinds .now) (args′ .numbers .now) (pre′ .0) (pre′ .1) (walk-plan′ .result) _
+    (walk-plan′ .ensures) (enum-told′ .given .1) _ _ _ _ (type-plan′ .result) (type-plan′ .ensures) _
+    (typing′ .given .1)
 
--- src/lib.rt:78:1
 returns-3 : tie.Need-returns-3
 returns-3 c =
-    let args′ = c .before .before .before .before .before .before .before .before .before .before .before .args in
-    let pre′ = c .before .before .before .before .before .before .before .before .before .before .before .pre in
-    let walk-plan′ = c .before .before .before .before .before .before .before .before .before .walk-plan in
-    let enum-told′ = c .before .before .before .before .before .before .before .enum-told in
-    let type-plan′ = c .before .before .before .before .type-plan in
+    let entry = c .before .before .before .before .before .before .before .before .before .before .before in
+    let at-walk-plan = c .before .before .before .before .before .before .before .before .before .walk-plan in
+    let at-enum-told = c .before .before .before .before .before .before .before .enum-told in
+    let at-type-plan = c .before .before .before .before .type-plan in
+    let args′ = entry .args in
+    let pre′ = entry .pre in
+    let walk-plan′ = at-walk-plan in
+    let enum-told′ = at-enum-told in
+    let type-plan′ = at-type-plan in
     let enum-told3′ = c .enum-told3 in
-    laws.types-yes (args′ .kinds .now) (args′ .numbers .now) (pre′ .0) (pre′ .1) (walk-plan′ .result) _ (walk-plan′ .ensures) (enum-told′ .given .1) _ _ _ _ (type-plan′ .result) (type-plan′ .ensures) _ _ _ (enum-told3′ .given .1)
+    laws.types-yes (args′ .kinds .now) (args′ .numbers .now) (pre′ .0) (pre′ .1) (walk-plan′ .result) _
+    (walk-plan′ .ensures) (enum-told′ .given .1) _ _ _ _ (type-plan′ .result) (type-plan′ .ensures) _ _ _
+    (enum-told3′ .given .1)
 
 pub check-rows-spec : {M : Type 1} → statement M
 check-rows-spec =

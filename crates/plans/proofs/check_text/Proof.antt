@@ -35,10 +35,15 @@ returns c = search needs
 
 returns-2 : tie.Need-returns-2
 returns-2 c =
-    let a = c .before .before .before .before .before .before .before .before .before .before .before .before .args in
-    let read-plan = c .before .before .before .before .before .before .before .before .read-plan in
-    let read2 = c .before .before .before .before .read2 in
-    texts.text-refused words (a .text .now) (read-plan .result) _ (read-plan .ensures .answer) (read2 .given .1 ∙ c .before .read3 .given .1)
+    let at-args = c .before .before .before .before .before .before .before .before .before .before .before
+    .before .args in
+    let at-read-plan = c .before .before .before .before .before .before .before .before .read-plan in
+    let at-read2 = c .before .before .before .before .read2 in
+    let a = at-args in
+    let read-plan = at-read-plan in
+    let read2 = at-read2 in
+    texts.text-refused words (a .text .now) (read-plan .result) _ (read-plan .ensures .answer)
+    (read2 .given .1 ∙ c .before .read3 .given .1)
 
 array-share-prefix-kinds : tie.Need-array-share-prefix-kinds
 array-share-prefix-kinds c =
@@ -59,7 +64,11 @@ array-share-prefix-numbers : tie.Need-array-share-prefix-numbers
 array-share-prefix-numbers c =
     let a = c .before .before .before .before .before .before .before .before .before .before .args in
     let read-plan = c .before .before .before .before .before .before .read-plan in
-    omega (arith, texts.text-few words (a .text .now) (read-plan .result) _ (read-plan .ensures .answer) (c .before .before .read .given .1))
+    omega (
+      arith,
+      texts.text-few words (a .text .now) (read-plan .result) _ (read-plan .ensures .answer)
+          (c .before .before .read .given .1),
+    )
 
 slice-aggregate-check-rows-2 : tie.Need-slice-aggregate-check-rows-2
 slice-aggregate-check-rows-2 c =

@@ -29,10 +29,14 @@ returns c = search needs
 
 returns-2 : tie.Need-returns-2
 returns-2 c =
-    let a = c .before .before .before .before .before .before .before .before .before .args in
-    let check-text = c .before .before .before .before .before .before .check-text in
-    let checked = c .before .before .before .before .checked in
-    texts.put-none words (a .text .now) (check-text .result) (check-text .ensures) _ (checked .given .1 ∙ c .before .checked2 .given .1) (a .kinds .now) (a .numbers .now)
+    let at-args = c .before .before .before .before .before .before .before .before .before .args in
+    let at-check-text = c .before .before .before .before .before .before .check-text in
+    let at-checked = c .before .before .before .before .checked in
+    let a = at-args in
+    let check-text = at-check-text in
+    let checked = at-checked in
+    texts.put-none words (a .text .now) (check-text .result) (check-text .ensures) _
+    (checked .given .1 ∙ c .before .checked2 .given .1) (a .kinds .now) (a .numbers .now)
 
 read-plan-requires : tie.Need-read-plan-requires
 read-plan-requires c κs = search needs
@@ -51,11 +55,18 @@ same-length-2 c = search needs
 
 returns-3 : tie.Need-returns-3
 returns-3 c =
-    let a = c .before .before .before .before .before .before .before .before .before .before .before .before .before .args in
-    let check-text = c .before .before .before .before .before .before .before .before .before .before .check-text in
-    let enum-told = c .before .before .before .before .before .before .before .before .enum-told in
-    let read-plan = c .before .before .before .before .before .read-plan in
-    texts.read-again words (a .text .now) (check-text .result) (check-text .ensures) _ (enum-told .given .1) _ _ _ _ (read-plan .result) (read-plan .ensures) _ (c .enum-told3 .given .1)
+    let at-args = c .before .before .before .before .before .before .before .before .before .before .before
+    .before .before .args in
+    let at-check-text = c .before .before .before .before .before .before .before .before .before .before
+    .check-text in
+    let at-enum-told = c .before .before .before .before .before .before .before .before .enum-told in
+    let at-read-plan = c .before .before .before .before .before .read-plan in
+    let a = at-args in
+    let check-text = at-check-text in
+    let enum-told = at-enum-told in
+    let read-plan = at-read-plan in
+    texts.read-again words (a .text .now) (check-text .result) (check-text .ensures) _ (enum-told .given .1) _ _ _ _
+    (read-plan .result) (read-plan .ensures) _ (c .enum-told3 .given .1)
 
 same-length-3 : tie.Need-same-length-3
 same-length-3 c = search needs
@@ -65,13 +76,16 @@ same-length-4 c = search needs
 
 returns-4 : tie.Need-returns-4
 returns-4 c =
-    let a = c .before .before .before .before .before .before .before .before .before .before .before .before .before .before .before .args in
-    let check-text = c .before .before .before .before .before .before .before .before .before .before .before .before .check-text in
+    let a = c .before .before .before .before .before .before .before .before .before .before .before
+    .before .before .before .before .args in
+    let check-text = c .before .before .before .before .before .before .before .before .before .before .before
+    .before .check-text in
     let enum-told = c .before .before .before .before .before .before .before .before .before .before .enum-told in
     let read-plan = c .before .before .before .before .before .before .before .read-plan in
     let read = c .before .before .read in
-    texts.put-short words (a .text .now) (check-text .result) (check-text .ensures) _ (enum-told .given .1) _ _ _ _ (read-plan .result) (read-plan .ensures) (read .given .0 .0) (read .given .1)
-    (table.short-kinds (read .given .0 .0) (length (a .kinds .now)) (length (a .numbers .now)) (omega arith))
+    texts.put-short words (a .text .now) (check-text .result) (check-text .ensures) _ (enum-told .given .1) _ _ _ _
+    (read-plan .result) (read-plan .ensures) (read .given .0 .0) (read .given .1) (table.short-kinds
+    (read .given .0 .0) (length (a .kinds .now)) (length (a .numbers .now)) (omega arith))
 
 same-length-5 : tie.Need-same-length-5
 same-length-5 c = search needs
@@ -81,13 +95,17 @@ same-length-6 c = search needs
 
 returns-5 : tie.Need-returns-5
 returns-5 c =
-    let a = c .before .before .before .before .before .before .before .before .before .before .before .before .before .before .before .before .args in
-    let check-text = c .before .before .before .before .before .before .before .before .before .before .before .before .before .check-text in
-    let enum-told = c .before .before .before .before .before .before .before .before .before .before .before .enum-told in
+    let a = c .before .before .before .before .before .before .before .before .before .before .before
+    .before .before .before .before .before .args in
+    let check-text = c .before .before .before .before .before .before .before .before .before .before .before
+    .before .before .check-text in
+    let enum-told = c .before .before .before .before .before .before .before .before .before .before .before
+    .enum-told in
     let read-plan = c .before .before .before .before .before .before .before .before .read-plan in
     let read = c .before .before .before .read in
-    texts.put-short words (a .text .now) (check-text .result) (check-text .ensures) _ (enum-told .given .1) _ _ _ _ (read-plan .result) (read-plan .ensures) (read .given .0 .0) (read .given .1)
-    (table.short-numbers (read .given .0 .0) (length (a .kinds .now)) (length (a .numbers .now)) (omega arith))
+    texts.put-short words (a .text .now) (check-text .result) (check-text .ensures) _ (enum-told .given .1) _ _ _ _
+    (read-plan .result) (read-plan .ensures) (read .given .0 .0) (read .given .1) (table.short-numbers
+    (read .given .0 .0) (length (a .kinds .now)) (length (a .numbers .now)) (omega arith))
 
 same-length-7 : tie.Need-same-length-7
 same-length-7 c = search needs
@@ -97,13 +115,17 @@ same-length-8 c = search needs
 
 returns-6 : tie.Need-returns-6
 returns-6 c =
-    let a = c .before .before .before .before .before .before .before .before .before .before .before .before .before .before .before .before .args in
-    let check-text = c .before .before .before .before .before .before .before .before .before .before .before .before .before .check-text in
-    let enum-told = c .before .before .before .before .before .before .before .before .before .before .before .enum-told in
+    let a = c .before .before .before .before .before .before .before .before .before .before .before
+    .before .before .before .before .before .args in
+    let check-text = c .before .before .before .before .before .before .before .before .before .before .before
+    .before .before .check-text in
+    let enum-told = c .before .before .before .before .before .before .before .before .before .before .before
+    .enum-told in
     let read-plan = c .before .before .before .before .before .before .before .before .read-plan in
     let read = c .before .before .before .read in
-    texts.put-all words (a .text .now) (check-text .result) (check-text .ensures) _ (enum-told .given .1) _ _ _ _ (read-plan .result) (read-plan .ensures) (read .given .0 .0) (read .given .1)
-    (table.room-for (read .given .0 .0) (length (a .kinds .now)) (length (a .numbers .now)) (omega arith) (omega arith))
+    texts.put-all words (a .text .now) (check-text .result) (check-text .ensures) _ (enum-told .given .1) _ _ _ _
+    (read-plan .result) (read-plan .ensures) (read .given .0 .0) (read .given .1) (table.room-for
+    (read .given .0 .0) (length (a .kinds .now)) (length (a .numbers .now)) (omega arith) (omega arith))
 
 pub read-text-spec : {M : Type 1} → statement M
 read-text-spec =

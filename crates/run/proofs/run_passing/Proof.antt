@@ -11,8 +11,11 @@ use Rattle.run.proofs.run_passing.Tie as tie
 
 returns : tie.Need-returns
 returns c =
-    let a = c .before .before .before .args in
-    (refl, λ w e. entries.order-unknown (loopsOf (rowsOf (a .kinds .now) (a .numbers .now))) (a .need) (a .order) (storeOf (a .cells .now) (a .bytes .now)) (c .if1 .taken))
+    let a = c .before .before .before .args in (
+      refl,
+      λ w e. entries.order-unknown (loopsOf (rowsOf (a .kinds .now) (a .numbers .now))) (a .need) (a .order)
+          (storeOf (a .cells .now) (a .bytes .now)) (c .if1 .taken),
+    )
 
 count-requires : tie.Need-count-requires
 count-requires c κs = search needs
@@ -25,8 +28,12 @@ same-length-2 c = search needs
 
 returns-2 : tie.Need-returns-2
 returns-2 c =
-    let a = c .before .before .before .before .before .before .before .args in
-    (refl, λ w e. entries.store-short (loopsOf (rowsOf (a .kinds .now) (a .numbers .now))) (a .need) (a .order) (storeOf (a .cells .now) (a .bytes .now)) (c .before .before .before .before .if1 .left) (omega (arith, c .before .count .ensures, c .if2 .taken)))
+    let a = c .before .before .before .before .before .before .before .args in (
+      refl,
+      λ w e. entries.store-short (loopsOf (rowsOf (a .kinds .now) (a .numbers .now))) (a .need) (a .order)
+          (storeOf (a .cells .now) (a .bytes .now)) (c .before .before .before .before .if1 .left)
+          (omega (arith, c .before .count .ensures, c .if2 .taken)),
+    )
 
 run-loops-requires : tie.Need-run-loops-requires
 run-loops-requires c κs = search needs
@@ -39,10 +46,24 @@ same-length-4 c = search needs
 
 returns-3 : tie.Need-returns-3
 returns-3 c =
+    let entry = c .before .before .before .before .before .before .before .before .before .before .before
+    .before .before in
     let run-loops = c .before .before .before .run-loops in
-    let a = c .before .before .before .before .before .before .before .before .before .before .before .before .before .args in
-    let pre = c .before .before .before .before .before .before .before .before .before .before .before .before .before .pre in
-    (run-loops .ensures .0, λ w e. entries.run-finished (loopsOf (rowsOf (a .kinds .now) (a .numbers .now))) (a .need) (a .order) (storeOf (a .cells .now) (a .bytes .now)) (c .before .before .before .before .before .before .before .before .before .before .if1 .left) (omega (arith, c .before .before .before .before .before .before .before .count .ensures, c .before .before .before .before .before .before .if2 .left)) (run-loops .result) (storeOf (run-loops .last .1 .1 .1 .0) (run-loops .last .1 .1 .1 .1 .0)) (entries.passing-loops (a .kinds .now) (a .numbers .now) (a .order) w (a .need) (run-loops .result) (storeOf (a .cells .now) (a .bytes .now)) (storeOf (run-loops .last .1 .1 .1 .0) (run-loops .last .1 .1 .1 .1 .0)) e (run-loops .ensures .1 (pre .0) (pre .1))))
+    let a = entry .args in
+    let pre = entry .pre in (
+      run-loops .ensures .0,
+      λ w e. entries.run-finished (loopsOf (rowsOf (a .kinds .now) (a .numbers .now)))
+          (a .need) (a .order) (storeOf (a .cells .now) (a .bytes .now))
+          (c .before .before .before .before .before .before .before .before .before .before .if1 .left) (omega (
+            arith,
+            c .before .before .before .before .before .before .before .count .ensures,
+            c .before .before .before .before .before .before .if2 .left,
+          )) (run-loops .result) (storeOf
+          (run-loops .last .1 .1 .1 .0) (run-loops .last .1 .1 .1 .1 .0)) (entries.passing-loops (a .kinds .now)
+          (a .numbers .now) (a .order) w (a .need) (run-loops .result) (storeOf (a .cells .now) (a .bytes .now))
+          (storeOf (run-loops .last .1 .1 .1 .0) (run-loops .last .1 .1 .1 .1 .0)) e
+          (run-loops .ensures .1 (pre .0) (pre .1))),
+    )
 
 pub run-passing-spec : {M : Type 1} → statement M
 run-passing-spec =

@@ -36,16 +36,32 @@ returns c = search needs
 
 returns-2 : tie.Need-returns-2
 returns-2 c =
-    let a = c .before .before .before .before .before .before .before .before .before .before .before .before .before .args in
-    let read-loops = c .before .before .before .before .before .before .before .before .read-loops in
-    (refl, entries.text-refused words (a .text .now) (a .order) (storeOf (a .cells .now) (a .bytes .now)) _ (read-loops .last .1 .0) _ (read-loops .last .1 .1 .0) (read-loops .result) (read-loops .ensures) _ (c .before .before .before .before .read2 .given .1 ∙ c .before .read3 .given .1))
+    let at-args = c .before .before .before .before .before .before .before .before .before .before .before
+    .before .before .args in
+    let at-read-loops = c .before .before .before .before .before .before .before .before .read-loops in
+    let at-read2 = c .before .before .before .before .read2 in
+    let a = at-args in
+    let read-loops = at-read-loops in (
+      refl,
+      entries.text-refused words (a .text .now) (a .order) (storeOf (a .cells .now) (a .bytes .now)) _
+          (read-loops .last .1 .0) _ (read-loops .last .1 .1 .0) (read-loops .result) (read-loops .ensures) _
+          (at-read2 .given .1 ∙ c .before .read3 .given .1),
+    )
 
 returns-3 : tie.Need-returns-3
 returns-3 c =
     let a = c .before .before .before .before .before .before .before .before .before .before .before .args in
     let read-loops = c .before .before .before .before .before .before .read-loops in
-    let read = c .before .before .read in
-    (refl, absurd (omega (arith, c .if1 .taken, entries.rows-few words (a .text .now) (a .order) (storeOf (a .cells .now) (a .bytes .now)) _ (read-loops .last .1 .0) _ (read-loops .last .1 .1 .0) (read-loops .result) (read-loops .ensures) (read .given .0 .0) (read .given .1))))
+    let read = c .before .before .read in (
+      refl,
+      absurd (omega (
+        arith,
+        c .if1 .taken,
+        entries.rows-few words (a .text .now) (a .order)
+            (storeOf (a .cells .now) (a .bytes .now)) _ (read-loops .last .1 .0) _ (read-loops .last .1 .1 .0)
+            (read-loops .result) (read-loops .ensures) (read .given .0 .0) (read .given .1),
+      )),
+    )
 
 array-share-prefix-kinds : tie.Need-array-share-prefix-kinds
 array-share-prefix-kinds c = search needs
@@ -53,7 +69,9 @@ array-share-prefix-kinds c = search needs
 slice-aggregate-run-rows : tie.Need-slice-aggregate-run-rows
 slice-aggregate-run-rows c =
     let read-loops = c .before .before .before .before .before .before .before .read-loops in
-    let k : length (read-loops .last .1 .0) ≡ 4096 = read-loops .kept .1 .0 in sym (length-take-le (c .before .before .before .read .given .0 .0) (read-loops .last .1 .0) (omega (arith, c .before .if1 .left, k)))
+    let k : length (read-loops .last .1 .0) ≡ 4096 = read-loops .kept .1 .0 in
+    sym (length-take-le (c .before .before .before .read .given .0 .0) (read-loops .last .1 .0)
+    (omega (arith, c .before .if1 .left, k)))
 
 array-share-prefix-numbers : tie.Need-array-share-prefix-numbers
 array-share-prefix-numbers c = search needs
@@ -61,7 +79,9 @@ array-share-prefix-numbers c = search needs
 slice-aggregate-run-rows-2 : tie.Need-slice-aggregate-run-rows-2
 slice-aggregate-run-rows-2 c =
     let read-loops = c .before .before .before .before .before .before .before .before .read-loops in
-    let k : length (read-loops .last .1 .1 .0) ≡ 4096 = read-loops .kept .1 .1 .0 in sym (length-take-le (c .before .before .before .before .read .given .0 .0) (read-loops .last .1 .1 .0) (omega (arith, c .before .before .if1 .left, k)))
+    let k : length (read-loops .last .1 .1 .0) ≡ 4096 = read-loops .kept .1 .1 .0 in
+    sym (length-take-le (c .before .before .before .before .read .given .0 .0) (read-loops .last .1 .1 .0)
+    (omega (arith, c .before .before .if1 .left, k)))
 
 run-rows-requires : tie.Need-run-rows-requires
 run-rows-requires c κs = search needs
@@ -74,11 +94,21 @@ same-length-2 c = search needs
 
 returns-4 : tie.Need-returns-4
 returns-4 c =
+    let at-args = c .before .before .before .before .before .before .before .before .before .before .before
+    .before .before .before .before .before .before .before .before .args in
+    let at-read-loops = c .before .before .before .before .before .before .before .before .before .before .before
+    .before .before .before .read-loops in
+    let at-read = c .before .before .before .before .before .before .before .before .before .before .read in
     let run-rows = c .before .before .before .run-rows in
-    let a = c .before .before .before .before .before .before .before .before .before .before .before .before .before .before .before .before .before .before .before .args in
-    let read-loops = c .before .before .before .before .before .before .before .before .before .before .before .before .before .before .read-loops in
-    let read = c .before .before .before .before .before .before .before .before .before .before .read in
-    (run-rows .ensures .0, entries.text-run words (a .text .now) (a .order) (storeOf (a .cells .now) (a .bytes .now)) _ (read-loops .last .1 .0) _ (read-loops .last .1 .1 .0) (read-loops .result) (read-loops .ensures) (read .given .0 .0) (read .given .1) refl refl (run-rows .result) (storeOf (run-rows .last .1 .1 .1 .0) (run-rows .last .1 .1 .1 .1 .0)) (run-rows .ensures .1))
+    let a = at-args in
+    let read-loops = at-read-loops in
+    let read = at-read in (
+      run-rows .ensures .0,
+      entries.text-run words (a .text .now) (a .order)
+          (storeOf (a .cells .now) (a .bytes .now)) _ (read-loops .last .1 .0) _ (read-loops .last .1 .1 .0)
+          (read-loops .result) (read-loops .ensures) (read .given .0 .0) (read .given .1) refl refl (run-rows .result)
+          (storeOf (run-rows .last .1 .1 .1 .0) (run-rows .last .1 .1 .1 .1 .0)) (run-rows .ensures .1),
+    )
 
 pub run-text-spec : {M : Type 1} → statement M
 run-text-spec =

@@ -14,7 +14,10 @@ same-length : tie.Need-same-length
 same-length c = search needs
 
 returns : tie.Need-returns
-returns c = puts.put-cells (c .before .before .args .cells .now) (c .before .before .args .bytes .now) (c .before .before .args .at) (c .before .before .args .value) (c .before .before .fits .value) (c .if1 .taken)
+returns c =
+    let entry = c .before .before in
+    puts.put-cells (entry .args .cells .now) (entry .args .bytes .now) (entry .args .at) (entry .args .value)
+    (entry .fits .value) (c .if1 .taken)
 
 sub-put-cell : tie.Need-sub-put-cell
 sub-put-cell c = search needs
@@ -26,7 +29,12 @@ same-length-2 : tie.Need-same-length-2
 same-length-2 c = search needs
 
 returns-2 : tie.Need-returns-2
-returns-2 c = puts.put-bytes (c .before .before .before .before .before .before .args .cells .now) (c .before .before .before .before .before .before .args .bytes .now) (c .before .before .before .before .before .before .args .at) (c .before .before .before .before .before .before .args .value) (c .before .before .before .before .before .before .fits .value) (c .before .before .put-cell .last .0) (c .before .before .before .before .if1 .left) (c .before .before .put-cell .ensures .0) (c .before .before .put-cell .ensures .1)
+returns-2 c =
+    let entry = c .before .before .before .before .before .before in
+    let at-if1 = c .before .before .before .before .if1 in
+    let at-put-cell = c .before .before .put-cell in
+    puts.put-bytes (entry .args .cells .now) (entry .args .bytes .now) (entry .args .at) (entry .args .value)
+    (entry .fits .value) (at-put-cell .last .0) (at-if1 .left) (at-put-cell .ensures .0) (at-put-cell .ensures .1)
 
 pub put-spec : {M : Type 1} → statement M
 put-spec =

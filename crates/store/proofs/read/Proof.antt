@@ -11,7 +11,10 @@ shared-slice-copy-out-result : tie.Need-shared-slice-copy-out-result
 shared-slice-copy-out-result c = search needs
 
 returns : tie.Need-returns
-returns c = puts.read-cells (c .before .before .before .args .cells .now) (c .before .before .before .args .bytes .now) (c .before .before .before .args .at) (record { sfits = c .result .given }) (c .before .if1 .taken)
+returns c =
+    let entry = c .before .before .before in
+    puts.read-cells (entry .args .cells .now) (entry .args .bytes .now) (entry .args .at)
+    (record { sfits = c .result .given }) (c .before .if1 .taken)
 
 sub-cell-at : tie.Need-sub-cell-at
 sub-cell-at c = search needs
@@ -20,7 +23,10 @@ cell-at-requires : tie.Need-cell-at-requires
 cell-at-requires c κs = search needs
 
 returns-2 : tie.Need-returns-2
-returns-2 c = puts.read-bytes (c .before .before .before .args .cells .now) (c .before .before .before .args .bytes .now) (c .before .before .before .args .at) (c .cell-at .result) (record { sfits = c .cell-at .ok }) (c .before .if1 .left) (c .cell-at .ensures)
+returns-2 c =
+    let entry = c .before .before .before in
+    puts.read-bytes (entry .args .cells .now) (entry .args .bytes .now) (entry .args .at) (c .cell-at .result)
+    (record { sfits = c .cell-at .ok }) (c .before .if1 .left) (c .cell-at .ensures)
 
 pub read-spec : {M : Type 1} → statement M
 read-spec =

@@ -36,350 +36,15 @@ walk-below t = and 2 walk-kinds.ps (falls 2 walk-kinds.ps _<_ μ-walk t) walk.Pr
 
 abbrev walk-Inv-loop : walk-lts.InvT-loop
 walk-Inv-loop kinds numbers before due line kind number operands rows₀ left₀ rows left =
-    (1 ≤ rows) × (rows ≤ length kinds)
-    × ((ds : List Due) → walkFrom before (due ∷ ds) (rowsOf kinds numbers) ≡ walkFrom (before + rows) (operandsDue due kind number left ++ ds) (drop rows (rowsOf kinds numbers)))
+    (1 ≤ rows) × (rows ≤ length kinds) × ((ds : List Due) → walkFrom before (due ∷ ds) (rowsOf kinds numbers) ≡
+    walkFrom (before + rows) (operandsDue due kind number left ++ ds) (drop rows (rowsOf kinds numbers)))
 
 abbrev walk-μ-loop : walk-lts.MeasureT-loop
 walk-μ-loop kinds numbers before due line kind number operands rows₀ left₀ rows left = left
 
-walk-add-line : (t : ℕ) → walk-lts.Need-add-line (
-  natural-reads.Asked,
-  natural-reads.Learnt,
-  ask-reads.Asked,
-  ask-reads.Learnt,
-  operand-reads.Asked,
-  operand-reads.Learnt,
-  walk-below t,
-  walk.Post,
-) (walk-at t) walk.Post walk-Inv-loop walk-μ-loop
-walk-add-line t c = search needs
-
-walk-returns : (t : ℕ) → walk-lts.Need-returns (
-  natural-reads.Asked,
-  natural-reads.Learnt,
-  ask-reads.Asked,
-  ask-reads.Learnt,
-  operand-reads.Asked,
-  operand-reads.Learnt,
-  walk-below t,
-  walk.Post,
-) (walk-at t) walk.Post walk-Inv-loop walk-μ-loop
-walk-returns t c = (omega arith, λ ds. steps.walk-none (c .before .before .args .before) (c .before .before .args .due) (c .before .before .args .kinds .now) (c .before .before .args .numbers .now) (c .if1 .taken) ds)
-
-walk-shared-slice-read-kind : (t : ℕ) → walk-lts.Need-shared-slice-read-kind (
-  natural-reads.Asked,
-  natural-reads.Learnt,
-  ask-reads.Asked,
-  ask-reads.Learnt,
-  operand-reads.Asked,
-  operand-reads.Learnt,
-  walk-below t,
-  walk.Post,
-) (walk-at t) walk.Post walk-Inv-loop walk-μ-loop
-walk-shared-slice-read-kind t c = search needs
-
-walk-shared-slice-copy-out-natural : (t : ℕ) → walk-lts.Need-shared-slice-copy-out-natural (
-  natural-reads.Asked,
-  natural-reads.Learnt,
-  ask-reads.Asked,
-  ask-reads.Learnt,
-  operand-reads.Asked,
-  operand-reads.Learnt,
-  walk-below t,
-  walk.Post,
-) (walk-at t) walk.Post walk-Inv-loop walk-μ-loop
-walk-shared-slice-copy-out-natural t c = search needs
-
-walk-natural-requires : (t : ℕ) → walk-lts.Need-natural-requires (
-  natural-reads.Asked,
-  natural-reads.Learnt,
-  ask-reads.Asked,
-  ask-reads.Learnt,
-  operand-reads.Asked,
-  operand-reads.Learnt,
-  walk-below t,
-  walk.Post,
-) (walk-at t) walk.Post walk-Inv-loop walk-μ-loop
-walk-natural-requires t c κs = search needs
-
-walk-ask-requires : (t : ℕ) → walk-lts.Need-ask-requires (
-  natural-reads.Asked,
-  natural-reads.Learnt,
-  ask-reads.Asked,
-  ask-reads.Learnt,
-  operand-reads.Asked,
-  operand-reads.Learnt,
-  walk-below t,
-  walk.Post,
-) (walk-at t) walk.Post walk-Inv-loop walk-μ-loop
-walk-ask-requires t c κs = search needs
-
-walk-enum-known-asked : (t : ℕ) → walk-lts.Need-enum-known-asked (
-  natural-reads.Asked,
-  natural-reads.Learnt,
-  ask-reads.Asked,
-  ask-reads.Learnt,
-  operand-reads.Asked,
-  operand-reads.Learnt,
-  walk-below t,
-  walk.Post,
-) (walk-at t) walk.Post walk-Inv-loop walk-μ-loop
-walk-enum-known-asked t c = search needs
-
-walk-enum-told : (t : ℕ) → walk-lts.Need-enum-told (
-  natural-reads.Asked,
-  natural-reads.Learnt,
-  ask-reads.Asked,
-  ask-reads.Learnt,
-  operand-reads.Asked,
-  operand-reads.Learnt,
-  walk-below t,
-  walk.Post,
-) (walk-at t) walk.Post walk-Inv-loop walk-μ-loop
-walk-enum-told t c = search needs
-
-walk-returns-2 : (t : ℕ) → walk-lts.Need-returns-2 (
-  natural-reads.Asked,
-  natural-reads.Learnt,
-  ask-reads.Asked,
-  ask-reads.Learnt,
-  operand-reads.Asked,
-  operand-reads.Learnt,
-  walk-below t,
-  walk.Post,
-) (walk-at t) walk.Post walk-Inv-loop walk-μ-loop
-walk-returns-2 t c = (rw (c .enum-told .given .1) (omega arith), λ ds. steps.walk-no (c .before .before .before .before .before .before .before .before .args .before) (c .before .before .before .before .before .before .before .before .args .due) (c .before .before .before .before .before .before .before .before .args .kinds .now) (c .before .before .before .before .before .before .before .before .args .numbers .now) (c .before .before .before .before .before .before .before .before .pre .1 .0) (c .before .before .before .before .before .before .if1 .left) (natural-of (getD (c .before .before .before .before .before .before .before .before .args .numbers .now) 0 (pos 0)) (record { sfits = c .before .before .before .before .natural-arg .given }) (c .before .before .before .natural .ensures .0)) (c .before .before .ask .ensures) _ (c .enum-told .given .1) ds ∙ rw (c .enum-told .given .1))
-
-walk-loop-holds : (t : ℕ) → walk-lts.Need-loop-holds (
-  natural-reads.Asked,
-  natural-reads.Learnt,
-  ask-reads.Asked,
-  ask-reads.Learnt,
-  operand-reads.Asked,
-  operand-reads.Learnt,
-  walk-below t,
-  walk.Post,
-) (walk-at t) walk.Post walk-Inv-loop walk-μ-loop
-walk-loop-holds t c = (omega arith, omega arith, steps.walk-row (c .before .before .before .before .before .before .before .before .before .args .before) (c .before .before .before .before .before .before .before .before .before .args .due) (c .before .before .before .before .before .before .before .before .before .args .kinds .now) (c .before .before .before .before .before .before .before .before .before .args .numbers .now) (c .before .before .before .before .before .before .before .before .before .pre .1 .0) (c .before .before .before .before .before .before .before .if1 .left) (natural-of (getD (c .before .before .before .before .before .before .before .before .before .args .numbers .now) 0 (pos 0)) (record { sfits = c .before .before .before .before .before .natural-arg .given }) (c .before .before .before .before .natural .ensures .0)) (c .before .before .before .ask .ensures) _ (c .before .asked .given .1))
-
-walk-operand-requires : (t : ℕ) → walk-lts.Need-operand-requires (
-  natural-reads.Asked,
-  natural-reads.Learnt,
-  ask-reads.Asked,
-  ask-reads.Learnt,
-  operand-reads.Asked,
-  operand-reads.Learnt,
-  walk-below t,
-  walk.Post,
-) (walk-at t) walk.Post walk-Inv-loop walk-μ-loop
-walk-operand-requires t c κs = search needs
-
-walk-sub-walk : (t : ℕ) → walk-lts.Need-sub-walk (
-  natural-reads.Asked,
-  natural-reads.Learnt,
-  ask-reads.Asked,
-  ask-reads.Learnt,
-  operand-reads.Asked,
-  operand-reads.Learnt,
-  walk-below t,
-  walk.Post,
-) (walk-at t) walk.Post walk-Inv-loop walk-μ-loop
-walk-sub-walk t c = search needs
-
-walk-part-walk-start : (t : ℕ) → walk-lts.Need-part-walk-start (
-  natural-reads.Asked,
-  natural-reads.Learnt,
-  ask-reads.Asked,
-  ask-reads.Learnt,
-  operand-reads.Asked,
-  operand-reads.Learnt,
-  walk-below t,
-  walk.Post,
-) (walk-at t) walk.Post walk-Inv-loop walk-μ-loop
-walk-part-walk-start t c = search needs
-
-walk-part-walk-end : (t : ℕ) → walk-lts.Need-part-walk-end (
-  natural-reads.Asked,
-  natural-reads.Learnt,
-  ask-reads.Asked,
-  ask-reads.Learnt,
-  operand-reads.Asked,
-  operand-reads.Learnt,
-  walk-below t,
-  walk.Post,
-) (walk-at t) walk.Post walk-Inv-loop walk-μ-loop
-walk-part-walk-end t c = search needs
-
-walk-mul-walk : (t : ℕ) → walk-lts.Need-mul-walk (
-  natural-reads.Asked,
-  natural-reads.Learnt,
-  ask-reads.Asked,
-  ask-reads.Learnt,
-  operand-reads.Asked,
-  operand-reads.Learnt,
-  walk-below t,
-  walk.Post,
-) (walk-at t) walk.Post walk-Inv-loop walk-μ-loop
-walk-mul-walk t c = search needs
-
-walk-sub-walk-2 : (t : ℕ) → walk-lts.Need-sub-walk-2 (
-  natural-reads.Asked,
-  natural-reads.Learnt,
-  ask-reads.Asked,
-  ask-reads.Learnt,
-  operand-reads.Asked,
-  operand-reads.Learnt,
-  walk-below t,
-  walk.Post,
-) (walk-at t) walk.Post walk-Inv-loop walk-μ-loop
-walk-sub-walk-2 t c = search needs
-
-walk-part-walk-start-2 : (t : ℕ) → walk-lts.Need-part-walk-start-2 (
-  natural-reads.Asked,
-  natural-reads.Learnt,
-  ask-reads.Asked,
-  ask-reads.Learnt,
-  operand-reads.Asked,
-  operand-reads.Learnt,
-  walk-below t,
-  walk.Post,
-) (walk-at t) walk.Post walk-Inv-loop walk-μ-loop
-walk-part-walk-start-2 t c = search needs
-
-walk-part-walk-end-2 : (t : ℕ) → walk-lts.Need-part-walk-end-2 (
-  natural-reads.Asked,
-  natural-reads.Learnt,
-  ask-reads.Asked,
-  ask-reads.Learnt,
-  operand-reads.Asked,
-  operand-reads.Learnt,
-  walk-below t,
-  walk.Post,
-) (walk-at t) walk.Post walk-Inv-loop walk-μ-loop
-walk-part-walk-end-2 t c = search needs
-
-walk-add-walk : (t : ℕ) → walk-lts.Need-add-walk (
-  natural-reads.Asked,
-  natural-reads.Learnt,
-  ask-reads.Asked,
-  ask-reads.Learnt,
-  operand-reads.Asked,
-  operand-reads.Learnt,
-  walk-below t,
-  walk.Post,
-) (walk-at t) walk.Post walk-Inv-loop walk-μ-loop
-walk-add-walk t c = search needs
-
-walk-walk-requires : (t : ℕ) → walk-lts.Need-walk-requires (
-  natural-reads.Asked,
-  natural-reads.Learnt,
-  ask-reads.Asked,
-  ask-reads.Learnt,
-  operand-reads.Asked,
-  operand-reads.Learnt,
-  walk-below t,
-  walk.Post,
-) (walk-at t) walk.Post walk-Inv-loop walk-μ-loop
-walk-walk-requires t c κs = (omega (arith, c .before .before .before .before .loop .inv .0, c .before .before .before .before .loop .inv .1, c .before .before .before .before .before .before .before .before .before .before .before .before .before .before .pre .0), (omega (arith, c .before .before .before .before .before .before .before .before .before .before .before .before .before .before .pre .1 .0), omega (arith, c .before .before .before .before .before .before .before .before .before .before .before .before .before .before .pre .1 .1, c .before .before .before .before .loop .inv .0, c .before .before .before .before .loop .inv .1), rw (c .before .before .operand .ensures) (steps.operand-bounded (c .before .before .before .before .before .before .before .before .before .before .before .before .before .before .args .due) _ _ (c .before .before .before .before .before .before .before .before .before .before .before .before .before .before .args .before + 1) _ (eqb (c .before .before .before .before .loop .left) 1) (c .before .before .before .before .before .before .before .before .before .before .before .before .before .before .pre .1 .2) (sym (c .before .before .before .before .before .before .before .before .ask .ensures) ∙ c .before .before .before .before .before .before .asked .given .1))))
-
-walk-enum-known-walked : (t : ℕ) → walk-lts.Need-enum-known-walked (
-  natural-reads.Asked,
-  natural-reads.Learnt,
-  ask-reads.Asked,
-  ask-reads.Learnt,
-  operand-reads.Asked,
-  operand-reads.Learnt,
-  walk-below t,
-  walk.Post,
-) (walk-at t) walk.Post walk-Inv-loop walk-μ-loop
-walk-enum-known-walked t c = search needs
-
-walk-enum-told-2 : (t : ℕ) → walk-lts.Need-enum-told-2 (
-  natural-reads.Asked,
-  natural-reads.Learnt,
-  ask-reads.Asked,
-  ask-reads.Learnt,
-  operand-reads.Asked,
-  operand-reads.Learnt,
-  walk-below t,
-  walk.Post,
-) (walk-at t) walk.Post walk-Inv-loop walk-μ-loop
-walk-enum-told-2 t c = search needs
-
-walk-returns-3 : (t : ℕ) → walk-lts.Need-returns-3 (
-  natural-reads.Asked,
-  natural-reads.Learnt,
-  ask-reads.Asked,
-  ask-reads.Learnt,
-  operand-reads.Asked,
-  operand-reads.Learnt,
-  walk-below t,
-  walk.Post,
-) (walk-at t) walk.Post walk-Inv-loop walk-μ-loop
-walk-returns-3 t c = (rw (c .enum-told2 .given .1) (omega arith), λ ds. steps.operand-no (c .before .before .before .before .before .before .before .before .before .before .before .before .before .before .before .before .before .args .before) (c .before .before .before .before .before .before .before .before .before .before .before .before .before .before .before .before .before .args .due) _ _ (rowsOf (c .before .before .before .before .before .before .before .before .before .before .before .before .before .before .before .before .before .args .kinds .now) (c .before .before .before .before .before .before .before .before .before .before .before .before .before .before .before .before .before .args .numbers .now)) (c .before .before .before .before .before .before .before .loop .left) (c .before .before .before .before .before .before .before .loop .rows) (c .before .before .before .before .before .before .before .loop .inv .2) (c .before .before .before .before .before .before .loop-test .taken) (c .before .before .before .before .before .operand .ensures) (c .before .before .walk .result) (λ ds. rw steps.rows-part at (c .before .before .walk .ensures .1 ds)) _ (c .enum-told2 .given .1) ds ∙ rw (c .enum-told2 .given .1))
-
-walk-add-rows : (t : ℕ) → walk-lts.Need-add-rows (
-  natural-reads.Asked,
-  natural-reads.Learnt,
-  ask-reads.Asked,
-  ask-reads.Learnt,
-  operand-reads.Asked,
-  operand-reads.Learnt,
-  walk-below t,
-  walk.Post,
-) (walk-at t) walk.Post walk-Inv-loop walk-μ-loop
-walk-add-rows t c = omega (arith, c .before .before .before .walk .ensures .0, ap passed (c .before .walked .given .1), c .before .before .before .before .before .before .before .before .loop .inv .0, c .before .before .before .before .before .before .before .before .loop .inv .1, c .before .before .before .before .before .before .before .before .before .before .before .before .before .before .before .before .before .before .pre .1 .1)
-
-walk-sub-left : (t : ℕ) → walk-lts.Need-sub-left (
-  natural-reads.Asked,
-  natural-reads.Learnt,
-  ask-reads.Asked,
-  ask-reads.Learnt,
-  operand-reads.Asked,
-  operand-reads.Learnt,
-  walk-below t,
-  walk.Post,
-) (walk-at t) walk.Post walk-Inv-loop walk-μ-loop
-walk-sub-left t c = search needs
-
-walk-loop-less : (t : ℕ) → walk-lts.Need-loop-less (
-  natural-reads.Asked,
-  natural-reads.Learnt,
-  ask-reads.Asked,
-  ask-reads.Learnt,
-  operand-reads.Asked,
-  operand-reads.Learnt,
-  walk-below t,
-  walk.Post,
-) (walk-at t) walk.Post walk-Inv-loop walk-μ-loop
-walk-loop-less t c = search needs
-
-walk-loop-again : (t : ℕ) → walk-lts.Need-loop-again (
-  natural-reads.Asked,
-  natural-reads.Learnt,
-  ask-reads.Asked,
-  ask-reads.Learnt,
-  operand-reads.Asked,
-  operand-reads.Learnt,
-  walk-below t,
-  walk.Post,
-) (walk-at t) walk.Post walk-Inv-loop walk-μ-loop
-walk-loop-again t c = (omega arith, omega (arith, c .before .before .before .walk .ensures .0, ap passed (c .before .walked .given .1)), steps.operand-passed (c .before .before .before .before .before .before .before .before .before .before .before .before .before .before .before .before .before .before .args .before) (c .before .before .before .before .before .before .before .before .before .before .before .before .before .before .before .before .before .before .args .due) _ _ (rowsOf (c .before .before .before .before .before .before .before .before .before .before .before .before .before .before .before .before .before .before .args .kinds .now) (c .before .before .before .before .before .before .before .before .before .before .before .before .before .before .before .before .before .before .args .numbers .now)) (c .before .before .before .before .before .before .before .before .loop .left) (c .before .before .before .before .before .before .before .before .loop .rows) (c .before .before .before .before .before .before .before .before .loop .inv .2) (c .before .before .before .before .before .before .before .loop-test .taken) (c .before .before .before .before .before .before .operand .ensures) (c .before .before .before .walk .result) (λ ds. rw steps.rows-part at (c .before .before .before .walk .ensures .1 ds)) _ (c .before .walked .given .1))
-
-walk-returns-4 : (t : ℕ) → walk-lts.Need-returns-4 (
-  natural-reads.Asked,
-  natural-reads.Learnt,
-  ask-reads.Asked,
-  ask-reads.Learnt,
-  operand-reads.Asked,
-  operand-reads.Learnt,
-  walk-below t,
-  walk.Post,
-) (walk-at t) walk.Post walk-Inv-loop walk-μ-loop
-walk-returns-4 t c = (omega arith, steps.operands-passed (c .before .before .before .before .before .before .before .before .before .before .before .args .before) (c .before .before .before .before .before .before .before .before .before .before .before .args .due) _ _ (rowsOf (c .before .before .before .before .before .before .before .before .before .before .before .args .kinds .now) (c .before .before .before .before .before .before .before .before .before .before .before .args .numbers .now)) (c .before .loop .left) (c .before .loop .rows) (c .before .loop .inv .2) (c .loop-test .left))
-
-pub +walk-spec : {M : Type 1} → statement M
-+walk-spec = close μ-walk λ t. walk-lts.spec (
+-- what the callees of `walk` ask, and what they promise
+abbrev walk-calls : ℕ → walk-lts.Claims
+walk-calls t = (
   natural-reads.Asked,
   natural-reads.Learnt,
   ask-reads.Asked,
@@ -389,6 +54,181 @@ pub +walk-spec : {M : Type 1} → statement M
   walk-below t,
   walk.Post,
 )
+
+walk-add-line : (t : ℕ) → walk-lts.Need-add-line (walk-calls t) (walk-at t) walk.Post walk-Inv-loop walk-μ-loop
+walk-add-line t c = search needs
+
+walk-returns : (t : ℕ) → walk-lts.Need-returns (walk-calls t) (walk-at t) walk.Post walk-Inv-loop walk-μ-loop
+walk-returns t c =
+    let entry = c .before .before in (
+      omega arith,
+      λ ds. steps.walk-none (entry .args .before) (entry .args .due) (entry .args .kinds .now)
+          (entry .args .numbers .now) (c .if1 .taken) ds,
+    )
+
+walk-shared-slice-read-kind : (t : ℕ) → walk-lts.Need-shared-slice-read-kind (walk-calls t) (walk-at t) walk.Post walk-Inv-loop walk-μ-loop
+walk-shared-slice-read-kind t c = search needs
+
+walk-shared-slice-copy-out-natural :
+    (t : ℕ) → walk-lts.Need-shared-slice-copy-out-natural (walk-calls t) (walk-at t) walk.Post walk-Inv-loop
+    walk-μ-loop
+walk-shared-slice-copy-out-natural t c = search needs
+
+walk-natural-requires : (t : ℕ) → walk-lts.Need-natural-requires (walk-calls t) (walk-at t) walk.Post walk-Inv-loop walk-μ-loop
+walk-natural-requires t c κs = search needs
+
+walk-ask-requires : (t : ℕ) → walk-lts.Need-ask-requires (walk-calls t) (walk-at t) walk.Post walk-Inv-loop walk-μ-loop
+walk-ask-requires t c κs = search needs
+
+walk-enum-known-asked : (t : ℕ) → walk-lts.Need-enum-known-asked (walk-calls t) (walk-at t) walk.Post walk-Inv-loop walk-μ-loop
+walk-enum-known-asked t c = search needs
+
+walk-enum-told : (t : ℕ) → walk-lts.Need-enum-told (walk-calls t) (walk-at t) walk.Post walk-Inv-loop walk-μ-loop
+walk-enum-told t c = search needs
+
+walk-returns-2 : (t : ℕ) → walk-lts.Need-returns-2 (walk-calls t) (walk-at t) walk.Post walk-Inv-loop walk-μ-loop
+walk-returns-2 t c =
+    let entry = c .before .before .before .before .before .before .before .before in (
+      rw (c .enum-told .given .1) (omega arith),
+      λ ds. steps.walk-no (entry .args .before) (entry .args .due)
+          (entry .args .kinds .now) (entry .args .numbers .now) (entry .pre .1 .0)
+          (c .before .before .before .before .before .before .if1 .left) (natural-of
+          (getD (entry .args .numbers .now) 0 (pos 0)) (record {
+            sfits =
+                c .before .before .before .before .natural-arg .given;
+          })
+          (c .before .before .before .natural .ensures .0)) (c .before .before .ask .ensures) _
+          (c .enum-told .given .1) ds ∙ rw (c .enum-told .given .1),
+    )
+
+walk-loop-holds : (t : ℕ) → walk-lts.Need-loop-holds (walk-calls t) (walk-at t) walk.Post walk-Inv-loop walk-μ-loop
+walk-loop-holds t c =
+    let entry = c .before .before .before .before .before .before .before .before .before in (
+      omega arith,
+      omega arith,
+      steps.walk-row (entry .args .before) (entry .args .due) (entry .args .kinds .now)
+          (entry .args .numbers .now) (entry .pre .1 .0)
+          (c .before .before .before .before .before .before .before .if1 .left) (natural-of
+          (getD (entry .args .numbers .now) 0 (pos 0)) (record {
+            sfits =
+                c .before .before .before .before .before .natural-arg .given;
+          })
+          (c .before .before .before .before .natural .ensures .0)) (c .before .before .before .ask .ensures) _
+          (c .before .asked .given .1),
+    )
+
+walk-operand-requires : (t : ℕ) → walk-lts.Need-operand-requires (walk-calls t) (walk-at t) walk.Post walk-Inv-loop walk-μ-loop
+walk-operand-requires t c κs = search needs
+
+walk-sub-walk : (t : ℕ) → walk-lts.Need-sub-walk (walk-calls t) (walk-at t) walk.Post walk-Inv-loop walk-μ-loop
+walk-sub-walk t c = search needs
+
+walk-part-walk-start : (t : ℕ) → walk-lts.Need-part-walk-start (walk-calls t) (walk-at t) walk.Post walk-Inv-loop walk-μ-loop
+walk-part-walk-start t c = search needs
+
+walk-part-walk-end : (t : ℕ) → walk-lts.Need-part-walk-end (walk-calls t) (walk-at t) walk.Post walk-Inv-loop walk-μ-loop
+walk-part-walk-end t c = search needs
+
+walk-mul-walk : (t : ℕ) → walk-lts.Need-mul-walk (walk-calls t) (walk-at t) walk.Post walk-Inv-loop walk-μ-loop
+walk-mul-walk t c = search needs
+
+walk-sub-walk-2 : (t : ℕ) → walk-lts.Need-sub-walk-2 (walk-calls t) (walk-at t) walk.Post walk-Inv-loop walk-μ-loop
+walk-sub-walk-2 t c = search needs
+
+walk-part-walk-start-2 : (t : ℕ) → walk-lts.Need-part-walk-start-2 (walk-calls t) (walk-at t) walk.Post walk-Inv-loop walk-μ-loop
+walk-part-walk-start-2 t c = search needs
+
+walk-part-walk-end-2 : (t : ℕ) → walk-lts.Need-part-walk-end-2 (walk-calls t) (walk-at t) walk.Post walk-Inv-loop walk-μ-loop
+walk-part-walk-end-2 t c = search needs
+
+walk-add-walk : (t : ℕ) → walk-lts.Need-add-walk (walk-calls t) (walk-at t) walk.Post walk-Inv-loop walk-μ-loop
+walk-add-walk t c = search needs
+
+walk-walk-requires : (t : ℕ) → walk-lts.Need-walk-requires (walk-calls t) (walk-at t) walk.Post walk-Inv-loop walk-μ-loop
+walk-walk-requires t c κs =
+    let entry = c .before .before .before .before .before .before .before .before .before .before .before
+    .before .before .before in
+    let at-loop = c .before .before .before .before .loop in (
+      omega (arith, at-loop .inv .0, at-loop .inv .1, entry .pre .0),
+      (
+        omega (arith, entry .pre .1 .0),
+        omega
+            (arith, entry .pre .1 .1, at-loop .inv .0, at-loop .inv .1),
+        rw (c .before .before .operand .ensures)
+            (steps.operand-bounded (entry .args .due) _ _ (entry .args .before + 1) _ (eqb (at-loop .left) 1)
+            (entry .pre .1 .2) (sym
+            (c .before .before .before .before .before .before .before .before .ask .ensures) ∙
+            c .before .before .before .before .before .before .asked .given .1)),
+      ),
+    )
+
+walk-enum-known-walked : (t : ℕ) → walk-lts.Need-enum-known-walked (walk-calls t) (walk-at t) walk.Post walk-Inv-loop walk-μ-loop
+walk-enum-known-walked t c = search needs
+
+walk-enum-told-2 : (t : ℕ) → walk-lts.Need-enum-told-2 (walk-calls t) (walk-at t) walk.Post walk-Inv-loop walk-μ-loop
+walk-enum-told-2 t c = search needs
+
+walk-returns-3 : (t : ℕ) → walk-lts.Need-returns-3 (walk-calls t) (walk-at t) walk.Post walk-Inv-loop walk-μ-loop
+walk-returns-3 t c =
+    let entry = c .before .before .before .before .before .before .before .before .before .before .before
+    .before .before .before .before .before .before in
+    let at-loop = c .before .before .before .before .before .before .before .loop in
+    let at-walk = c .before .before .walk in (
+      rw (c .enum-told2 .given .1) (omega arith),
+      λ ds. steps.operand-no (entry .args .before) (entry .args .due) _ _
+          (rowsOf (entry .args .kinds .now) (entry .args .numbers .now)) (at-loop .left) (at-loop .rows)
+          (at-loop .inv .2) (c .before .before .before .before .before .before .loop-test .taken)
+          (c .before .before .before .before .before .operand .ensures) (at-walk .result)
+          (λ ds. rw steps.rows-part at (at-walk .ensures .1 ds)) _ (c .enum-told2 .given .1) ds ∙ rw
+          (c .enum-told2 .given .1),
+    )
+
+walk-add-rows : (t : ℕ) → walk-lts.Need-add-rows (walk-calls t) (walk-at t) walk.Post walk-Inv-loop walk-μ-loop
+walk-add-rows t c =
+    let at-loop = c .before .before .before .before .before .before .before .before .loop in
+    omega (
+      arith,
+      c .before .before .before .walk .ensures .0,
+      ap passed (c .before .walked .given .1),
+      at-loop .inv .0,
+      at-loop .inv .1,
+      c .before .before .before .before .before .before .before .before .before .before .before
+          .before .before .before .before .before .before .before .pre .1 .1,
+    )
+
+walk-sub-left : (t : ℕ) → walk-lts.Need-sub-left (walk-calls t) (walk-at t) walk.Post walk-Inv-loop walk-μ-loop
+walk-sub-left t c = search needs
+
+walk-loop-less : (t : ℕ) → walk-lts.Need-loop-less (walk-calls t) (walk-at t) walk.Post walk-Inv-loop walk-μ-loop
+walk-loop-less t c = search needs
+
+walk-loop-again : (t : ℕ) → walk-lts.Need-loop-again (walk-calls t) (walk-at t) walk.Post walk-Inv-loop walk-μ-loop
+walk-loop-again t c =
+    let entry = c .before .before .before .before .before .before .before .before .before .before .before
+    .before .before .before .before .before .before .before in
+    let at-loop = c .before .before .before .before .before .before .before .before .loop in
+    let at-walk = c .before .before .before .walk in (
+      omega arith,
+      omega (arith, at-walk .ensures .0, ap passed (c .before .walked .given .1)),
+      steps.operand-passed
+          (entry .args .before) (entry .args .due) _ _ (rowsOf (entry .args .kinds .now) (entry .args .numbers .now))
+          (at-loop .left) (at-loop .rows) (at-loop .inv .2)
+          (c .before .before .before .before .before .before .before .loop-test .taken)
+          (c .before .before .before .before .before .before .operand .ensures) (at-walk .result)
+          (λ ds. rw steps.rows-part at (at-walk .ensures .1 ds)) _ (c .before .walked .given .1),
+    )
+
+walk-returns-4 : (t : ℕ) → walk-lts.Need-returns-4 (walk-calls t) (walk-at t) walk.Post walk-Inv-loop walk-μ-loop
+walk-returns-4 t c =
+    let entry = c .before .before .before .before .before .before .before .before .before .before .before in (
+      omega arith,
+      steps.operands-passed (entry .args .before) (entry .args .due) _ _ (rowsOf
+          (entry .args .kinds .now) (entry .args .numbers .now)) (c .before .loop .left) (c .before .loop .rows)
+          (c .before .loop .inv .2) (c .loop-test .left),
+    )
+
+pub +walk-spec : {M : Type 1} → statement M
++walk-spec = close μ-walk λ t. walk-lts.spec (walk-calls t)
     (walk-at t)
     walk.Post
     walk-Inv-loop

@@ -22,13 +22,21 @@ enum-told : tie.Need-enum-told
 enum-told c = search needs
 
 returns : tie.Need-returns
-returns c = ask-due (c .before .before .before .before .args .due) (c .before .before .before .before .args .kind) (c .before .before .before .before .args .number) (c .before .before .before .before .args .line) (sym (c .before .before .operand-count .ensures) ∙ c .enum-told .given .1)
+returns c =
+    let entry = c .before .before .before .before in
+    ask-due (entry .args .due) (entry .args .kind) (entry .args .number) (entry .args .line) (sym
+    (c .before .before .operand-count .ensures) ∙ c .enum-told .given .1)
 
 in-range-requires : tie.Need-in-range-requires
 in-range-requires c κs = search needs
 
 returns-2 : tie.Need-returns-2
-returns-2 c = ask-range (c .before .before .before .before .before .before .before .args .due) (c .before .before .before .before .before .before .before .args .kind) (c .before .before .before .before .before .before .before .args .number) (c .before .before .before .before .before .before .before .args .line) (sym (c .before .before .before .before .before .operand-count .ensures) ∙ c .before .before .before .listed .given .1) (flag-not _ _ (c .before .in-range .ensures) (c .if1 .taken))
+returns-2 c =
+    let entry = c .before .before .before .before .before .before .before in
+    let at-operand-count = c .before .before .before .before .before .operand-count in
+    ask-range (entry .args .due) (entry .args .kind) (entry .args .number) (entry .args .line) (sym
+    (at-operand-count .ensures) ∙ c .before .before .before .listed .given .1) (flag-not _ _
+    (c .before .in-range .ensures) (c .if1 .taken))
 
 opened-requires : tie.Need-opened-requires
 opened-requires c κs = search needs
@@ -37,16 +45,45 @@ names-fit-requires : tie.Need-names-fit-requires
 names-fit-requires c κs = search needs
 
 returns-3 : tie.Need-returns-3
-returns-3 c = ask-names (c .before .before .before .before .before .before .before .before .before .before .args .due) (c .before .before .before .before .before .before .before .before .before .before .args .kind) (c .before .before .before .before .before .before .before .before .before .before .args .number) (c .before .before .before .before .before .before .before .before .before .before .args .line) (sym (c .before .before .before .before .before .before .before .before .operand-count .ensures) ∙ c .before .before .before .before .before .before .listed .given .1) (flag-yes _ _ (c .before .before .before .before .in-range .ensures) (c .before .before .before .if1 .left)) (ap namesFit (sym (c .before .before .opened .ensures)) ∙ flag-not _ _ (c .before .names-fit .ensures) (c .if2 .taken))
+returns-3 c =
+    let entry = c .before .before .before .before .before .before .before .before .before .before in
+    let at-operand-count = c .before .before .before .before .before .before .before .before .operand-count in
+    let at-listed = c .before .before .before .before .before .before .listed in
+    let at-in-range = c .before .before .before .before .in-range in
+    ask-names (entry .args .due) (entry .args .kind) (entry .args .number) (entry .args .line)
+    (sym (at-operand-count .ensures) ∙ at-listed .given .1) (flag-yes _ _ (at-in-range .ensures)
+    (c .before .before .before .if1 .left)) (ap namesFit (sym (c .before .before .opened .ensures)) ∙ flag-not _
+    _ (c .before .names-fit .ensures) (c .if2 .taken))
 
 inputs-counted-requires : tie.Need-inputs-counted-requires
 inputs-counted-requires c κs = search needs
 
 add-t16 : tie.Need-add-t16
-add-t16 c = omega (arith, c .inputs-counted .ensures .1, c .before .before .before .before .before .before .before .before .before .before .before .pre .0, steps.three-operands (c .before .before .before .before .before .before .before .before .before .before .before .args .kind) (c .before .before .before .before .before .before .before .before .before .before .before .args .due .sort) _ (sym (c .before .before .before .before .before .before .before .before .before .operand-count .ensures) ∙ c .before .before .before .before .before .before .before .listed .given .1))
+add-t16 c =
+    let entry = c .before .before .before .before .before .before .before .before .before .before .before in
+    omega (
+      arith,
+      c .inputs-counted .ensures .1,
+      entry .pre .0,
+      steps.three-operands (entry .args .kind)
+          (entry .args .due .sort) _ (sym
+          (c .before .before .before .before .before .before .before .before .before .operand-count .ensures) ∙
+          c .before .before .before .before .before .before .before .listed .given .1),
+    )
 
 returns-4 : tie.Need-returns-4
-returns-4 c = ap (λ (i : ℕ). Passed (i + c .before .before .before .before .before .before .before .listed .given .0 .0)) (c .inputs-counted .ensures .0) ∙ ask-passed (c .before .before .before .before .before .before .before .before .before .before .before .args .due) (c .before .before .before .before .before .before .before .before .before .before .before .args .kind) (c .before .before .before .before .before .before .before .before .before .before .before .args .number) (c .before .before .before .before .before .before .before .before .before .before .before .args .line) (sym (c .before .before .before .before .before .before .before .before .before .operand-count .ensures) ∙ c .before .before .before .before .before .before .before .listed .given .1) (flag-yes _ _ (c .before .before .before .before .before .in-range .ensures) (c .before .before .before .before .if1 .left)) (ap namesFit (sym (c .before .before .before .opened .ensures)) ∙ flag-yes _ _ (c .before .before .names-fit .ensures) (c .before .if2 .left))
+returns-4 c =
+    let entry = c .before .before .before .before .before .before .before .before .before .before .before in
+    let at-operand-count = c .before .before .before .before .before .before .before .before .before .operand-count
+    in
+    let at-listed = c .before .before .before .before .before .before .before .listed in
+    let at-in-range = c .before .before .before .before .before .in-range in
+    let at-if1 = c .before .before .before .before .if1 in
+    ap (λ (i : ℕ). Passed (i + at-listed .given .0 .0)) (c .inputs-counted .ensures .0) ∙ ask-passed
+    (entry .args .due) (entry .args .kind) (entry .args .number) (entry .args .line)
+    (sym (at-operand-count .ensures) ∙ at-listed .given .1) (flag-yes _ _ (at-in-range .ensures) (at-if1 .left)) (ap
+    namesFit (sym (c .before .before .before .opened .ensures)) ∙ flag-yes _ _
+    (c .before .before .names-fit .ensures) (c .before .if2 .left))
 
 pub ask-spec : {M : Type 1} → statement M
 ask-spec =

@@ -22,7 +22,11 @@ shared-slice-read-if1 : tie.Need-shared-slice-read-if1 Inv-loop μ-loop
 shared-slice-read-if1 c = search needs
 
 returns : tie.Need-returns Inv-loop μ-loop
-returns c = tables.unlisted-here (c .before .before .before .before .args .kinds .now) (c .before .before .before .loop .i) (c .before .before .before .loop .inv .1) (c .before .before .loop-test .taken) (c .if1 .taken)
+returns c =
+    let at-args = c .before .before .before .before .args in
+    let at-loop = c .before .before .before .loop in
+    tables.unlisted-here (at-args .kinds .now) (at-loop .i) (at-loop .inv .1) (c .before .before .loop-test .taken)
+    (c .if1 .taken)
 
 add-i : tie.Need-add-i Inv-loop μ-loop
 add-i c = search needs
@@ -31,7 +35,12 @@ loop-less : tie.Need-loop-less Inv-loop μ-loop
 loop-less c = search needs
 
 loop-again : tie.Need-loop-again Inv-loop μ-loop
-loop-again c = (omega arith, tables.unlisted-next (c .before .before .before .before .args .kinds .now) (c .before .before .before .loop .i) (c .before .before .before .loop .inv .1) (c .before .before .loop-test .taken) (c .if1 .left))
+loop-again c =
+    let at-loop = c .before .before .before .loop in (
+      omega arith,
+      tables.unlisted-next (c .before .before .before .before .args .kinds .now) (at-loop .i)
+          (at-loop .inv .1) (c .before .before .loop-test .taken) (c .if1 .left),
+    )
 
 returns-2 : tie.Need-returns-2 Inv-loop μ-loop
 returns-2 c = tables.unlisted-end (c .before .before .args .kinds .now) (c .before .loop .i) (c .before .loop .inv .1) (omega arith)

@@ -24,7 +24,8 @@ returns : tie.Need-returns
 returns c =
     let a = c .before .before .before .before .before .args in (
       (omega arith, omega arith),
-      tables.rows-unlisted (a .kinds .now) (a .numbers .now) (c .before .before .before .shorter .ensures) (c .before .listed .ensures) (c .if1 .taken),
+      tables.rows-unlisted (a .kinds .now) (a .numbers .now)
+          (c .before .before .before .shorter .ensures) (c .before .listed .ensures) (c .if1 .taken),
     )
 
 returns-2 : tie.Need-returns-2

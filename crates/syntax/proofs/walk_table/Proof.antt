@@ -17,8 +17,10 @@ enum-told c = search needs
 
 returns : tie.Need-returns
 returns c =
-    let a = c .before .before .before .before .args in
-    tables.table-unlisted (a .kinds .now) (a .numbers .now) (c .before .before .listed-rows .ensures .1) (a .sort) _ (c .enum-told .given .1)
+    let at-args = c .before .before .before .before .args in
+    let a = at-args in
+    tables.table-unlisted (a .kinds .now) (a .numbers .now) (c .before .before .listed-rows .ensures .1) (a .sort) _
+    (c .enum-told .given .1)
 
 in-force-requires : tie.Need-in-force-requires
 in-force-requires c κs = search needs
@@ -41,16 +43,23 @@ slice-aggregate-walk-2 c =
 
 walk-requires : tie.Need-walk-requires
 walk-requires c κs =
-    let a = c .before .before .before .before .before .before .before .before .args in
-    let good = c .before .before .before .before .before .before .before .before .good in
+    let entry = c .before .before .before .before .before .before .before .before in
+    let a = entry .args in
+    let good = entry .good in
     let listed-rows = c .before .before .before .before .before .before .listed-rows in
     let listed = c .before .before .before .before .listed in
-    let rows = tables.rows-shorter (a .kinds .now) (a .numbers .now) (listed-rows .ensures .1) _ (listed .given .1) in
+    let rows = tables.rows-shorter (a .kinds .now) (a .numbers .now) (listed-rows .ensures .1) _ (listed .given .1)
+    in
     let k = tables.kinds-length (a .kinds .now) (a .numbers .now) rows in
     let n = tables.numbers-length (a .kinds .now) (a .numbers .now) rows in (
       k ∙ sym n,
       omega (arith, k, rows, good .0 .1),
-      rw (c .before .before .in-force .ensures) (record { variables-fit = omega arith; counters-fit = omega arith; regions-fit = omega arith }),
+      rw (c .before .before .in-force .ensures) (record {
+        variables-fit
+            = omega arith;
+        counters-fit = omega arith;
+        regions-fit = omega arith;
+      }),
     )
 
 enum-known-walked : tie.Need-enum-known-walked

@@ -8,7 +8,9 @@ use lib.Dec.{eqb, leb}
 use lib.IntN.{ℤ, pos}
 use lib.ListN.{length}
 use Rattle.arithmetic.specs.Arithmetic.{Operation}
-use Rattle.words.specs.Kinds.{Row, word-in, word-lit, word-neg, word-add, word-sub, word-mul, word-div, word-min, word-max, word-loops, word-cells, word-set, word-seq, word-for, word-par, word-new, word-out, word-loc, word-ctr, word-plus, word-times, word-over, word-rest}
+use Rattle.words.specs.Kinds.{Row, word-in, word-lit, word-neg, word-add, word-sub, word-mul, word-div, word-min, word-max, word-loops}
+use Rattle.words.specs.Kinds.{word-cells, word-set, word-seq, word-for, word-par, word-new, word-out, word-loc, word-ctr, word-plus}
+use Rattle.words.specs.Kinds.{word-times, word-over, word-rest}
 use Rattle.words.specs.Words.{table}
 use Rattle.words.specs.declared.Sort.the-variants as sort
 use Rattle.meaning.specs.Terms.{LoopKind}
@@ -144,7 +146,9 @@ cells-first N os (suc K) a f =
     let n = f .3 in
     (n .0 ∷ r .0, r .1, ap suc (r .2), (n .1, r .3), joined (f .2) (n .2) (r .4), r .5)
 
-loops-node : (z : ℤ) (a : List Row) → leb (asNatural z) 8 ≡ true → Forest (operandsDue (due sort.Loops noNames) word-loops (asNatural z) (asNatural z + 2)) a → (L : Loops) × LoopsInRange L × ((word-loops, z) ∷ a ≡ loopsRows L)
+loops-node : (z : ℤ) (a : List Row) → leb (asNatural z) 8 ≡ true
+    → Forest (operandsDue (due sort.Loops noNames) word-loops (asNatural z) (asNatural z + 2)) a
+    → (L : Loops) × LoopsInRange L × ((word-loops, z) ∷ a ≡ loopsRows L)
 unfolding loopsRows operandOf openedBy oneOf
 loops-node z a r p =
     let K = asNatural z in

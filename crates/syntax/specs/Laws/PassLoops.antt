@@ -7,7 +7,9 @@ use borrow.Author.Tests.{lt-ltb, le-leb}
 use lib.IntN.{pos}
 use lib.ListN.{length}
 use Rattle.arithmetic.specs.Arithmetic.{Operation}
-use Rattle.words.specs.Kinds.{Row, word-in, word-lit, word-neg, word-add, word-sub, word-mul, word-div, word-min, word-max, word-loops, word-cells, word-set, word-seq, word-for, word-par, word-new, word-out, word-loc, word-ctr, word-plus, word-times, word-over, word-rest}
+use Rattle.words.specs.Kinds.{Row, word-in, word-lit, word-neg, word-add, word-sub, word-mul, word-div, word-min, word-max, word-loops}
+use Rattle.words.specs.Kinds.{word-cells, word-set, word-seq, word-for, word-par, word-new, word-out, word-loc, word-ctr, word-plus}
+use Rattle.words.specs.Kinds.{word-times, word-over, word-rest}
 use Rattle.words.specs.Words.{operandsOf, table}
 use Rattle.words.specs.declared.Sort.the-variants as sort
 use Rattle.meaning.specs.Terms.{LoopKind}
@@ -124,5 +126,7 @@ pass-loops L h =
     row (due sort.Loops noNames) word-loops (pos K) 2 (allCellsRows (L .inputs) ++ ((word-cells, pos (L .output)) ∷ commandRows (L .command))) refl (le-leb K 8 (h .inputsFew)) (small K)
     (rw (e, operands-copies (due sort.Loops noNames) word-loops K (suc K), copies-more K D (C (inputsOnly K) ∷ []))
     (pass-cells noNames (small 0) (D ∷ C (inputsOnly K) ∷ []) ((word-cells, pos (L .output)) ∷ commandRows (L .command))
-    (both D (C (inputsOnly K) ∷ []) ((word-cells, pos (L .output)) ∷ []) (commandRows (L .command)) (pass-one-cells noNames (small 0) (L .output) (h .outputCells)) (pass-command (inputsOnly K) (small K) (L .command) (h .command)))
+    (both D (C (inputsOnly K) ∷ []) ((word-cells, pos (L .output)) ∷ []) (commandRows (L .command)) (pass-one-cells
+    noNames (small 0) (L .output) (h .outputCells)) (pass-command (inputsOnly K) (small K) (L .command)
+    (h .command)))
     (L .inputs) (h .inputCells)))

@@ -7,7 +7,9 @@ use borrow.Author.Tests.{lt-ltb, le-leb}
 use lib.IntN.{pos}
 use lib.ListN.{length}
 use Rattle.arithmetic.specs.Arithmetic.{Operation}
-use Rattle.words.specs.Kinds.{Row, word-plan, word-num, word-arr, word-two, word-in, word-var, word-lit, word-neg, word-add, word-sub, word-mul, word-div, word-min, word-max, word-mappar, word-mapseq, word-redseq, word-zip, word-pair, word-split, word-join, word-fst, word-snd, word-idx}
+use Rattle.words.specs.Kinds.{Row, word-plan, word-num, word-arr, word-two, word-in, word-var, word-lit, word-neg, word-add, word-sub}
+use Rattle.words.specs.Kinds.{word-mul, word-div, word-min, word-max, word-mappar, word-mapseq, word-redseq, word-zip, word-pair}
+use Rattle.words.specs.Kinds.{word-split, word-join, word-fst, word-snd, word-idx}
 use Rattle.words.specs.Words.{operandsOf, table}
 use Rattle.words.specs.declared.Sort.the-variants as sort
 use Rattle.meaning.specs.Types.{DataType, number, array}

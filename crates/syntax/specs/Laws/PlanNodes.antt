@@ -9,7 +9,9 @@ use lib.Dec.{leb}
 use lib.IntN.{ℤ, pos}
 use lib.ListN.{length}
 use Rattle.arithmetic.specs.Arithmetic.{Operation}
-use Rattle.words.specs.Kinds.{Row, word-plan, word-num, word-arr, word-two, word-in, word-var, word-lit, word-neg, word-add, word-sub, word-mul, word-div, word-min, word-max, word-mappar, word-mapseq, word-redseq, word-zip, word-pair, word-split, word-join, word-fst, word-snd, word-idx}
+use Rattle.words.specs.Kinds.{Row, word-plan, word-num, word-arr, word-two, word-in, word-var, word-lit, word-neg, word-add, word-sub}
+use Rattle.words.specs.Kinds.{word-mul, word-div, word-min, word-max, word-mappar, word-mapseq, word-redseq, word-zip, word-pair}
+use Rattle.words.specs.Kinds.{word-split, word-join, word-fst, word-snd, word-idx}
 use Rattle.words.specs.Words.{table}
 use Rattle.words.specs.declared.Sort.the-variants as sort
 use Rattle.meaning.specs.Types.{DataType, number, array}
@@ -111,7 +113,9 @@ types-first N os (suc K) a f =
     let t = f .3 in
     (t .0 ∷ r .0, r .1, ap suc (r .2), (t .1, r .3), joined (f .2) (t .2) (r .4) ∙ sym (append-assoc (typeRows (t .0)) (allTypeRows (r .0)) (r .1)), r .5)
 
-plan-node : (z : ℤ) (a : List Row) → leb (asNatural z) 8 ≡ true → Forest (operandsDue (due sort.Plan noNames) word-plan (asNatural z) (asNatural z + 1)) a → (P : Plan) × PlanInRange P × ((word-plan, z) ∷ a ≡ planRows P)
+plan-node : (z : ℤ) (a : List Row) → leb (asNatural z) 8 ≡ true
+    → Forest (operandsDue (due sort.Plan noNames) word-plan (asNatural z) (asNatural z + 1)) a
+    → (P : Plan) × PlanInRange P × ((word-plan, z) ∷ a ≡ planRows P)
 unfolding planRows operandOf openedBy oneOf
 plan-node z a r p =
     let K = asNatural z in

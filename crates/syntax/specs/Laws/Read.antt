@@ -30,7 +30,8 @@ module _ {A : Type 0} (ss : List Sort) (make : ℕ → ℤ → List A → A) whe
   Has rows tree x = (y : A) × (tree y ≡ x) × Comes (rows x) (y ∷ [])
 
   -- a row over no, one, two and three trees
-  pub none : {X : Type 0} (rows : X → List Row) (tree : A → X) (k : ℕ) (z : ℤ) (x : X) → rows x ≡ (k, z) ∷ [] → operandsAmong ss k ≡ 0 → ((S : List A) → make k z S ≡ make k z []) → tree (make k z []) ≡ x → Has rows tree x
+  pub none : {X : Type 0} (rows : X → List Row) (tree : A → X) (k : ℕ) (z : ℤ) (x : X) → rows x ≡ (k, z) ∷ []
+      → operandsAmong ss k ≡ 0 → ((S : List A) → make k z S ≡ make k z []) → tree (make k z []) ≡ x → Has rows tree x
   none rows tree k z x r e m t = (make k z [], t, rw r (row k z [] [] e m (λ R. refl)))
 
   pub one : {X Y : Type 0} (rowsX : X → List Row) (treeX : A → X) (rowsY : Y → List Row) (treeY : A → Y) (k : ℕ) (z : ℤ) (f : X → Y) (x : X) → rowsY (f x) ≡ (k, z) ∷ rowsX x → operandsAmong ss k ≡ 1

@@ -7,7 +7,9 @@ use lib.IntN.{pos}
 use lib.ListN.{length, getD, take}
 use lib.Seq.{getD-append-add}
 use Rattle.arithmetic.specs.Arithmetic.{Operation}
-use Rattle.words.specs.Kinds.{word-in, word-lit, word-neg, word-add, word-sub, word-mul, word-div, word-min, word-max, word-cells, word-set, word-seq, word-for, word-par, word-new, word-out, word-loc, word-ctr, word-plus, word-times, word-over, word-rest}
+use Rattle.words.specs.Kinds.{word-in, word-lit, word-neg, word-add, word-sub, word-mul, word-div, word-min, word-max, word-cells, word-set}
+use Rattle.words.specs.Kinds.{word-seq, word-for, word-par, word-new, word-out, word-loc, word-ctr, word-plus, word-times, word-over}
+use Rattle.words.specs.Kinds.{word-rest}
 use Rattle.words.specs.Words.{operandsOf, table}
 use Rattle.words.specs.declared.Sort.{Sort}
 use Rattle.words.specs.declared.Sort.the-variants as sort
@@ -59,7 +61,9 @@ read-place (Place.output o) = one loopsSorts loopsPart offsetRows offsetIn place
 read-place (Place.region d o) = one loopsSorts loopsPart offsetRows offsetIn placeRows placeIn word-loc (pos d) (Place.region d) o refl refl (λ a S. refl) (λ a. refl) (read-offset o)
 
 abbrev twoValues : (k : ℕ) (f : Value → Value → Value) (v w : Value) → valueRows (f v w) ≡ (k, pos 0) ∷ (valueRows v ++ valueRows w) → operandsAmong loopsSorts k ≡ 2
-    → ((a b : LoopsPart) (S : List LoopsPart) → loopsPart k (pos 0) (a ∷ b ∷ S) ≡ loopsPart k (pos 0) (a ∷ b ∷ [])) → ((a b : LoopsPart) → loopsPart k (pos 0) (a ∷ b ∷ []) .value ≡ f (a .value) (b .value)) → ValueHas v → ValueHas w → ValueHas (f v w)
+    → ((a b : LoopsPart) (S : List LoopsPart) → loopsPart k (pos 0) (a ∷ b ∷ S) ≡ loopsPart k (pos 0) (a ∷ b ∷ []))
+    → ((a b : LoopsPart) → loopsPart k (pos 0) (a ∷ b ∷ []) .value ≡ f (a .value) (b .value)) → ValueHas v → ValueHas w
+    → ValueHas (f v w)
 twoValues k f v w r o m t h g = two loopsSorts loopsPart valueRows valueIn valueRows valueIn valueRows valueIn k (pos 0) f v w r o m t h g
 
 read-value-operation : (o : Operation) (v w : Value) → ValueHas v → ValueHas w → ValueHas (Value.operation o v w)
@@ -102,8 +106,14 @@ read-cells : (ns : List ℕ) → (ys : List LoopsPart) × (map (λ (x : LoopsPar
 unfolding allCellsRows
 read-cells [] = ([], refl, refl, λ R. refl)
 read-cells (n ∷ ns) =
-    let r = read-cells ns in
-    (loopsPart word-cells (pos n) [] ∷ r .0, ap (λ (l : List ℕ). n ∷ l) (r .1), ap suc (r .2), both loopsSorts loopsPart ((word-cells, pos n) ∷ []) (allCellsRows ns) (loopsPart word-cells (pos n) []) (r .0) (cells-row n) (r .3))
+    let r = read-cells ns in (
+      loopsPart word-cells (pos n) [] ∷ r .0,
+      ap (λ (l : List ℕ). n ∷ l) (r .1),
+      ap suc (r .2),
+      both loopsSorts
+          loopsPart ((word-cells, pos n) ∷ []) (allCellsRows ns) (loopsPart word-cells (pos n) []) (r .0)
+          (cells-row n) (r .3),
+    )
 
 pub loops-back : (L : Loops) → loopsOf (loopsRows L) ≡ L
 unfolding loopsOf loopsRows readRows choose

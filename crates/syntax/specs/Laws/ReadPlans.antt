@@ -5,7 +5,9 @@ use Prim.Native.Nat.{ℕ, suc}
 use lib.IntN.{ℤ, pos}
 use lib.ListN.{length, getD, take}
 use Rattle.arithmetic.specs.Arithmetic.{Operation}
-use Rattle.words.specs.Kinds.{word-num, word-arr, word-two, word-in, word-var, word-lit, word-neg, word-add, word-sub, word-mul, word-div, word-min, word-max, word-mappar, word-mapseq, word-redseq, word-zip, word-pair, word-split, word-join, word-fst, word-snd, word-idx}
+use Rattle.words.specs.Kinds.{word-num, word-arr, word-two, word-in, word-var, word-lit, word-neg, word-add, word-sub, word-mul, word-div}
+use Rattle.words.specs.Kinds.{word-min, word-max, word-mappar, word-mapseq, word-redseq, word-zip, word-pair, word-split, word-join}
+use Rattle.words.specs.Kinds.{word-fst, word-snd, word-idx}
 use Rattle.words.specs.Words.{operandsOf, table}
 use Rattle.words.specs.declared.Sort.{Sort}
 use Rattle.words.specs.declared.Sort.the-variants as sort
@@ -31,17 +33,22 @@ unfolding typeRows operandsAmong operandsOf table choose
 read-type number = none planSorts planPart typeRows (λ (x : PlanPart). x .type) word-num (pos 0) number refl refl (λ S. refl) refl
 read-type (array n t) = one planSorts planPart typeRows (λ (x : PlanPart). x .type) typeRows (λ (x : PlanPart). x .type) word-arr (pos n) (array n) t refl refl (λ a S. refl) (λ a. refl) (read-type t)
 read-type (DataType.pair s t) =
-    two planSorts planPart typeRows (λ (x : PlanPart). x .type) typeRows (λ (x : PlanPart). x .type) typeRows (λ (x : PlanPart). x .type) word-two (pos 0) DataType.pair s t refl refl (λ a b S. refl) (λ a b. refl) (read-type s) (read-type t)
+    two planSorts planPart typeRows (λ (x : PlanPart). x .type) typeRows (λ (x : PlanPart). x .type) typeRows
+    (λ (x : PlanPart). x .type) word-two (pos 0) DataType.pair s t refl refl (λ a b S. refl) (λ a b. refl)
+    (read-type s) (read-type t)
 
-abbrev leafTerm : (k : ℕ) (z : ℤ) (e : Term) → termRows e ≡ (k, z) ∷ [] → operandsAmong planSorts k ≡ 0 → ((S : List PlanPart) → planPart k z S ≡ planPart k z []) → planPart k z [] .term ≡ e → TermHas e
+abbrev leafTerm : (k : ℕ) (z : ℤ) (e : Term) → termRows e ≡ (k, z) ∷ [] → operandsAmong planSorts k ≡ 0
+    → ((S : List PlanPart) → planPart k z S ≡ planPart k z []) → planPart k z [] .term ≡ e → TermHas e
 leafTerm k z e r o m t = none planSorts planPart termRows (λ (x : PlanPart). x .term) k z e r o m t
 
-abbrev oneTerm : (k : ℕ) (z : ℤ) (f : Term → Term) (e : Term) → termRows (f e) ≡ (k, z) ∷ termRows e → operandsAmong planSorts k ≡ 1 → ((a : PlanPart) (S : List PlanPart) → planPart k z (a ∷ S) ≡ planPart k z (a ∷ []))
+abbrev oneTerm : (k : ℕ) (z : ℤ) (f : Term → Term) (e : Term) → termRows (f e) ≡ (k, z) ∷ termRows e
+    → operandsAmong planSorts k ≡ 1 → ((a : PlanPart) (S : List PlanPart) → planPart k z (a ∷ S) ≡ planPart k z (a ∷ []))
     → ((a : PlanPart) → planPart k z (a ∷ []) .term ≡ f (a .term)) → TermHas e → TermHas (f e)
 oneTerm k z f e r o m t h = one planSorts planPart termRows (λ (x : PlanPart). x .term) termRows (λ (x : PlanPart). x .term) k z f e r o m t h
 
 abbrev twoTerms : (k : ℕ) (f : Term → Term → Term) (d e : Term) → termRows (f d e) ≡ (k, pos 0) ∷ (termRows d ++ termRows e) → operandsAmong planSorts k ≡ 2
-    → ((a b : PlanPart) (S : List PlanPart) → planPart k (pos 0) (a ∷ b ∷ S) ≡ planPart k (pos 0) (a ∷ b ∷ [])) → ((a b : PlanPart) → planPart k (pos 0) (a ∷ b ∷ []) .term ≡ f (a .term) (b .term)) → TermHas d → TermHas e → TermHas (f d e)
+    → ((a b : PlanPart) (S : List PlanPart) → planPart k (pos 0) (a ∷ b ∷ S) ≡ planPart k (pos 0) (a ∷ b ∷ []))
+    → ((a b : PlanPart) → planPart k (pos 0) (a ∷ b ∷ []) .term ≡ f (a .term) (b .term)) → TermHas d → TermHas e → TermHas (f d e)
 twoTerms k f d e r o m t h g = two planSorts planPart termRows (λ (x : PlanPart). x .term) termRows (λ (x : PlanPart). x .term) termRows (λ (x : PlanPart). x .term) k (pos 0) f d e r o m t h g
 
 -- the six operations and the two maps

@@ -97,11 +97,17 @@ same-length-2 c = search needs
 
 returns-3 : tie.Need-returns-3
 returns-3 c =
-    let a = c .before .before .before .before .before .before .before .before .before .before .before .before .before .before .before .before .before .before .args in
-    let read-plan = c .before .before .before .before .before .before .before .before .before .before .before .before .before .read-plan in
-    let read = c .before .before .before .before .before .before .before .before .before .read in
+    let at-args = c .before .before .before .before .before .before .before .before .before .before .before
+    .before .before .before .before .before .before .before .args in
+    let at-read-plan = c .before .before .before .before .before .before .before .before .before .before .before
+    .before .before .read-plan in
+    let at-read = c .before .before .before .before .before .before .before .before .before .read in
+    let a = at-args in
+    let read-plan = at-read-plan in
+    let read = at-read in
     let make-rows = c .before .before .before .make-rows in
-    reading.text-made words (a .text .now) (read-plan .result) (read-plan .ensures .answer) (read .given .0 .0) (read .given .1) _ _ _ _ refl refl (read-plan .ensures) (make-rows .ensures)
+    reading.text-made words (a .text .now) (read-plan .result) (read-plan .ensures .answer) (read .given .0 .0)
+    (read .given .1) _ _ _ _ refl refl (read-plan .ensures) (make-rows .ensures)
 
 pub translate-rows-spec : {M : Type 1} → statement M
 translate-rows-spec =

@@ -35,18 +35,24 @@ returns c = search needs
 
 returns-2 : tie.Need-returns-2
 returns-2 c =
-    let a = c .before .before .before .before .before .before .before .before .before .before .before .before .before .args in
-    let translate-rows = c .before .before .before .before .before .before .before .before .translate-rows in
-    let made2 = c .before .before .before .before .made2 in
+    let at-args = c .before .before .before .before .before .before .before .before .before .before .before
+    .before .before .args in
+    let at-translate-rows = c .before .before .before .before .before .before .before .before .translate-rows in
+    let at-made2 = c .before .before .before .before .made2 in
+    let a = at-args in
+    let translate-rows = at-translate-rows in
+    let made2 = at-made2 in
     let made3 = c .before .made3 in
-    lent.text-refused words (a .text .now) (translate-rows .result) _ _ _ _ refl refl (translate-rows .ensures) (a .lent .now) _ (made2 .given .1 ∙ made3 .given .1)
+    lent.text-refused words (a .text .now) (translate-rows .result) _ _ _ _ refl refl (translate-rows .ensures)
+    (a .lent .now) _ (made2 .given .1 ∙ made3 .given .1)
 
 array-share-prefix-kinds : tie.Need-array-share-prefix-kinds
 array-share-prefix-kinds c =
     let a = c .before .before .before .before .before .before .before .before .before .before .args in
     let translate-rows = c .before .before .before .before .before .translate-rows in
     let made = c .before .made in
-    let few = lent.few-rows words (a .text .now) (translate-rows .result) _ _ _ _ refl refl (translate-rows .ensures) (a .lent .now) (made .given .0 .0) (made .given .1) in
+    let few = lent.few-rows words (a .text .now) (translate-rows .result) _ _ _ _ refl refl
+    (translate-rows .ensures) (a .lent .now) (made .given .0 .0) (made .given .1) in
     omega (arith, few)
 
 slice-aggregate-print : tie.Need-slice-aggregate-print
@@ -54,7 +60,8 @@ slice-aggregate-print c =
     let a = c .before .before .before .before .before .before .before .before .before .before .before .args in
     let translate-rows = c .before .before .before .before .before .before .translate-rows in
     let made = c .before .before .made in
-    let few = lent.few-rows words (a .text .now) (translate-rows .result) _ _ _ _ refl refl (translate-rows .ensures) (a .lent .now) (made .given .0 .0) (made .given .1) in
+    let few = lent.few-rows words (a .text .now) (translate-rows .result) _ _ _ _ refl refl
+    (translate-rows .ensures) (a .lent .now) (made .given .0 .0) (made .given .1) in
     let lk : length (translate-rows .last .1 .0) ≡ 4096 = translate-rows .kept .1 .0 in
     sym (length-take-le (made .given .0 .0) (translate-rows .last .1 .0) (omega (arith, lk, few)))
 
@@ -63,15 +70,18 @@ array-share-prefix-numbers c =
     let a = c .before .before .before .before .before .before .before .before .before .before .before .args in
     let translate-rows = c .before .before .before .before .before .before .translate-rows in
     let made = c .before .before .made in
-    let few = lent.few-rows words (a .text .now) (translate-rows .result) _ _ _ _ refl refl (translate-rows .ensures) (a .lent .now) (made .given .0 .0) (made .given .1) in
+    let few = lent.few-rows words (a .text .now) (translate-rows .result) _ _ _ _ refl refl
+    (translate-rows .ensures) (a .lent .now) (made .given .0 .0) (made .given .1) in
     omega (arith, few)
 
 slice-aggregate-print-2 : tie.Need-slice-aggregate-print-2
 slice-aggregate-print-2 c =
-    let a = c .before .before .before .before .before .before .before .before .before .before .before .before .args in
+    let a = c .before .before .before .before .before .before .before .before .before .before .before .before .args
+    in
     let translate-rows = c .before .before .before .before .before .before .before .translate-rows in
     let made = c .before .before .before .made in
-    let few = lent.few-rows words (a .text .now) (translate-rows .result) _ _ _ _ refl refl (translate-rows .ensures) (a .lent .now) (made .given .0 .0) (made .given .1) in
+    let few = lent.few-rows words (a .text .now) (translate-rows .result) _ _ _ _ refl refl
+    (translate-rows .ensures) (a .lent .now) (made .given .0 .0) (made .given .1) in
     let ln : length (translate-rows .last .1 .1 .0) ≡ 4096 = translate-rows .kept .1 .1 .0 in
     sym (length-take-le (made .given .0 .0) (translate-rows .last .1 .1 .0) (omega (arith, ln, few)))
 
@@ -83,11 +93,17 @@ same-length c = search needs
 
 returns-3 : tie.Need-returns-3
 returns-3 c =
-    let a = c .before .before .before .before .before .before .before .before .before .before .before .before .before .before .before .before .args in
-    let translate-rows = c .before .before .before .before .before .before .before .before .before .before .before .translate-rows in
-    let made = c .before .before .before .before .before .before .before .made in
+    let at-args = c .before .before .before .before .before .before .before .before .before .before .before
+    .before .before .before .before .before .args in
+    let at-translate-rows =
+    c .before .before .before .before .before .before .before .before .before .before .before .translate-rows in
+    let at-made = c .before .before .before .before .before .before .before .made in
+    let a = at-args in
+    let translate-rows = at-translate-rows in
+    let made = at-made in
     let print = c .before .before .print in
-    lent.text-filled words (a .text .now) (translate-rows .result) _ _ _ _ refl refl (translate-rows .ensures) (a .lent .now) (made .given .0 .0) (made .given .1) _ _ (print .ensures)
+    lent.text-filled words (a .text .now) (translate-rows .result) _ _ _ _ refl refl (translate-rows .ensures)
+    (a .lent .now) (made .given .0 .0) (made .given .1) _ _ (print .ensures)
 
 pub translate-text-spec : {M : Type 1} → statement M
 translate-text-spec =

@@ -5,7 +5,7 @@ use Prim.Native.Nat.{ℕ, _≤_}
 use native.Mathlib.Omega.{arith}
 use lib.ListN.{length}
 use Rattle.words.specs.Kinds.{Row}
-use Rattle.words.specs.Words.{words, lookUp}
+use Rattle.words.specs.Words.{lookUp}
 use Rattle.lines.specs.Reading.{linesOf, rowsIn, reading, planLimits}
 use Rattle.lines.specs.Laws.{rows-read}
 use Rattle.lines.specs.declared.Reading.{Reading}
@@ -23,24 +23,24 @@ use Rattle.typing.specs.Laws.Texts.{read-within, rows-printable, printable-numb
 use Rattle.translate.specs.Entry.{planIn}
 use Rattle.translate.specs.Accepted.{TextPlan}
 
-pub text-plan : (t : List ℕ) (m : ℕ) → checkText words t ≡ Passed m → TextPlan t (planIn words t)
-text-plan t m e = go (reading (lookUp words) planLimits t) refl
+pub text-plan : (ws : List (List ℕ)) (t : List ℕ) (m : ℕ) → checkText ws t ≡ Passed m → TextPlan ws t (planIn ws t)
+text-plan ws t m e = go (reading (lookUp ws) planLimits t) refl
   where
     R : List Row
-    R = rowsIn (lookUp words) (linesOf t)
+    R = rowsIn (lookUp ws) (linesOf t)
 
-    go : (r : Reading) → reading (lookUp words) planLimits t ≡ r → TextPlan t (planOf R)
-    go (read.Refused q) f = passed-refused (sym e ∙ unread-text words t q f)
+    go : (r : Reading) → reading (lookUp ws) planLimits t ≡ r → TextPlan ws t (planOf R)
+    go (read.Refused q) f = passed-refused (sym e ∙ unread-text ws t q f)
     go (read.Rows k) f =
-        let a = passed-rows R m (sym (read-text words t k f) ∙ e) in
+        let a = passed-rows R m (sym (read-text ws t k f) ∙ e) in
         let p = plan-tree R (a .0) in
         let few : length (planRows (planOf R)) ≤ 256 =
-        omega (arith, ap length (p .1), rows-read (lookUp words) planLimits t k f, read-within (lookUp words) t k f .1) in
+        omega (arith, ap length (p .1), rows-read (lookUp ws) planLimits t k f, read-within (lookUp ws) t k f .1) in
         let x = plan-accepted (planOf R) (a .2 .0) (p .0) few (a .2 .1) in
         record {
           type = a .2 .0;
           well-typed = x .0;
           within = x .1;
-          numbers = subst Numbers32 (p .1) (printable-numbers words R (rows-printable words (linesOf t)));
+          numbers = subst Numbers32 (p .1) (printable-numbers ws R (rows-printable ws (linesOf t)));
           rows = p .1;
         }

@@ -1,14 +1,15 @@
 -- The check of rows and of a text puts its questions in order: each step of `checkText` is the first "no" of its part of the list.
 -- Assumes nothing.
 use mathlib.Core.Path.{_≡_, refl, sym, ap, _∙_, subst}
-use mathlib.Core.Bool.{Bool, true, false, not, cond}
+use mathlib.Core.Bool.{Bool, true, false, not, cond, _&&_}
 use mathlib.Core.List.{List, [], _∷_, _++_}
 use mathlib.Core.Logic.{_↔_, ⊎-elim}
-use Prim.Native.Nat.{ℕ, suc, _+_}
+use Prim.Native.Nat.{ℕ, suc, _+_, _-_, _≤_}
 use native.Mathlib.Nat.{zero-add, add-zero, add-suc, suc-add}
 use native.Mathlib.Omega.{arith}
-use lib.Dec.{ltb}
-use lib.ListN.{length}
+use lib.Dec.{T, eqb, leb, ltb, leb→le}
+use lib.Ieee.Fits.{and-l, and-r}
+use lib.ListN.{length, getD}
 use Rattle.refusals.specs.declared.Refusal.{Refusal}
 use Rattle.refusals.specs.declared.Refusal.the-variants.{TextForm, LineForm, RowDue, NumberRange, NameCount}
 use Rattle.words.specs.Kinds.{Row, word-rest}
@@ -19,6 +20,8 @@ use Rattle.words.specs.declared.Operands.the-variants.{Count, NotOfSort}
 use Rattle.words.specs.declared.Sort.{Sort}
 use Rattle.words.specs.declared.Sort.the-variants as sort
 use Rattle.lines.specs.Reading.{linesOf, lineOf, rowsIn, closed, whether, formed, limited, reading, planLimits}
+use Rattle.lines.specs.Laws.{lines-uncounted}
+use Rattle.lines.specs.declared.Limits.{Limits}
 use Rattle.lines.specs.declared.Line.{Line}
 use Rattle.lines.specs.declared.Line.the-variants.{IsRow, NoRow}
 use Rattle.lines.specs.declared.Reading.{Reading}
@@ -35,7 +38,7 @@ use Rattle.typing.specs.Check.{typed, refused, checkPlan}
 use Rattle.typing.specs.Questions.{Question, ask, AllYes, FirstNo}
 use Rattle.typing.specs.TypeQuestions.{planQuestions}
 use Rattle.typing.specs.Entry.{answered, checkRows, afterReading, checkText}
-use Rattle.typing.specs.EntryQuestions.{isRow, lineQuestions, readQuestions, isOfSort, countOf, walkQuestions, kindQuestions, rowQuestions, textQuestions}
+use Rattle.typing.specs.EntryQuestions.{isRow, lineQuestions, formQuestions, readQuestions, isOfSort, countOf, walkQuestions, kindQuestions, rowQuestions, textQuestions}
 use Rattle.typing.specs.Laws.Questions.{yes-or-no, all-asked, ask-append, first-asked, end-asked, ask-through}
 use Rattle.typing.specs.Laws.TypeQuestions.{planType, plan-asks}
 
@@ -56,19 +59,46 @@ lines-ask head n (l ∷ ls) =
     go (IsRow k z) e = e
     go NoRow e = refl
 
-pub reading-asks : (head : List ℕ → Found) (t : List ℕ)
-    → reading head planLimits t ≡ ask read.Refused (readQuestions head t) (read.Rows (length (linesOf t)))
-unfolding reading readQuestions ask
-reading-asks head t =
+-- the lines of a text, from the first on
+formed-asks : (head : List ℕ → Found) (ls : List (List ℕ)) → formed head 0 ls ≡ ask read.Refused (lineQuestions head 0 ls) (read.Rows (length ls))
+formed-asks head ls =
+    lines-ask head 0 ls ∙ ap (λ (n : ℕ). ask read.Refused (lineQuestions head 0 ls) (read.Rows n)) (zero-add (length ls))
+
+-- a text that is closed within a limit has no more bytes
+closed-short : (limit : ℕ) (t : List ℕ) → closed limit t ≡ true → length t ≤ limit
+closed-short limit t e =
+    let sizes : Bool = leb 1 (length t) && leb (length t) limit in
+    let sized : T sizes = and-l sizes (eqb (getD t (length t - 1) 0) 10) (subst T (sym e) tt) in
+    leb→le (length t) limit (and-r (leb 1 (length t)) (leb (length t) limit) sized)
+
+pub reading-asks : (head : List ℕ → Found) (limits : Limits) (t : List ℕ)
+    → reading head limits t ≡ ask read.Refused (readQuestions head limits t) (read.Rows (length (linesOf t)))
+unfolding reading readQuestions formQuestions ask
+reading-asks head limits t =
     let ls : List (List ℕ) = linesOf t in
-    ap (λ (r : Reading). cond (closed 4096 t) r (read.Refused TextForm))
-    (ap (limited 256) (lines-ask head 0 ls ∙ ap (λ (n : ℕ). ask read.Refused (lineQuestions head 0 ls) (read.Rows n)) (zero-add (length ls)))
-    ∙ ask-through read.Refused read.Refused (limited 256) (λ r. refl) (lineQuestions head 0 ls) (read.Rows (length ls))
+    ap (λ (r : Reading). cond (closed (limits .bytes) t) r (read.Refused TextForm))
+    (ap (limited (limits .lines)) (formed-asks head ls)
+    ∙ ask-through read.Refused read.Refused (limited (limits .lines)) (λ r. refl) (lineQuestions head 0 ls) (read.Rows (length ls))
     ∙ sym (ask-append read.Refused (lineQuestions head 0 ls) _ (read.Rows (length ls))))
+
+-- Where a text of so many bytes has no more lines than may be, question 3 is never answered "no".
+pub reading-asks-form : (head : List ℕ → Found) (limits : Limits) (t : List ℕ) → limits .bytes ≤ limits .lines
+    → reading head limits t ≡ ask read.Refused (formQuestions head (limits .bytes) t) (read.Rows (length (linesOf t)))
+unfolding reading formQuestions ask
+reading-asks-form head limits t h = go (closed (limits .bytes) t) refl
+  where
+    few : closed (limits .bytes) t ≡ true → length t ≤ limits .lines
+    few e = let l = closed-short (limits .bytes) t e in omega (arith, l, h)
+
+    go : (b : Bool) → closed (limits .bytes) t ≡ b
+        → cond b (limited (limits .lines) (formed head 0 (linesOf t))) (read.Refused TextForm)
+        ≡ cond b (ask read.Refused (lineQuestions head 0 (linesOf t)) (read.Rows (length (linesOf t)))) (read.Refused TextForm)
+    go true e = lines-uncounted head (limits .lines) t (few e) ∙ formed-asks head (linesOf t)
+    go false e = refl
 
 -- ---- 4 to 6
 
-kinds-ask : (p : ℕ) (R : List Row) (next : Answer) → listedFrom p R next ≡ ask Refused (kindQuestions p R) next
+pub kinds-ask : (p : ℕ) (R : List Row) (next : Answer) → listedFrom p R next ≡ ask Refused (kindQuestions p R) next
 unfolding listedFrom kindQuestions ask
 kinds-ask p [] next = refl
 kinds-ask p (r ∷ rs) next = go (ltb word-rest (r .0)) (kinds-ask (suc p) rs next)
@@ -140,10 +170,10 @@ unfolding checkText textQuestions
 text-asks ws t =
     let R : List Row = rowsIn (lookUp ws) (linesOf t) in
     let next : Reading → Answer = λ r. afterReading r (checkRows R) in
-    ap next (reading-asks (lookUp ws) t)
-    ∙ ask-through read.Refused Refused next (λ r. refl) (readQuestions (lookUp ws) t) (read.Rows (length (linesOf t)))
-    ∙ ap (ask Refused (readQuestions (lookUp ws) t)) (rows-ask R)
-    ∙ sym (ask-append Refused (readQuestions (lookUp ws) t) (rowQuestions R) (Passed (length R)))
+    ap next (reading-asks (lookUp ws) planLimits t)
+    ∙ ask-through read.Refused Refused next (λ r. refl) (readQuestions (lookUp ws) planLimits t) (read.Rows (length (linesOf t)))
+    ∙ ap (ask Refused (readQuestions (lookUp ws) planLimits t)) (rows-ask R)
+    ∙ sym (ask-append Refused (readQuestions (lookUp ws) planLimits t) (rowQuestions R) (Passed (length R)))
 
 -- ---- who is refused got a first "no"; who passes is answered "yes" throughout
 

@@ -1,4 +1,4 @@
--- Texts: which are accepted. For every table of 38 distinct lower-case words. Assumes nothing.
+-- Texts: which are accepted. For every good table of words. Assumes nothing.
 use mathlib.Core.Path.{_≡_, refl, sym, ap, _∙_, subst}
 use mathlib.Core.Bool.{Bool, true, false, cond, _&&_}
 use mathlib.Core.List.{List, [], _∷_}
@@ -13,14 +13,16 @@ use Rattle.refusals.specs.declared.Refusal.{Refusal}
 use Rattle.refusals.specs.declared.Refusal.the-variants.{LineForm}
 use Rattle.words.specs.Kinds.{Row, word-rest}
 use Rattle.words.specs.Words.{lookUp}
-use Rattle.words.specs.Laws.{distinct, wellFormed, found-word}
+use Rattle.words.specs.Good.{Good}
+use Rattle.words.specs.Laws.{found-word, words-count}
 use Rattle.words.specs.declared.Found.{Found}
 use Rattle.words.specs.declared.Sort.the-variants as sort
 use Rattle.numerals.specs.Numerals.{numberOf as numeralOf}
 use Rattle.numerals.specs.Laws.{in-range}
 use Rattle.lines.specs.Reading.{linesOf, beforeComma, afterComma, lineOf, addRow, rowsIn, reading, planLimits}
 use Rattle.lines.specs.Printing.{textOf}
-use Rattle.lines.specs.Laws.{paired-row, Each, Printable, rows-back, reads-back, rows-read, prints-back}
+use Rattle.lines.specs.Printing.{Each, Printable}
+use Rattle.lines.specs.Laws.{paired-row, rows-back, reads-back, rows-read, prints-back}
 use Rattle.lines.specs.declared.Line.{Line}
 use Rattle.lines.specs.declared.Line.the-variants.{IsRow, NoRow}
 use Rattle.lines.specs.declared.Reading.{Reading}
@@ -33,7 +35,7 @@ use Rattle.syntax.specs.Walk.{listedFrom, walkTable}
 use Rattle.syntax.specs.Theorems.{WalksWell, plan-walks}
 use Rattle.typing.specs.Entry.{afterReading, checkRows, checkText}
 use Rattle.typing.specs.Accepted.{Admitted, AcceptedRows, Numbers32, AcceptedText}
-use Rattle.typing.specs.EntryQuestions.{lineQuestions, readQuestions}
+use Rattle.typing.specs.EntryQuestions.{lineQuestions, formQuestions, readQuestions}
 use Rattle.typing.specs.Laws.Questions.{yes-parts, end-asked}
 use Rattle.typing.specs.Laws.EntryQuestions.{reading-asks, passed-refused}
 use Rattle.typing.specs.Laws.Rows.{passed-rows, accepted-rows, admitted-rows}
@@ -42,10 +44,10 @@ use Rattle.typing.specs.Laws.Rows.{passed-rows, accepted-rows, admitted-
 
 -- a text that is read has at most 4,096 bytes and 256 lines
 pub read-within : (head : List ℕ → Found) (t : List ℕ) (n : ℕ) → reading head planLimits t ≡ read.Rows n → (length t ≤ 4096) × (n ≤ 256)
-unfolding readQuestions
+unfolding readQuestions formQuestions
 read-within head t n e =
-    let a = end-asked read.Refused (readQuestions head t) (read.Rows (length (linesOf t))) (read.Rows n)
-    (λ r f. let never : _≡_ {A = ℕ} 0 1 = cc in omega arith) (sym (reading-asks head t) ∙ e) in
+    let a = end-asked read.Refused (readQuestions head planLimits t) (read.Rows (length (linesOf t))) (read.Rows n)
+    (λ r f. let never : _≡_ {A = ℕ} 0 1 = cc in omega arith) (sym (reading-asks head planLimits t) ∙ e) in
     let same : read.Rows (length (linesOf t)) ≡ read.Rows n = a .1 in
     let count : length (linesOf t) ≡ n = cc in
     let sizes : Bool = leb 1 (length t) && leb (length t) 4096 in
@@ -121,16 +123,16 @@ module _ (ws : List (List ℕ)) where
 
 -- ---- accepted
 
-module _ (ws : List (List ℕ)) (most : ℕ) (count : length ws ≡ 38) (one : T (distinct ws)) (lower : T (wellFormed most ws)) where
+module _ (ws : List (List ℕ)) (good : Good ws) where
   -- a plan's rows can be printed, and are read back
   plan-printable : (P : Plan) → Admitted P → Numbers32 (planRows P) → Each (Printable ws) (planRows P)
   unfolding walkTable
   plan-printable P a n =
       let w : WalksWell sort.Plan (planRows P) = plan-walks (planRows P) .1 (P, a .in-range, refl) in
-      printable ws count (planRows P) (walk-listed (planRows P) 0 (length (planRows P)) _ w) n
+      printable ws (good .count ∙ words-count) (planRows P) (walk-listed (planRows P) 0 (length (planRows P)) _ w) n
 
   plan-rows-back : (P : Plan) (t : List ℕ) → Admitted P → Numbers32 (planRows P) → t ≡ textOf ws (planRows P) → rowsOfText ws t ≡ planRows P
-  plan-rows-back P t a n e = ap (rowsOfText ws) e ∙ rows-back ws most one lower (planRows P) (plan-printable P a n)
+  plan-rows-back P t a n e = ap (rowsOfText ws) e ∙ rows-back ws good (planRows P) (plan-printable P a n)
 
   pub accepted-text : (t : List ℕ) (n : ℕ) → checkText ws t ≡ Passed n → AcceptedText ws t n
   accepted-text t n e =
@@ -161,7 +163,7 @@ module _ (ws : List (List ℕ)) (most : ℕ) (count : length ws ≡ 38) (one : T
       let fits : length (textOf ws (planRows P)) ≤ 4096 = subst (λ (u : List ℕ). length u ≤ 4096) (a .text) (a .short) in
       let r : reading (lookUp ws) planLimits t ≡ read.Rows (length (planRows P)) =
       ap (reading (lookUp ws) planLimits) (a .text)
-      ∙ reads-back ws most one lower planLimits (planRows P) p (omega arith) fits (a .admitted .within .rowsFew) in
+      ∙ reads-back ws good planLimits (planRows P) p (omega arith) fits (a .admitted .within .rowsFew) in
       read-text ws t (length (planRows P)) r
       ∙ ap checkRows (plan-rows-back P t (a .admitted) (a .numbers) (a .text))
       ∙ admitted-rows P (a .admitted)

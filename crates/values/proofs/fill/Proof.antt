@@ -61,11 +61,15 @@ one-line-each-requires c κs =
 
 returns-3 : tie.Need-returns-3
 returns-3 c =
-    let a = c .before .before .before .before .before .before .before .before .before .before .before .before .before .args in
-    let read = c .before .before .before .before .before .before .before .before .before .read-values in
+    let at-args = c .before .before .before .before .before .before .before .before .before .before .before
+    .before .before .args in
+    let at-read-values = c .before .before .before .before .before .before .before .before .before .read-values in
+    let at-answer = c .before .before .before .before .before .answer in
+    let a = at-args in
+    let read = at-read-values in
     let test = c .before .one-line-each in
-    lines-wrong words (a .text .now) _ _ (read .ensures) (a .count) (a .store .now)
-    (c .before .before .before .before .before .answer .given .1) (c .before .before .before .if1 .left) refl refl (test .ensures) (not-true (test .result) (c .if2 .taken))
+    lines-wrong words (a .text .now) _ _ (read .ensures) (a .count) (a .store .now) (at-answer .given .1)
+    (c .before .before .before .if1 .left) refl refl (test .ensures) (not-true (test .result) (c .if2 .taken))
 
 array-share-prefix-values : tie.Need-array-share-prefix-values
 array-share-prefix-values c =
@@ -76,32 +80,48 @@ array-share-prefix-values c =
 
 slice-aggregate-put-values : tie.Need-slice-aggregate-put-values
 slice-aggregate-put-values c =
-    let text = c .before .before .before .before .before .before .before .before .before .before .before .before .before .before .args .text .now in
-    let read = c .before .before .before .before .before .before .before .before .before .before .read-values in
-    let is = c .before .before .before .before .before .before .answer .given .1 in
+    let at-args = c .before .before .before .before .before .before .before .before .before .before .before
+    .before .before .before .args in
+    let at-read-values = c .before .before .before .before .before .before .before .before .before .before
+    .read-values in
+    let at-answer = c .before .before .before .before .before .before .answer in
+    let text = at-args .text .now in
+    let read = at-read-values in
+    let is = at-answer .given .1 in
     sym (rows-front words text _ _ (read .ensures) (read .last .1 .1 .0) (read .kept .1 .1 .0) is)
 
 put-values-requires : tie.Need-put-values-requires
 put-values-requires c κs =
-    let text = c .before .before .before .before .before .before .before .before .before .before .before .before .before .before .before .args .text .now in
-    let read = c .before .before .before .before .before .before .before .before .before .before .before .read-values in
-    let is = c .before .before .before .before .before .before .before .answer .given .1 in
-    rows-front words text _ _ (read .ensures) (read .last .1 .0) (read .kept .1 .0) is
-    ∙ sym (rows-front words text _ _ (read .ensures) (read .last .1 .1 .0) (read .kept .1 .1 .0) is)
+    let at-args = c .before .before .before .before .before .before .before .before .before .before .before
+    .before .before .before .before .args in
+    let at-read-values = c .before .before .before .before .before .before .before .before .before .before .before
+    .read-values in
+    let at-answer = c .before .before .before .before .before .before .before .answer in
+    let text = at-args .text .now in
+    let read = at-read-values in
+    let is = at-answer .given .1 in
+    rows-front words text _ _ (read .ensures) (read .last .1 .0) (read .kept .1 .0) is ∙ sym (rows-front words text
+    _ _ (read .ensures) (read .last .1 .1 .0) (read .kept .1 .1 .0) is)
 
 same-length : tie.Need-same-length
 same-length c = search needs
 
 returns-4 : tie.Need-returns-4
 returns-4 c =
-    let a = c .before .before .before .before .before .before .before .before .before .before .before .before .before .before .before .before .before .args in
-    let read = c .before .before .before .before .before .before .before .before .before .before .before .before .before .read-values in
-    let test = c .before .before .before .before .before .one-line-each in
-    values-put words (a .text .now) _ _ (read .ensures) (a .count) (a .store .now)
-    (c .before .before .before .before .before .before .before .before .before .answer .given .1)
-    (c .before .before .before .before .before .before .before .if1 .left)
-    refl refl (test .ensures)
-    (not-false (test .result) (c .before .before .before .before .if2 .left)) (c .before .put-values .ensures)
+    let at-args = c .before .before .before .before .before .before .before .before .before .before .before
+    .before .before .before .before .before .before .args in
+    let at-read-values = c .before .before .before .before .before .before .before .before .before .before .before
+    .before .before .read-values in
+    let at-answer = c .before .before .before .before .before .before .before .before .before .answer in
+    let at-if1 = c .before .before .before .before .before .before .before .if1 in
+    let at-one-line-each = c .before .before .before .before .before .one-line-each in
+    let at-if2 = c .before .before .before .before .if2 in
+    let a = at-args in
+    let read = at-read-values in
+    let test = at-one-line-each in
+    values-put words (a .text .now) _ _ (read .ensures) (a .count) (a .store .now) (at-answer .given .1)
+    (at-if1 .left) refl refl (test .ensures) (not-false (test .result) (at-if2 .left))
+    (c .before .put-values .ensures)
 
 pub fill-spec : {M : Type 1} → statement M
 fill-spec =

@@ -64,16 +64,19 @@ loop-less c = search needs
 
 loop-again : tie.Need-loop-again Inv-loop μ-loop
 loop-again c =
-    let a = c .before .before .before .before .before .before .before .before .args in
+    let entry = c .before .before .before .before .before .before .before .before in
+    let a = entry .args in
     let turn = c .before .before .before .before .before .loop in
     let place = c .before .before .place in
     let inside = c .before .if2 .left in (
       turn .inv .0,
       search needs,
-      cell-once (a .count) (a .cells .now) (turn .line) (place .result)
-          (omega (arith, turn .inv .0, c .before .before .before .before .loop-test .taken)) (place .ensures)
-          (turn .seen) (turn .inv .2) inside
-          (omega (arith, inside, turn .inv .0, turn .inv .1, c .before .before .before .before .before .before .before .before .pre)) (c .if3 .left),
+      cell-once (a .count) (a .cells .now) (turn .line) (place .result) (omega (
+        arith,
+        turn .inv .0,
+        c .before .before .before .before .loop-test .taken,
+      )) (place .ensures) (turn .seen)
+          (turn .inv .2) inside (omega (arith, inside, turn .inv .0, turn .inv .1, entry .pre)) (c .if3 .left),
     )
 
 returns-4 : tie.Need-returns-4 Inv-loop μ-loop

@@ -47,14 +47,18 @@ loop-less c = search needs
 
 loop-again : tie.Need-loop-again Inv-loop μ-loop
 loop-again c =
-    let a = c .before .before .before .before .before .before .before .before .before .args in
-    let turn = c .before .before .before .before .before .before .before .loop in
+    let entry = c .before .before .before .before .before .before .before .before .before in
+    let at-loop = c .before .before .before .before .before .before .before .loop in
+    let at-loop-test = c .before .before .before .before .before .before .loop-test in
+    let a = entry .args in
+    let turn = at-loop in
     let place = c .before .before .before .place in
     let put = c .before .put-i32 in (
       ap length (put .ensures) ∙ length-set (turn .store) (place .result) _ ∙ turn .inv .0,
-      stored-next (a .cells .now) (a .values .now) (c .before .before .before .before .before .before .before .before .before .pre) (turn .line) (turn .store)
-          (c .before .before .before .before .before .before .loop-test .taken) (place .ensures) (toZ-ofZ (record { sfits = c .before .before .put-i32-arg2 .given }))
-          (put .ensures) (turn .inv .1),
+      stored-next
+          (a .cells .now) (a .values .now) (entry .pre) (turn .line) (turn .store) (at-loop-test .taken)
+          (place .ensures) (toZ-ofZ (record { sfits = c .before .before .put-i32-arg2 .given })) (put .ensures)
+          (turn .inv .1),
     )
 
 same-length : tie.Need-same-length Inv-loop μ-loop
@@ -62,9 +66,11 @@ same-length c = c .before .loop .inv .0
 
 returns : tie.Need-returns Inv-loop μ-loop
 returns c =
-    let a = c .before .before .before .args in
+    let entry = c .before .before .before in
+    let a = entry .args in
     let turn = c .before .loop in
-    stored-end (a .cells .now) (a .values .now) (c .before .before .before .pre) (turn .line) (turn .store) (c .loop-test .left) (turn .inv .1)
+    stored-end (a .cells .now) (a .values .now) (entry .pre) (turn .line) (turn .store) (c .loop-test .left)
+    (turn .inv .1)
 
 pub put-values-spec : {M : Type 1} → statement M
 put-values-spec =

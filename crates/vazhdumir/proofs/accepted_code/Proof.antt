@@ -1,3 +1,4 @@
+-- `accepted_code` meets its contract: an acceptance is 0, a refusal its code.
 use mathlib.Core.Path.{sym, ap, _∙_}
 use borrow.Author.Needs.{needs}
 use Rattle.vazhdumir.proofs.accepted_code.Statement.{statement}
@@ -7,23 +8,18 @@ use Rattle.vazhdumir.proofs.accepted_code.Lts as lts
 use Rattle.vazhdumir.specs.Codes.{acceptedCode}
 use Rattle.vazhdumir.proofs.code.Reads as code-reads
 
--- src/lib.rt:37:30
 enum-told : tie.Need-enum-told
 enum-told c = search needs
 
--- src/lib.rt:38:25
 enum-known-answer : tie.Need-enum-known-answer
 enum-known-answer c = search needs
 
--- src/lib.rt:38:37
 code-requires : tie.Need-code-requires
 code-requires c κs = search needs
 
--- src/lib.rt:33:1
 returns : tie.Need-returns
 returns c = search needs
 
--- src/lib.rt:33:1
 returns-2 : tie.Need-returns-2
 returns-2 c = c .code .ensures ∙ ap acceptedCode (sym (c .before .before .answer .given .1))
 

@@ -1,3 +1,4 @@
+-- `printed_code` meets its contract: what was put gives its bytes, a refusal its code.
 use mathlib.Core.Path.{sym, ap, _∙_}
 use borrow.Author.Needs.{needs}
 use Rattle.vazhdumir.proofs.printed_code.Statement.{statement}
@@ -7,23 +8,18 @@ use Rattle.vazhdumir.proofs.printed_code.Lts as lts
 use Rattle.vazhdumir.specs.Codes.{printedCode}
 use Rattle.vazhdumir.proofs.code.Reads as code-reads
 
--- src/lib.rt:39:23
 enum-known-printed : tie.Need-enum-known-printed
 enum-known-printed c = search needs
 
--- src/lib.rt:40:25
 enum-known-printed-2 : tie.Need-enum-known-printed-2
 enum-known-printed-2 c = search needs
 
--- src/lib.rt:40:37
 code-requires : tie.Need-code-requires
 code-requires c κs = search needs
 
--- src/lib.rt:35:1
 returns : tie.Need-returns
 returns c = search needs
 
--- src/lib.rt:35:1
 returns-2 : tie.Need-returns-2
 returns-2 c = c .code .ensures ∙ ap printedCode (sym (c .before .before .printed2 .given .1))
 

@@ -1,3 +1,4 @@
+-- `ran_code` meets its contract: a run gives its writes, a refusal its code.
 use mathlib.Core.Path.{sym, ap, _∙_}
 use borrow.Author.Needs.{needs}
 use Rattle.vazhdumir.proofs.ran_code.Statement.{statement}
@@ -7,27 +8,21 @@ use Rattle.vazhdumir.proofs.ran_code.Lts as lts
 use Rattle.vazhdumir.specs.Codes.{ranCode}
 use Rattle.vazhdumir.proofs.code.Reads as code-reads
 
--- src/lib.rt:82:25
 enum-known-ran : tie.Need-enum-known-ran
 enum-known-ran c = search needs
 
--- src/lib.rt:82:37
 cast-result : tie.Need-cast-result
 cast-result c = search needs
 
--- src/lib.rt:83:22
 enum-known-ran-2 : tie.Need-enum-known-ran-2
 enum-known-ran-2 c = search needs
 
--- src/lib.rt:83:34
 code-requires : tie.Need-code-requires
 code-requires c κs = search needs
 
--- src/lib.rt:78:1
 returns : tie.Need-returns
 returns c = search needs
 
--- src/lib.rt:78:1
 returns-2 : tie.Need-returns-2
 returns-2 c = c .code .ensures ∙ ap ranCode (sym (c .before .before .ran2 .given .1))
 

@@ -1,3 +1,4 @@
+-- `read_code` meets its contract: what was read gives its rows, a refusal its code.
 use mathlib.Core.Path.{sym, ap, _∙_}
 use borrow.Author.Needs.{needs}
 use Rattle.vazhdumir.proofs.read_code.Statement.{statement}
@@ -7,23 +8,18 @@ use Rattle.vazhdumir.proofs.read_code.Lts as lts
 use Rattle.vazhdumir.specs.Codes.{readCode}
 use Rattle.vazhdumir.proofs.code.Reads as code-reads
 
--- src/lib.rt:48:23
 enum-known-read : tie.Need-enum-known-read
 enum-known-read c = search needs
 
--- src/lib.rt:49:26
 enum-known-read-2 : tie.Need-enum-known-read-2
 enum-known-read-2 c = search needs
 
--- src/lib.rt:49:38
 code-requires : tie.Need-code-requires
 code-requires c κs = search needs
 
--- src/lib.rt:44:1
 returns : tie.Need-returns
 returns c = search needs
 
--- src/lib.rt:44:1
 returns-2 : tie.Need-returns-2
 returns-2 c = c .code .ensures ∙ ap readCode (sym (c .before .before .read2 .given .1))
 

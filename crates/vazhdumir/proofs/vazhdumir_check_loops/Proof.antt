@@ -1,3 +1,4 @@
+-- `vazhdumir_check_loops` meets its contract: the number of the answer on the text's loops.
 use mathlib.Core.Path.{ap, _∙_}
 use borrow.Author.Needs.{needs}
 use Rattle.vazhdumir.specs.Codes.{checkedCode}
@@ -8,15 +9,12 @@ use Rattle.vazhdumir.proofs.vazhdumir_check_loops.Lts as lts
 use Rattle.loops.proofs.check_text.Reads as check-text-reads
 use Rattle.vazhdumir.proofs.checked_code.Reads as checked-code-reads
 
--- src/lib.rt:58:18
 check-text-requires : tie.Need-check-text-requires
 check-text-requires c κs = search needs
 
--- src/lib.rt:58:5
 checked-code-requires : tie.Need-checked-code-requires
 checked-code-requires c κs = search needs
 
--- src/lib.rt:54:1
 returns : tie.Need-returns
 returns c = c .checked-code .ensures ∙ ap checkedCode (c .before .check-text .ensures)
 

@@ -1,3 +1,4 @@
+-- `vazhdumir_check_plan` meets its contract: the number of the answer on the text's plan.
 use mathlib.Core.Path.{ap, _∙_}
 use borrow.Author.Needs.{needs}
 use Rattle.vazhdumir.specs.Codes.{acceptedCode}
@@ -8,15 +9,12 @@ use Rattle.vazhdumir.proofs.vazhdumir_check_plan.Lts as lts
 use Rattle.plans.proofs.check_text.Reads as check-text-reads
 use Rattle.vazhdumir.proofs.accepted_code.Reads as accepted-code-reads
 
--- src/lib.rt:66:17
 check-text-requires : tie.Need-check-text-requires
 check-text-requires c κs = search needs
 
--- src/lib.rt:66:5
 accepted-code-requires : tie.Need-accepted-code-requires
 accepted-code-requires c κs = search needs
 
--- src/lib.rt:62:1
 returns : tie.Need-returns
 returns c = c .accepted-code .ensures ∙ ap acceptedCode (c .before .check-text .ensures)
 

@@ -1,3 +1,4 @@
+-- `vazhdumir_need` meets its contract: the number of the answer on the cells that the text's loops need.
 use mathlib.Core.Path.{ap, _∙_}
 use borrow.Author.Needs.{needs}
 use Rattle.vazhdumir.specs.Codes.{neededCode}
@@ -8,15 +9,12 @@ use Rattle.vazhdumir.proofs.vazhdumir_need.Lts as lts
 use Rattle.loops.proofs.need_text.Reads as need-text-reads
 use Rattle.vazhdumir.proofs.needed_code.Reads as needed-code-reads
 
--- src/lib.rt:66:17
 need-text-requires : tie.Need-need-text-requires
 need-text-requires c κs = search needs
 
--- src/lib.rt:66:5
 needed-code-requires : tie.Need-needed-code-requires
 needed-code-requires c κs = search needs
 
--- src/lib.rt:62:1
 returns : tie.Need-returns
 returns c = c .needed-code .ensures ∙ ap neededCode (c .before .need-text .ensures)
 

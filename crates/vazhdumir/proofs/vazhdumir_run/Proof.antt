@@ -1,3 +1,4 @@
+-- `vazhdumir_run` meets its contract: the number of the run's answer, and the bytes as the run leaves them.
 use borrow.Author.Needs.{needs}
 use Rattle.words.specs.Words.{words}
 use Rattle.run.specs.Run.{runText}
@@ -9,23 +10,18 @@ use Rattle.vazhdumir.proofs.vazhdumir_run.Lts as lts
 use Rattle.run.proofs.run_text.Reads as run-text-reads
 use Rattle.vazhdumir.proofs.ran_code.Reads as ran-code-reads
 
--- src/lib.rt:133:41
 slice-aggregate-run-text : tie.Need-slice-aggregate-run-text
 slice-aggregate-run-text c = search needs
 
--- src/lib.rt:133:14
 run-text-requires : tie.Need-run-text-requires
 run-text-requires c κs = search needs
 
--- src/lib.rt:133:5
 ran-code-requires : tie.Need-ran-code-requires
 ran-code-requires c κs = search needs
 
--- src/lib.rt:128:1
 same-length : tie.Need-same-length
 same-length c = search needs
 
--- src/lib.rt:128:1
 returns : tie.Need-returns
 returns c =
     let a = c .before .before .before .before .before .before .before .before .before .args in

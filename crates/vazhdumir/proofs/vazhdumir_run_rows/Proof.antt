@@ -1,3 +1,4 @@
+-- `vazhdumir_run_rows` meets its contract: the number of the run's answer, and the bytes as the run leaves them.
 use borrow.Author.Needs.{needs}
 use Rattle.words.specs.Kinds.{rowsOf}
 use Rattle.run.specs.Run.{runTable}
@@ -9,28 +10,26 @@ use Rattle.vazhdumir.proofs.vazhdumir_run_rows.Lts as lts
 use Rattle.run.proofs.run_rows.Reads as run-rows-reads
 use Rattle.vazhdumir.proofs.ran_code.Reads as ran-code-reads
 
--- src/lib.rt:147:51
 slice-aggregate-run-rows : tie.Need-slice-aggregate-run-rows
 slice-aggregate-run-rows c = search needs
 
--- src/lib.rt:147:14
 run-rows-requires : tie.Need-run-rows-requires
 run-rows-requires c κs = search needs
 
--- src/lib.rt:147:5
 ran-code-requires : tie.Need-ran-code-requires
 ran-code-requires c κs = search needs
 
--- src/lib.rt:137:1
 same-length : tie.Need-same-length
 same-length c = search needs
 
--- src/lib.rt:137:1
 returns : tie.Need-returns
 returns c =
-    let a = c .before .before .before .before .before .before .before .before .before .args in
-    let ran = c .before .before .before .before .run-rows .ensures in
-    run-coded (a .bytes .now) _ _ (ran .0) (runTable (rowsOf (a .kinds .now) (a .numbers .now)) (a .order)) _ _ (c .ran-code .ensures) (ran .1)
+    let at-args = c .before .before .before .before .before .before .before .before .before .args in
+    let at-run-rows = c .before .before .before .before .run-rows in
+    let a = at-args in
+    let ran = at-run-rows .ensures in
+    run-coded (a .bytes .now) _ _ (ran .0) (runTable (rowsOf (a .kinds .now) (a .numbers .now)) (a .order)) _ _
+    (c .ran-code .ensures) (ran .1)
 
 pub vazhdumir-run-rows-spec : {M : Type 1} → statement M
 vazhdumir-run-rows-spec =

@@ -35,8 +35,10 @@ returns : tie.Need-returns Inv-loop μ-loop
 returns c =
     let a = c .before .before .before .before .before .before .before .args in
     let turn = c .before .before .before .before .before .loop in
-    sym
-    (turn .inv .1 ∙ look-next words (a .letters .now) (turn .kind) (omega (arith, words-count)) ∙ ap (λ (b : Bool). cond b (At (turn .kind)) (lookFrom (turn .kind + 1) (drop (turn .kind + 1) words) (a .letters .now))) (sym (c .before .same .ensures (turn .kind) (c .before .before .row-in .ensures)) ∙ c .if1 .taken))
+    sym (turn .inv .1 ∙ look-next words (a .letters .now) (turn .kind) (omega (arith, words-count)) ∙ ap (λ
+    (b : Bool). cond b (At (turn .kind)) (lookFrom (turn .kind + 1) (drop (turn .kind + 1) words)
+    (a .letters .now))) (sym (c .before .same .ensures (turn .kind) (c .before .before .row-in .ensures)) ∙
+    c .if1 .taken))
 
 add-kind : tie.Need-add-kind Inv-loop μ-loop
 add-kind c = search needs
@@ -57,9 +59,8 @@ loop-again c =
     )
 
 returns-2 : tie.Need-returns-2 Inv-loop μ-loop
-returns-2 c =
-    sym
-    (c .before .loop .inv .1 ∙ look-end words (c .before .before .before .args .letters .now) (c .before .loop .kind) (omega (arith, words-count)))
+returns-2 c = sym (c .before .loop .inv .1 ∙ look-end words (c .before .before .before .args .letters .now)
+    (c .before .loop .kind) (omega (arith, words-count)))
 
 pub look-up-spec : {M : Type 1} → statement M
 look-up-spec =

@@ -29,8 +29,9 @@ returns c =
 digit-requires : tie.Need-digit-requires
 digit-requires c κs =
     let word-at = c .before .before .word-at in
-    subst (λ (j : ℕ). 48 ≤ getD (word-at .result) (9 + j) 0) (sym (c .before .column .ensures .0))
-    (column-count _ _ (word-at .ensures) (c .before .before .before .args .sort) (λ e. c .if1 .left (ap (λ (j : ℕ). getD (word-at .result) (9 + j) 0) (c .before .column .ensures .0) ∙ e)) .0)
+    subst (λ (j : ℕ). 48 ≤ getD (word-at .result) (9 + j) 0) (sym (c .before .column .ensures .0)) (column-count _ _
+    (word-at .ensures) (c .before .before .before .args .sort) (λ e. c .if1 .left (ap
+    (λ (j : ℕ). getD (word-at .result) (9 + j) 0) (c .before .column .ensures .0) ∙ e)) .0)
 
 returns-2 : tie.Need-returns-2
 returns-2 c =

@@ -42,10 +42,13 @@ array-read-if2 c =
     omega (arith, word-length _ _ (pre .1), word-short (pre .0), c .before .before .before .before .digit .ensures)
 
 returns-2 : tie.Need-returns-2 Inv-loop μ-loop
-returns-2 c = λ kind e.
-    let turn = c .before .before .before .loop in
-    same-false _ _
-    (λ q. c .if2 .taken (ap (λ (l : List ℕ). getD l (turn .i) 0) q ∙ sym (word-letter kind _ e (turn .i) (omega (arith, word-length kind _ e, c .before .before .before .before .before .digit .ensures)))))
+returns-2 c = λ kind e. let turn = c .before .before .before .loop in same-false _ _ (λ q. c .if2 .taken (ap
+    (λ (l : List ℕ). getD l (turn .i) 0) q ∙ sym (word-letter kind _ e (turn .i) (omega (
+      arith,
+      word-length
+          kind _ e,
+      c .before .before .before .before .before .digit .ensures,
+    )))))
 
 add-i : tie.Need-add-i Inv-loop μ-loop
 add-i c = search needs
@@ -57,13 +60,13 @@ loop-again : tie.Need-loop-again Inv-loop μ-loop
 loop-again c = (search needs, below-more _ _ (c .before .before .before .loop .inv .1) (c .if2 .left))
 
 returns-3 : tie.Need-returns-3 Inv-loop μ-loop
-returns-3 c = λ kind e.
-    let a = c .before .before .before .before .before .args in
-    let n = c .before .before .before .digit .ensures in
-    let size : length (a .letters .now) ≡ length (wordAt words kind) = omega (arith, c .before .before .if1 .left, word-length kind _ e, n) in
-    same-true _ _
-    (ext-getD 0 (a .letters .now) (wordAt words kind) size
-    (λ k h. c .before .loop .inv .1 k (omega (arith, size, c .before .before .if1 .left)) ∙ word-letter kind _ e k (omega (arith, size))))
+returns-3 c =
+    let at-if1 = c .before .before .if1 in
+    λ kind e. let a = c .before .before .before .before .before .args in let n =
+    c .before .before .before .digit .ensures in let size : length (a .letters .now) ≡ length (wordAt words kind) =
+    omega (arith, at-if1 .left, word-length kind _ e, n) in same-true _ _ (ext-getD 0 (a .letters .now)
+    (wordAt words kind) size (λ k h. c .before .loop .inv .1 k (omega (arith, size, at-if1 .left)) ∙ word-letter
+    kind _ e k (omega (arith, size))))
 
 pub same-spec : {M : Type 1} → statement M
 same-spec =

@@ -52,20 +52,23 @@ same-length c = search needs
 
 returns : tie.Need-returns
 returns c =
-    let a = c .before .before .before .before .before .before .before .before .before .before .before .before .before .before .before .before .before .before .before .args in
-    let letters = c .before .before .before .before .before .before .before .before .before .before .before .before .before .length in
-    let put-u8 = c .before .before .before .before .before .before .before .before .before .before .before .put-u8 in
-    let size2 = c .before .before .before .before .size in
-    let number = toZ-ofZ
-    (c .before .before .before .before .before .before .before .before .before .before .before .before .before .before .before .before .before .before .before .fits .number)
+    let entry = c .before .before .before .before .before .before .before .before .before .before .before
+    .before .before .before .before .before .before .before .before in
+    let a = entry .args in
+    let letters = c .before .before .before .before .before .before .before .before .before .before .before
+    .before .before .length in
+    let put-u8 = c .before .before .before .before .before .before .before .before .before .before .before .put-u8
     in
+    let size2 = c .before .before .before .before .size in
+    let number = toZ-ofZ (entry .fits .number) in
     let size = size2 .ensures .0 ∙ ap (λ (z : ℤ). length (decimal z)) number in (
       omega (arith, line-length words (a .kind, a .number), letters .ensures .0, size),
-      line-put words (a .kind) (a .number) (a .text .now) (a .at) (letters .result) (size2 .result)
-          (letters .ensures .0) size
-          (c .before .before .before .before .before .before .before .before .before .before .before .before .before .before .before .before .put-word .ensures)
-          (put-u8 .ensures)
-          (c .before .before .before .before .before .before .before .put .ensures ∙ ap (sets (put-u8 .last .0) (a .at + letters .result + 1)) (ap decimal number))
+      line-put words (a .kind)
+          (a .number) (a .text .now) (a .at) (letters .result) (size2 .result) (letters .ensures .0) size
+          (c .before .before .before .before .before .before .before .before .before .before .before
+          .before .before .before .before .before .put-word .ensures) (put-u8 .ensures)
+          (c .before .before .before .before .before .before .before .put .ensures ∙ ap
+          (sets (put-u8 .last .0) (a .at + letters .result + 1)) (ap decimal number))
           (c .before .before .put-u82 .ensures),
     )
 

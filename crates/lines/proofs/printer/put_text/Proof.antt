@@ -74,9 +74,8 @@ returns : tie.Need-returns Inv-loop μ-loop
 returns c =
     let a = c .before .before .before .before .before .args in
     let turn = c .before .loop in
-    ap (sets (turn .text) (turn .at))
-    (sym (text-end words (a .kinds .now) (a .numbers .now) (turn .i) (omega (arith, c .before .before .rows-of .ensures .0, c .loop-test .left))))
-    ∙ turn .inv .3
+    ap (sets (turn .text) (turn .at)) (sym (text-end words (a .kinds .now) (a .numbers .now) (turn .i) (omega
+    (arith, c .before .before .rows-of .ensures .0, c .loop-test .left)))) ∙ turn .inv .3
 
 pub put-text-spec : {M : Type 1} → statement M
 put-text-spec =

@@ -49,12 +49,16 @@ loop-again c =
     let letter = c .before .before .before .letter in
     let put-u8 = c .before .before .put-u8 in (
       search needs,
-      ap length (put-u8 .ensures) ∙ length-set (turn .text) (a .at + turn .i) (letter .result) ∙ turn .inv .1,
-      ap (λ (t : List ℕ). sets t (a .at + (turn .i + 1)) (drop (turn .i + 1) (wordAt words (a .kind))))
-          (put-u8 .ensures ∙ ap (set (turn .text) (a .at + turn .i)) (letter .ensures))
-          ∙ sym
-          (sets-next (turn .text) (a .at) (turn .i) (wordAt words (a .kind)) 0 (omega (arith, c .before .before .before .before .before .before .before .length .ensures .0, c .before .before .before .before .before .loop-test .taken)))
-          ∙ turn .inv .2,
+      ap length (put-u8 .ensures) ∙ length-set (turn .text) (a .at + turn .i) (letter .result) ∙
+          turn .inv .1,
+      ap (λ (t : List ℕ). sets t (a .at + (turn .i + 1))
+          (drop (turn .i + 1) (wordAt words (a .kind)))) (put-u8 .ensures ∙ ap
+          (set (turn .text) (a .at + turn .i)) (letter .ensures)) ∙ sym (sets-next (turn .text) (a .at) (turn .i)
+          (wordAt words (a .kind)) 0 (omega (
+            arith,
+            c .before .before .before .before .before .before .before .length .ensures .0,
+            c .before .before .before .before .before .loop-test .taken,
+          ))) ∙ turn .inv .2,
     )
 
 same-length : tie.Need-same-length Inv-loop μ-loop

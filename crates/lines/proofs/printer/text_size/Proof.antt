@@ -47,14 +47,22 @@ returns : tie.Need-returns Inv-loop μ-loop
 returns c =
     let a = c .before .before .before .before .before .before .before .before .args in
     let turn = c .before .before .before .before .before .loop in
-    let size = c .before .line-size .ensures .0
-    ∙ ap (λ (z : ℤ). length (written words (getD (a .kinds .now) (turn .i) 0, z)))
-    (held (getD (a .numbers .now) (turn .i) (pos 0)) (c .before .before .line-size-arg .given)) in
-    let rest = size-from words (a .kinds .now) (a .numbers .now) (turn .i)
-    (omega (arith, c .before .before .before .before .before .before .rows-of .ensures .0, c .before .before .before .before .loop-test .taken))
-    in
-    too-long (textOf words (rowsOf (a .kinds .now) (a .numbers .now))) (a .room)
-    (omega (arith, turn .inv .1, turn .inv .2, c .if1 .taken, size, rest))
+    let size = c .before .line-size .ensures .0 ∙ ap (λ (z : ℤ). length
+    (written words (getD (a .kinds .now) (turn .i) 0, z))) (held (getD (a .numbers .now) (turn .i) (pos 0))
+    (c .before .before .line-size-arg .given)) in
+    let rest = size-from words (a .kinds .now) (a .numbers .now) (turn .i) (omega (
+      arith,
+      c .before .before .before .before .before .before .rows-of .ensures .0,
+      c .before .before .before .before .loop-test .taken,
+    )) in
+    too-long (textOf words (rowsOf (a .kinds .now) (a .numbers .now))) (a .room) (omega (
+      arith,
+      turn .inv .1,
+      turn .inv .2,
+      c .if1 .taken,
+      size,
+      rest,
+    ))
 
 add-bytes : tie.Need-add-bytes Inv-loop μ-loop
 add-bytes c = search needs
@@ -69,21 +77,29 @@ loop-again : tie.Need-loop-again Inv-loop μ-loop
 loop-again c =
     let a = c .before .before .before .before .before .before .before .before .args in
     let turn = c .before .before .before .before .before .loop in
-    let size = c .before .line-size .ensures .0
-    ∙ ap (λ (z : ℤ). length (written words (getD (a .kinds .now) (turn .i) 0, z)))
-    (held (getD (a .numbers .now) (turn .i) (pos 0)) (c .before .before .line-size-arg .given)) in
-    let rest = size-from words (a .kinds .now) (a .numbers .now) (turn .i)
-    (omega (arith, c .before .before .before .before .before .before .rows-of .ensures .0, c .before .before .before .before .loop-test .taken))
-    in
+    let size = c .before .line-size .ensures .0 ∙ ap (λ (z : ℤ). length
+    (written words (getD (a .kinds .now) (turn .i) 0, z))) (held (getD (a .numbers .now) (turn .i) (pos 0))
+    (c .before .before .line-size-arg .given)) in
+    let rest = size-from words (a .kinds .now) (a .numbers .now) (turn .i) (omega (
+      arith,
+      c .before .before .before .before .before .before .rows-of .ensures .0,
+      c .before .before .before .before .loop-test .taken,
+    )) in
     (search needs, omega (arith, c .if1 .left, turn .inv .1), omega (arith, turn .inv .2, size, rest))
 
 returns-2 : tie.Need-returns-2 Inv-loop μ-loop
 returns-2 c =
     let a = c .before .before .before .before .args in
     let turn = c .before .loop in
-    fits-in (textOf words (rowsOf (a .kinds .now) (a .numbers .now))) (a .room) (turn .bytes)
-    (omega (arith, turn .inv .2, ap length (text-end words (a .kinds .now) (a .numbers .now) (turn .i) (omega (arith, c .before .before .rows-of .ensures .0, c .loop-test .left)))))
-    (turn .inv .1)
+    fits-in (textOf words (rowsOf (a .kinds .now) (a .numbers .now))) (a .room) (turn .bytes) (omega (
+      arith,
+      turn .inv .2,
+      ap length (text-end words (a .kinds .now) (a .numbers .now) (turn .i) (omega (
+        arith,
+        c .before .before .rows-of .ensures .0,
+        c .loop-test .left,
+      ))),
+    )) (turn .inv .1)
 
 pub text-size-spec : {M : Type 1} → statement M
 text-size-spec =

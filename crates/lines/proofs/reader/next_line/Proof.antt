@@ -25,9 +25,10 @@ place-of-requires c κs = search needs
 
 slice-aggregate-line-of : tie.Need-slice-aggregate-line-of
 slice-aggregate-line-of c =
-    let a = c .before .before .before .before .args in
-    sym
-    (length-take-le (c .before .place-of .result) (take (length (a .text .now) - a .at) (drop (a .at) (a .text .now))) (c .before .place-of .ensures .1))
+    let at-args = c .before .before .before .before .args in
+    let a = at-args in
+    sym (length-take-le (c .before .place-of .result) (take (length (a .text .now) - a .at)
+    (drop (a .at) (a .text .now))) (c .before .place-of .ensures .1))
 
 line-of-requires : tie.Need-line-of-requires
 line-of-requires c κs = search needs
@@ -35,14 +36,24 @@ line-of-requires c κs = search needs
 add-t8 : tie.Need-add-t8
 add-t8 c =
     let a = c .before .before .before .before .before .args in
-    omega
-    (arith, c .before .before .place-of .ensures .1, length-take (length (a .text .now) - a .at) (drop (a .at) (a .text .now)), length-drop (a .at) (a .text .now))
+    omega (
+      arith,
+      c .before .before .place-of .ensures .1,
+      length-take (length (a .text .now) - a .at)
+          (drop (a .at) (a .text .now)),
+      length-drop (a .at) (a .text .now),
+    )
 
 add-t12 : tie.Need-add-t12
 add-t12 c =
     let a = c .before .before .before .before .before .args in
-    omega
-    (arith, c .before .before .place-of .ensures .1, length-take (length (a .text .now) - a .at) (drop (a .at) (a .text .now)), length-drop (a .at) (a .text .now))
+    omega (
+      arith,
+      c .before .before .place-of .ensures .1,
+      length-take (length (a .text .now) - a .at)
+          (drop (a .at) (a .text .now)),
+      length-drop (a .at) (a .text .now),
+    )
 
 returns : tie.Need-returns
 returns c =
@@ -50,9 +61,15 @@ returns c =
     let place-of = c .before .before .place-of in (
       next-line (headOf words (a .heads)) (a .text .now) (a .at) (place-of .result) (place-of .ensures .0)
           (c .line-of .ensures),
-      next-after (headOf words (a .heads)) (a .text .now) (a .at) (place-of .result) (place-of .ensures .0),
-      omega
-          (arith, place-of .ensures .1, length-take (length (a .text .now) - a .at) (drop (a .at) (a .text .now)), length-drop (a .at) (a .text .now)),
+      next-after (headOf words (a .heads)) (a .text .now) (a .at) (place-of .result)
+          (place-of .ensures .0),
+      omega (
+        arith,
+        place-of .ensures .1,
+        length-take (length (a .text .now) - a .at)
+            (drop (a .at) (a .text .now)),
+        length-drop (a .at) (a .text .now),
+      ),
     )
 
 pub next-line-spec : {M : Type 1} → statement M

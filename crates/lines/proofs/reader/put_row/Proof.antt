@@ -48,9 +48,12 @@ returns-2 c =
     let line = c .before .before .before .before .before .before .before .before .line in (
       search needs,
       (
-        row-put (λ (r : Row). r .0) _ _ (line .given .1) (c .before .before .before .before .before .put-u8 .ensures),
-        row-put (λ (r : Row). r .1) _ _ (line .given .1)
-            (c .before .put-i32 .ensures ∙ ap (set (a .numbers .now) (a .at)) (held (line .given .0 .1 .0) (c .before .before .before .before .before .before .before .known-told .given .1 .0 .1))),
+        row-put (λ (r : Row). r .0) _ _ (line .given .1)
+            (c .before .before .before .before .before .put-u8 .ensures),
+        row-put (λ (r : Row). r .1) _ _
+            (line .given .1) (c .before .put-i32 .ensures ∙ ap (set (a .numbers .now) (a .at)) (held
+            (line .given .0 .1 .0)
+            (c .before .before .before .before .before .before .before .known-told .given .1 .0 .1))),
       ),
     )
 

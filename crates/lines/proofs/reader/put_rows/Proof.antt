@@ -17,9 +17,11 @@ use Rattle.lines.proofs.reader.put_rows.Tie as tie
 
 abbrev Inv-loop : tie.InvT-loop
 Inv-loop text kinds₀ numbers₀ at₀ row₀ kinds numbers at row =
-    (at ≤ length text + 1) × (row ≤ at) × (length kinds ≡ length kinds₀) × (length numbers ≡ length numbers₀)
-    × (sets kinds row (kindsOf (rowsIn (headOf words Words) (linesOf (drop at text)))) ≡ sets kinds₀ 0 (kindsOf (rowsIn (headOf words Words) (linesOf text))))
-    × (sets numbers row (numbersOf (rowsIn (headOf words Words) (linesOf (drop at text)))) ≡ sets numbers₀ 0 (numbersOf (rowsIn (headOf words Words) (linesOf text))))
+    (at ≤ length text + 1) × (row ≤ at) × (length kinds ≡ length kinds₀) × (length numbers ≡ length numbers₀) ×
+    (sets kinds row (kindsOf (rowsIn (headOf words Words) (linesOf (drop at text)))) ≡ sets kinds₀ 0
+    (kindsOf (rowsIn (headOf words Words) (linesOf text)))) × (sets numbers row (numbersOf
+    (rowsIn (headOf words Words) (linesOf (drop at text)))) ≡ sets numbers₀ 0
+    (numbersOf (rowsIn (headOf words Words) (linesOf text))))
 
 abbrev μ-loop : tie.MeasureT-loop
 μ-loop text kinds₀ numbers₀ at₀ row₀ kinds numbers at row = length text - at
@@ -40,9 +42,11 @@ put-row-requires c κs =
     )
 
 loop-less : tie.Need-loop-less Inv-loop μ-loop
-loop-less c =
-    omega
-    (arith, c .before .before .before .before .before .before .next-line .ensures .1, c .before .before .before .before .before .before .before .loop-test .taken)
+loop-less c = omega (
+  arith,
+  c .before .before .before .before .before .before .next-line .ensures .1,
+  c .before .before .before .before .before .before .before .loop-test .taken,
+)
 
 loop-again : tie.Need-loop-again Inv-loop μ-loop
 loop-again c =

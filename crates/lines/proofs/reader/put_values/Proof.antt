@@ -17,9 +17,11 @@ use Rattle.lines.proofs.reader.put_values.Tie as tie
 
 abbrev Inv-loop : tie.InvT-loop
 Inv-loop text cells₀ values₀ at₀ row₀ cells values at row =
-    (at ≤ length text + 1) × (row ≤ at) × (length cells ≡ length cells₀) × (length values ≡ length values₀)
-    × (sets cells row (kindsOf (rowsIn (headOf words Cells) (linesOf (drop at text)))) ≡ sets cells₀ 0 (kindsOf (rowsIn (headOf words Cells) (linesOf text))))
-    × (sets values row (numbersOf (rowsIn (headOf words Cells) (linesOf (drop at text)))) ≡ sets values₀ 0 (numbersOf (rowsIn (headOf words Cells) (linesOf text))))
+    (at ≤ length text + 1) × (row ≤ at) × (length cells ≡ length cells₀) × (length values ≡ length values₀) × (sets
+    cells row (kindsOf (rowsIn (headOf words Cells) (linesOf (drop at text)))) ≡ sets cells₀ 0
+    (kindsOf (rowsIn (headOf words Cells) (linesOf text)))) × (sets values row (numbersOf
+    (rowsIn (headOf words Cells) (linesOf (drop at text)))) ≡ sets values₀ 0
+    (numbersOf (rowsIn (headOf words Cells) (linesOf text))))
 
 abbrev μ-loop : tie.MeasureT-loop
 μ-loop text cells₀ values₀ at₀ row₀ cells values at row = length text - at
@@ -40,9 +42,11 @@ put-value-requires c κs =
     )
 
 loop-less : tie.Need-loop-less Inv-loop μ-loop
-loop-less c =
-    omega
-    (arith, c .before .before .before .before .before .before .next-line .ensures .1, c .before .before .before .before .before .before .before .loop-test .taken)
+loop-less c = omega (
+  arith,
+  c .before .before .before .before .before .before .next-line .ensures .1,
+  c .before .before .before .before .before .before .before .loop-test .taken,
+)
 
 loop-again : tie.Need-loop-again Inv-loop μ-loop
 loop-again c =

@@ -13,7 +13,8 @@ use Rattle.loops.proofs.cells.need.Statement.{statement}
 use Rattle.loops.proofs.cells.need.Tie as tie
 
 abbrev Inv-loop : tie.InvT-loop
-Inv-loop kinds numbers sum₀ i₀ sum i = (i ≤ length kinds) × (sum ≤ 2147483648 * i) × (sum + needed.cellsIn (sums.rowsFrom kinds numbers i) ≡ needed.cellsIn (rowsOf kinds numbers))
+Inv-loop kinds numbers sum₀ i₀ sum i = (i ≤ length kinds) × (sum ≤ 2147483648 * i) × (sum + needed.cellsIn
+    (sums.rowsFrom kinds numbers i) ≡ needed.cellsIn (rowsOf kinds numbers))
 
 abbrev μ-loop : tie.MeasureT-loop
 μ-loop kinds numbers sum₀ i₀ sum i = length kinds - i
@@ -44,16 +45,18 @@ loop-less c = search needs
 
 loop-again : tie.Need-loop-again Inv-loop μ-loop
 loop-again c =
-    let a = c .before .before .before .before .before .before .args in
+    let entry = c .before .before .before .before .before .before in
+    let at-loop-test = c .before .before .before .loop-test in
+    let a = entry .args in
     let turn = c .before .before .before .before .loop in (
       omega arith,
       omega (arith, c .row-cells .ensures .1),
-      ap (λ (x : ℕ). turn .sum + x + needed.cellsIn (sums.rowsFrom (a .kinds .now) (a .numbers .now) (turn .i + 1)))
-          (sums.row-read (getD (a .kinds .now) (turn .i) 0) (getD (a .numbers .now) (turn .i) (pos 0)) (record { sfits = c .before .row-cells-arg .given }) (c .row-cells .ensures .0))
-          ∙ sums.sum-again (a .kinds .now) (a .numbers .now) (turn .i) (turn .sum)
-          (c .before .before .before .loop-test .taken)
-          (omega (arith, c .before .before .before .before .before .before .pre .0, c .before .before .before .loop-test .taken))
-          (turn .inv .2),
+      ap (λ (x : ℕ). turn .sum + x + needed.cellsIn
+          (sums.rowsFrom (a .kinds .now) (a .numbers .now) (turn .i + 1))) (sums.row-read
+          (getD (a .kinds .now) (turn .i) 0) (getD (a .numbers .now) (turn .i) (pos 0))
+          (record { sfits = c .before .row-cells-arg .given }) (c .row-cells .ensures .0)) ∙ sums.sum-again
+          (a .kinds .now) (a .numbers .now) (turn .i) (turn .sum) (at-loop-test .taken)
+          (omega (arith, entry .pre .0, at-loop-test .taken)) (turn .inv .2),
     )
 
 returns : tie.Need-returns Inv-loop μ-loop

@@ -8,7 +8,11 @@ use Rattle.store.proofs.bytes.put_cell.Statement.{statement}
 use Rattle.store.proofs.bytes.put_cell.Tie as tie
 
 returns : tie.Need-returns
-returns c = (puts.put-outside (c .before .before .args .bytes .now) (c .before .before .args .cell) (c .before .before .args .number) (c .if1 .taken), (refl, refl))
+returns c =
+    let entry = c .before .before in (
+      puts.put-outside (entry .args .bytes .now) (entry .args .cell) (entry .args .number) (c .if1 .taken),
+      (refl, refl),
+    )
 
 mul-at : tie.Need-mul-at
 mul-at c = search needs
@@ -53,7 +57,15 @@ same-length : tie.Need-same-length
 same-length c = search needs
 
 returns-2 : tie.Need-returns-2
-returns-2 c = puts.put-inside (c .before .before .before .before .before .before .before .args .bytes .now) (c .before .before .before .before .before .before .before .args .cell) (omega (arith, c .before .before .before .before .before .if1 .left)) (c .before .before .before .before .before .before .before .args .number) (c .before .before .before .before .unsigned .result) _ _ _ _ (c .before .before .before .before .before .before .before .fits .number) (c .before .before .before .before .unsigned .ensures) (c .before .before .before .low .ensures) (c .before .before .low2 .ensures) (c .before .low3 .ensures) (c .low4 .ensures)
+returns-2 c =
+    let entry = c .before .before .before .before .before .before .before in
+    let at-unsigned = c .before .before .before .before .unsigned in
+    puts.put-inside (entry .args .bytes .now) (entry .args .cell) (omega (
+      arith,
+      c .before .before .before .before .before .if1 .left,
+    )) (entry .args .number) (at-unsigned .result) _ _ _ _
+    (entry .fits .number) (at-unsigned .ensures) (c .before .before .before .low .ensures)
+    (c .before .before .low2 .ensures) (c .before .low3 .ensures) (c .low4 .ensures)
 
 pub put-cell-spec : {M : Type 1} → statement M
 put-cell-spec =

@@ -37,7 +37,10 @@ in-force-requires-5 : tie.Need-in-force-requires-5
 in-force-requires-5 c κs = search needs
 
 returns : tie.Need-returns
-returns c = c .in-force .ensures ∙ opened-head (c .before .before .args .kind) (c .before .before .args .number) (c .before .before .args .names) (c .before .match .keys1)
+returns c =
+    let entry = c .before .before in
+    c .in-force .ensures ∙ opened-head (entry .args .kind) (entry .args .number) (entry .args .names)
+    (c .before .match .keys1)
 
 returns-2 : tie.Need-returns-2
 unfolding openedBy oneOf
@@ -48,19 +51,36 @@ unfolding openedBy oneOf
 returns-3 c = c .in-force3 .ensures ∙ rw (c .before .match .keys3)
 
 returns-4 : tie.Need-returns-4
-returns-4 c = c .in-force4 .ensures ∙ opened-map (c .before .before .before .before .args .kind) (c .before .before .before .before .args .number) (c .before .before .before .before .args .names) (c .before .before .if1 .left) (c .before .if2 .taken)
+returns-4 c =
+    let entry = c .before .before .before .before in
+    c .in-force4 .ensures ∙ opened-map (entry .args .kind) (entry .args .number) (entry .args .names)
+    (c .before .before .if1 .left) (c .before .if2 .taken)
 
 returns-5 : tie.Need-returns-5
-returns-5 c = c .in-force5 .ensures ∙ opened-loop (c .before .before .before .before .before .before .args .kind) (c .before .before .before .before .before .before .args .number) (c .before .before .before .before .before .before .args .names) (c .before .before .if3 .left) (c .before .if4 .taken)
+returns-5 c =
+    let entry = c .before .before .before .before .before .before in
+    c .in-force5 .ensures ∙ opened-loop (entry .args .kind) (entry .args .number) (entry .args .names)
+    (c .before .before .if3 .left) (c .before .if4 .taken)
 
 returns-6 : tie.Need-returns-6
-returns-6 c = opened-none (c .before .before .args .kind) (c .before .before .args .number) (c .before .before .args .names) (c .before .match .rest .0 .0 .1) (c .before .match .rest .0 .1) (c .before .match .rest .1) (λ a b. omega arith) (λ a b. omega arith)
+returns-6 c =
+    let entry = c .before .before in
+    opened-none (entry .args .kind) (entry .args .number) (entry .args .names) (c .before .match .rest .0 .0 .1)
+    (c .before .match .rest .0 .1) (c .before .match .rest .1) (λ a b. omega arith) (λ a b. omega arith)
 
 returns-7 : tie.Need-returns-7
-returns-7 c = opened-none (c .before .before .before .before .args .kind) (c .before .before .before .before .args .number) (c .before .before .before .before .args .names) (c .before .before .before .match .rest .0 .0 .1) (c .before .before .before .match .rest .0 .1) (c .before .before .before .match .rest .1) (λ a b. omega arith) (λ a b. omega arith)
+returns-7 c =
+    let entry = c .before .before .before .before in
+    let at-match = c .before .before .before .match in
+    opened-none (entry .args .kind) (entry .args .number) (entry .args .names) (at-match .rest .0 .0 .1)
+    (at-match .rest .0 .1) (at-match .rest .1) (λ a b. omega arith) (λ a b. omega arith)
 
 returns-8 : tie.Need-returns-8
-returns-8 c = opened-none (c .before .before .before .before .before .args .kind) (c .before .before .before .before .before .args .number) (c .before .before .before .before .before .args .names) (c .before .before .before .before .match .rest .0 .0 .1) (c .before .before .before .before .match .rest .0 .1) (c .before .before .before .before .match .rest .1) (λ a b. omega arith) (λ a b. omega arith)
+returns-8 c =
+    let entry = c .before .before .before .before .before in
+    let at-match = c .before .before .before .before .match in
+    opened-none (entry .args .kind) (entry .args .number) (entry .args .names) (at-match .rest .0 .0 .1)
+    (at-match .rest .0 .1) (at-match .rest .1) (λ a b. omega arith) (λ a b. omega arith)
 
 pub opened-spec : {M : Type 1} → statement M
 opened-spec =

@@ -14,11 +14,17 @@ opened-requires c κs = search needs
 
 returns : tie.Need-returns
 unfolding operandOf
-returns c = rw (c .before .if1 .taken) (ap₂ due (c .before .before .operand-sort .ensures ∙ ap (operandSort (c .before .before .before .before .args .due .sort) (c .before .before .before .before .args .kind)) (c .before .if1 .taken)) (c .opened .ensures))
+returns c =
+    let entry = c .before .before .before .before in
+    rw (c .before .if1 .taken) (ap₂ due (c .before .before .operand-sort .ensures ∙ ap
+    (operandSort (entry .args .due .sort) (entry .args .kind)) (c .before .if1 .taken)) (c .opened .ensures))
 
 returns-2 : tie.Need-returns-2
 unfolding operandOf
-returns-2 c = rw (c .if1 .left) (ap (λ (s : Sort). due s (c .before .before .before .args .due .names)) (c .before .operand-sort .ensures ∙ ap (operandSort (c .before .before .before .args .due .sort) (c .before .before .before .args .kind)) (c .if1 .left)))
+returns-2 c =
+    let entry = c .before .before .before in
+    rw (c .if1 .left) (ap (λ (s : Sort). due s (entry .args .due .names)) (c .before .operand-sort .ensures ∙ ap
+    (operandSort (entry .args .due .sort) (entry .args .kind)) (c .if1 .left)))
 
 pub operand-spec : {M : Type 1} → statement M
 operand-spec = tie.close (tie.spec operand-sort-requires opened-requires returns returns-2)

@@ -74,10 +74,15 @@ returns-11 c = search needs
 
 returns-12 : tie.Need-returns-12
 unfolding oneOf
-returns-12 c = rw (c .before .enum-told8 .given .1) (at-one (λ w. Offset ≡ cond (oneOf w (word-in ∷ word-loc ∷ [])) Offset Value) (c .before .before .before .args .kind) (word-in ∷ word-loc ∷ []) (c .match2 .keys1) (refl, (refl, tt)))
+returns-12 c = rw (c .before .enum-told8 .given .1) (at-one (λ w. Offset ≡ cond (oneOf w (word-in ∷ word-loc ∷ []))
+    Offset Value) (c .before .before .before .args .kind) (word-in ∷ word-loc ∷ []) (c .match2 .keys1)
+    (refl, (refl, tt)))
 
 returns-13 : tie.Need-returns-13
-returns-13 c = let h = c .match2 .rest .1 in rw (c .before .enum-told8 .given .1) (simp (not-one (c .before .before .before .args .kind) (word-in ∷ word-loc ∷ []) ((λ e. h (inl e)), ((λ e. h (inr e)), tt))))
+returns-13 c =
+    let h = c .match2 .rest .1 in
+    rw (c .before .enum-told8 .given .1) (simp (not-one (c .before .before .before .args .kind)
+    (word-in ∷ word-loc ∷ []) ((λ e. h (inl e)), ((λ e. h (inr e)), tt))))
 
 returns-14 : tie.Need-returns-14
 returns-14 c = search needs

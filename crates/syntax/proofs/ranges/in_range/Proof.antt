@@ -25,7 +25,11 @@ literal-in-range-requires c κs = search needs
 
 returns-2 : tie.Need-returns-2
 unfolding inRange oneOf
-returns-2 c = at-one (λ w. leb (c .before .before .before .args .number) 8 ≡ inRange (c .before .before .before .args .sort) (c .before .before .before .args .names) w (c .before .before .before .args .number)) (c .before .before .before .args .kind) (word-plan ∷ word-loops ∷ []) (c .match .keys1) (refl, (refl, tt))
+returns-2 c =
+    let entry = c .before .before .before in
+    at-one (λ w. leb (entry .args .number) 8 ≡ inRange (entry .args .sort) (entry .args .names) w
+    (entry .args .number)) (entry .args .kind) (word-plan ∷ word-loops ∷ []) (c .match .keys1)
+    (refl, (refl, tt))
 
 returns-3 : tie.Need-returns-3
 unfolding inRange oneOf
@@ -52,7 +56,12 @@ unfolding inRange oneOf
 returns-8 c = rw (c .before .match .keys7) (c .literal-in-range .ensures)
 
 returns-9 : tie.Need-returns-9
-returns-9 c = let r = c .match .rest in range-rest (c .before .before .before .args .sort) (c .before .before .before .args .names) (c .before .before .before .args .kind) (c .before .before .before .args .number) (sym (c .before .before .is-size .ensures) ∙ c .before .if1 .left) (r .0 .0 .0 .0 .0 .0 .1) (r .0 .0 .0 .0 .0 .1) (r .0 .0 .0 .0 .1) (r .0 .0 .0 .1) (r .0 .0 .1) (r .0 .1) (r .1)
+returns-9 c =
+    let entry = c .before .before .before in
+    let r = c .match .rest in
+    range-rest (entry .args .sort) (entry .args .names) (entry .args .kind) (entry .args .number) (sym
+    (c .before .before .is-size .ensures) ∙ c .before .if1 .left) (r .0 .0 .0 .0 .0 .0 .1) (r .0 .0 .0 .0 .0 .1)
+    (r .0 .0 .0 .0 .1) (r .0 .0 .0 .1) (r .0 .0 .1) (r .0 .1) (r .1)
 
 pub in-range-spec : {M : Type 1} → statement M
 in-range-spec =

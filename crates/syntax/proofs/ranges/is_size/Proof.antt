@@ -8,10 +8,12 @@ returns : tie.Need-returns
 returns c = size-none (c .before .before .args .kind) (c .before .match .rest .1) (λ a b. omega arith) (λ a b. omega arith)
 
 returns-2 : tie.Need-returns-2
-returns-2 c = size-none (c .before .before .before .before .args .kind) (c .before .before .before .match .rest .1) (λ a b. omega arith) (λ a b. omega arith)
+returns-2 c = size-none (c .before .before .before .before .args .kind) (c .before .before .before .match .rest .1)
+    (λ a b. omega arith) (λ a b. omega arith)
 
 returns-3 : tie.Need-returns-3
-returns-3 c = size-none (c .before .before .before .before .before .args .kind) (c .before .before .before .before .match .rest .1) (λ a b. omega arith) (λ a b. omega arith)
+returns-3 c = size-none (c .before .before .before .before .before .args .kind)
+    (c .before .before .before .before .match .rest .1) (λ a b. omega arith) (λ a b. omega arith)
 
 returns-4 : tie.Need-returns-4
 returns-4 c = size-one (c .before .args .kind) (c .match .keys1)

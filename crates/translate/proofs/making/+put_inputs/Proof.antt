@@ -23,31 +23,26 @@ put-inputs-at t = and 4 put-inputs-kinds.ps (is 4 put-inputs-kinds.ps μ-put-inp
 abbrev put-inputs-below : ℕ → In 4 put-inputs-kinds.ps
 put-inputs-below t = and 4 put-inputs-kinds.ps (falls 4 put-inputs-kinds.ps _<_ μ-put-inputs t) put-inputs.Pre
 
-put-inputs-returns : (t : ℕ) → put-inputs-lts.Need-returns (
+-- what the callees of `put_inputs` ask, and what they promise
+abbrev put-inputs-calls : ℕ → put-inputs-lts.Claims
+put-inputs-calls t = (
   put-cells-reads.Asked,
   put-cells-reads.Learnt,
   put-inputs-below t,
   put-inputs.Post,
-) (put-inputs-at t) put-inputs.Post
+)
+
+put-inputs-returns : (t : ℕ) → put-inputs-lts.Need-returns (put-inputs-calls t) (put-inputs-at t) put-inputs.Post
 put-inputs-returns t c =
     let a = c .before .before .before .args in
     let if1 = c .if1 in
     cells-none (a .types .now) (a .places .now) _ (if1 .taken)
 
-put-inputs-shared-slice-read-put-cells : (t : ℕ) → put-inputs-lts.Need-shared-slice-read-put-cells (
-  put-cells-reads.Asked,
-  put-cells-reads.Learnt,
-  put-inputs-below t,
-  put-inputs.Post,
-) (put-inputs-at t) put-inputs.Post
+put-inputs-shared-slice-read-put-cells :
+    (t : ℕ) → put-inputs-lts.Need-shared-slice-read-put-cells (put-inputs-calls t) (put-inputs-at t) put-inputs.Post
 put-inputs-shared-slice-read-put-cells t c = search needs
 
-put-inputs-cast-put-cells : (t : ℕ) → put-inputs-lts.Need-cast-put-cells (
-  put-cells-reads.Asked,
-  put-cells-reads.Learnt,
-  put-inputs-below t,
-  put-inputs.Post,
-) (put-inputs-at t) put-inputs.Post
+put-inputs-cast-put-cells : (t : ℕ) → put-inputs-lts.Need-cast-put-cells (put-inputs-calls t) (put-inputs-at t) put-inputs.Post
 put-inputs-cast-put-cells t c =
     let a = c .before .before .before .before .before .before .args in
     let if1 = c .before .before .before .if1 in
@@ -56,12 +51,7 @@ put-inputs-cast-put-cells t c =
     let low = pre .1 .1 0 some in
     omega (arith, low, pre .1 .0 .few)
 
-put-inputs-put-cells-requires : (t : ℕ) → put-inputs-lts.Need-put-cells-requires (
-  put-cells-reads.Asked,
-  put-cells-reads.Learnt,
-  put-inputs-below t,
-  put-inputs.Post,
-) (put-inputs-at t) put-inputs.Post
+put-inputs-put-cells-requires : (t : ℕ) → put-inputs-lts.Need-put-cells-requires (put-inputs-calls t) (put-inputs-at t) put-inputs.Post
 put-inputs-put-cells-requires t c κs =
     let a = c .before .before .before .before .before .before .args in
     let if1 = c .before .before .before .if1 in
@@ -69,36 +59,17 @@ put-inputs-put-cells-requires t c κs =
     let some : 0 < length (a .places .now) = omega (arith, if1 .left) in
     (pre .1 .0, pre .1 .1 0 some)
 
-put-inputs-sub-put-inputs : (t : ℕ) → put-inputs-lts.Need-sub-put-inputs (
-  put-cells-reads.Asked,
-  put-cells-reads.Learnt,
-  put-inputs-below t,
-  put-inputs.Post,
-) (put-inputs-at t) put-inputs.Post
+put-inputs-sub-put-inputs : (t : ℕ) → put-inputs-lts.Need-sub-put-inputs (put-inputs-calls t) (put-inputs-at t) put-inputs.Post
 put-inputs-sub-put-inputs t c = search needs
 
-put-inputs-part-put-inputs-start : (t : ℕ) → put-inputs-lts.Need-part-put-inputs-start (
-  put-cells-reads.Asked,
-  put-cells-reads.Learnt,
-  put-inputs-below t,
-  put-inputs.Post,
-) (put-inputs-at t) put-inputs.Post
+put-inputs-part-put-inputs-start :
+    (t : ℕ) → put-inputs-lts.Need-part-put-inputs-start (put-inputs-calls t) (put-inputs-at t) put-inputs.Post
 put-inputs-part-put-inputs-start t c = search needs
 
-put-inputs-part-put-inputs-end : (t : ℕ) → put-inputs-lts.Need-part-put-inputs-end (
-  put-cells-reads.Asked,
-  put-cells-reads.Learnt,
-  put-inputs-below t,
-  put-inputs.Post,
-) (put-inputs-at t) put-inputs.Post
+put-inputs-part-put-inputs-end : (t : ℕ) → put-inputs-lts.Need-part-put-inputs-end (put-inputs-calls t) (put-inputs-at t) put-inputs.Post
 put-inputs-part-put-inputs-end t c = search needs
 
-put-inputs-put-inputs-requires : (t : ℕ) → put-inputs-lts.Need-put-inputs-requires (
-  put-cells-reads.Asked,
-  put-cells-reads.Learnt,
-  put-inputs-below t,
-  put-inputs.Post,
-) (put-inputs-at t) put-inputs.Post
+put-inputs-put-inputs-requires : (t : ℕ) → put-inputs-lts.Need-put-inputs-requires (put-inputs-calls t) (put-inputs-at t) put-inputs.Post
 put-inputs-put-inputs-requires t c κs =
     let a = c .before .before .before .before .before .before .before .before .before .before .args in
     let if1 = c .before .before .before .before .before .before .before .if1 in
@@ -107,12 +78,7 @@ put-inputs-put-inputs-requires t c κs =
     let size = part-length 1 (a .places .now) in
     (omega (arith, pre .0, some, size), (pre .1 .0, places-behind (a .types .now) (a .places .now) (pre .1 .1)))
 
-put-inputs-returns-2 : (t : ℕ) → put-inputs-lts.Need-returns-2 (
-  put-cells-reads.Asked,
-  put-cells-reads.Learnt,
-  put-inputs-below t,
-  put-inputs.Post,
-) (put-inputs-at t) put-inputs.Post
+put-inputs-returns-2 : (t : ℕ) → put-inputs-lts.Need-returns-2 (put-inputs-calls t) (put-inputs-at t) put-inputs.Post
 put-inputs-returns-2 t c =
     let a = c .before .before .before .before .before .before .before .before .before .before .before .args in
     let if1 = c .before .before .before .before .before .before .before .before .if1 in
@@ -121,12 +87,7 @@ put-inputs-returns-2 t c =
     cells-more (a .types .now) (a .places .now) _ _ _ (if1 .left) (put-cells .ensures) (put-inputs .ensures)
 
 pub +put-inputs-spec : {M : Type 1} → statement M
-+put-inputs-spec = close μ-put-inputs λ t. put-inputs-lts.spec (
-  put-cells-reads.Asked,
-  put-cells-reads.Learnt,
-  put-inputs-below t,
-  put-inputs.Post,
-)
++put-inputs-spec = close μ-put-inputs λ t. put-inputs-lts.spec (put-inputs-calls t)
     (put-inputs-at t)
     put-inputs.Post
     (put-inputs-returns t)

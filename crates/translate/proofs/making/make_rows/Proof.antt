@@ -27,20 +27,33 @@ returns c = search needs
 
 returns-2 : tie.Need-returns-2
 returns-2 c =
-    let a = c .before .before .before .before .before .before .before .before .before .args in
-    let pre = c .before .before .before .before .before .before .before .before .before .pre in
-    let walk-plan = c .before .before .before .before .before .before .walk-plan in
-    let walked = c .before .before .before .before .walked in
+    let entry = c .before .before .before .before .before .before .before .before .before in
+    let at-walk-plan = c .before .before .before .before .before .before .walk-plan in
+    let at-walked = c .before .before .before .before .walked in
+    let a = entry .args in
+    let pre = entry .pre in
+    let walk-plan = at-walk-plan in
+    let walked = at-walked in
     let walked2 = c .before .walked2 in
-    made.rows-refused (a .kinds .now) (a .numbers .now) (pre .0) (walk-plan .result) (walk-plan .ensures) _ _ _ (walked .given .1 ∙ walked2 .given .1)
+    made.rows-refused (a .kinds .now) (a .numbers .now) (pre .0) (walk-plan .result) (walk-plan .ensures) _ _ _
+    (walked .given .1 ∙ walked2 .given .1)
 
 make-plan-requires : tie.Need-make-plan-requires
 make-plan-requires c κs =
-    let pre = c .before .before .before .before .before .before .before .pre in
-    let a = c .before .before .before .before .before .before .before .args in
-    let walk-plan = c .before .before .before .before .walk-plan in
-    let enum-told = c .before .before .enum-told in
-    (pre .0, pre .1, (planOf (rowsOf (a .kinds .now) (a .numbers .now)), made.rows-stand (a .kinds .now) (a .numbers .now) (pre .0) (walk-plan .result) (walk-plan .ensures) _ (enum-told .given .1)))
+    let entry = c .before .before .before .before .before .before .before in
+    let at-walk-plan = c .before .before .before .before .walk-plan in
+    let pre = entry .pre in
+    let a = entry .args in
+    let walk-plan = at-walk-plan in
+    let enum-told = c .before .before .enum-told in (
+      pre .0,
+      pre .1,
+      (
+        planOf (rowsOf (a .kinds .now) (a .numbers .now)),
+        made.rows-stand (a .kinds .now)
+            (a .numbers .now) (pre .0) (walk-plan .result) (walk-plan .ensures) _ (enum-told .given .1),
+      ),
+    )
 
 same-length : tie.Need-same-length
 same-length c = search needs
@@ -50,12 +63,18 @@ same-length-2 c = search needs
 
 returns-3 : tie.Need-returns-3
 returns-3 c =
-    let a = c .before .before .before .before .before .before .before .before .before .before .before .args in
-    let pre = c .before .before .before .before .before .before .before .before .before .before .before .pre in
-    let walk-plan = c .before .before .before .before .before .before .before .before .walk-plan in
-    let enum-told = c .before .before .before .before .before .before .enum-told in
+    let entry = c .before .before .before .before .before .before .before .before .before .before .before in
+    let at-walk-plan = c .before .before .before .before .before .before .before .before .walk-plan in
+    let at-enum-told = c .before .before .before .before .before .before .enum-told in
+    let a = entry .args in
+    let pre = entry .pre in
+    let walk-plan = at-walk-plan in
+    let enum-told = at-enum-told in
     let make-plan = c .before .before .before .make-plan in
-    made.rows-made (a .kinds .now) (a .numbers .now) (pre .0) (walk-plan .result) (walk-plan .ensures) _ (enum-told .given .1) (make-plan .ensures (planOf (rowsOf (a .kinds .now) (a .numbers .now))) (made.rows-stand (a .kinds .now) (a .numbers .now) (pre .0) (walk-plan .result) (walk-plan .ensures) _ (enum-told .given .1)))
+    made.rows-made (a .kinds .now) (a .numbers .now) (pre .0) (walk-plan .result) (walk-plan .ensures) _
+    (enum-told .given .1) (make-plan .ensures (planOf (rowsOf (a .kinds .now) (a .numbers .now))) (made.rows-stand
+    (a .kinds .now) (a .numbers .now) (pre .0) (walk-plan .result) (walk-plan .ensures) _
+    (enum-told .given .1)))
 
 pub make-rows-spec : {M : Type 1} → statement M
 make-rows-spec =

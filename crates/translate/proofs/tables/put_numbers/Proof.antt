@@ -12,7 +12,8 @@ use Rattle.translate.proofs.tables.put_numbers.Statement.{statement}
 use Rattle.translate.proofs.tables.put_numbers.Tie as tie
 
 abbrev Inv-loop : tie.InvT-loop
-Inv-loop numbers lent₀ i₀ lent i = (i ≤ length numbers) × (length lent ≡ length lent₀) × (sets lent i (drop i numbers) ≡ sets lent₀ 0 numbers)
+Inv-loop numbers lent₀ i₀ lent i = (i ≤ length numbers) × (length lent ≡ length lent₀) ×
+    (sets lent i (drop i numbers) ≡ sets lent₀ 0 numbers)
 
 abbrev μ-loop : tie.MeasureT-loop
 μ-loop numbers lent₀ i₀ lent i = length numbers - i

@@ -1,0 +1,17 @@
+-- What the entries of `plans` promise for every input: each name stands in the `ensures` of its entry, and the demands are drawn from it.
+use mathlib.Core.Path.{_≡_}
+use mathlib.Core.List.{List}
+use Prim.Native.Nat.{ℕ}
+use lib.IntN.{ℤ}
+use Rattle.lines.specs.declared.Reading.{Reading}
+use Rattle.syntax.specs.declared.Answer.{Answer}
+use Rattle.typing.specs.Entry.{checkText}
+use Rattle.plans.specs.Reading.{PlanInto}
+
+-- [10.16], [10.17] `check_text`: the text and the answer
+abbrev pub ChecksPlan : List (List ℕ) → List ℕ → Answer → Type 0
+ChecksPlan ws t r = r ≡ checkText ws t
+
+-- [10.16], [10.17] `read_text`: the text, the two slices as lent, the answer, the two slices as left
+abbrev pub ReadsPlan : List (List ℕ) → List ℕ → List ℕ → List ℤ → Reading → List ℕ → List ℤ → Type 0
+ReadsPlan ws t kinds numbers r kinds′ numbers′ = PlanInto ws t kinds numbers r kinds′ numbers′

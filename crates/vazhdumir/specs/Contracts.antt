@@ -1,0 +1,39 @@
+-- What the entries for C ([12.1]) promise for every input: each name stands in the `ensures` of its entry, and the demands are drawn
+-- from it.
+use mathlib.Core.Path.{_≡_}
+use mathlib.Core.List.{List}
+use Prim.Native.Nat.{ℕ}
+use lib.IntN.{ℤ}
+use Rattle.words.specs.Kinds.{rowsOf}
+use Rattle.store.specs.Cells.{cellsOf}
+use Rattle.typing.specs.Entry.{checkText as checkPlanText}
+use Rattle.loops.specs.Check.{checkText, needOf}
+use Rattle.run.specs.Run.{runText, runTable}
+use Rattle.vazhdumir.specs.Codes.{acceptedCode, checkedCode, neededCode, ReadCoded, TextCoded, RunCoded}
+
+-- `vazhdumir_check_plan`: the text and the number told
+abbrev pub ChecksPlanForC : List (List ℕ) → List ℕ → ℕ → Type 0
+ChecksPlanForC ws t r = r ≡ acceptedCode (checkPlanText ws t)
+
+-- `vazhdumir_translate`: the plan's text, the text as lent, the number told, the text as left
+abbrev pub TranslatesForC : List (List ℕ) → List ℕ → List ℕ → ℕ → List ℕ → Type 0
+TranslatesForC ws t lent r lent′ = TextCoded ws t lent r lent′
+
+-- `vazhdumir_check_loops` and `vazhdumir_need`: the text and the number told
+abbrev pub ChecksLoopsForC : List (List ℕ) → List ℕ → ℕ → Type 0
+ChecksLoopsForC ws t r = r ≡ checkedCode (checkText ws t)
+
+abbrev pub TellsNeedForC : List (List ℕ) → List ℕ → ℕ → Type 0
+TellsNeedForC ws t r = r ≡ neededCode (needOf (checkText ws t))
+
+-- `vazhdumir_read_loops`: the text, the two slices as lent, the number told, the two slices as left
+abbrev pub ReadsLoopsForC : List (List ℕ) → List ℕ → List ℕ → List ℤ → ℕ → List ℕ → List ℤ → Type 0
+ReadsLoopsForC ws t kinds numbers r kinds′ numbers′ = ReadCoded ws t kinds numbers r kinds′ numbers′
+
+-- `vazhdumir_run`: the text, the order, the store as lent, the number told, the store as left
+abbrev pub RunsTextForC : List (List ℕ) → List ℕ → ℕ → List ℕ → ℕ → List ℕ → Type 0
+RunsTextForC ws t order bytes r bytes′ = RunCoded (runText ws t order (cellsOf bytes)) bytes r bytes′
+
+-- `vazhdumir_run_rows`: the kinds, the numbers, the order, the store as lent, the number told, the store as left
+abbrev pub RunsRowsForC : List ℕ → List ℤ → ℕ → List ℕ → ℕ → List ℕ → Type 0
+RunsRowsForC kinds numbers order bytes r bytes′ = RunCoded (runTable (rowsOf kinds numbers) order (cellsOf bytes)) bytes r bytes′
