@@ -1,5 +1,5 @@
--- Texts that are well-written numbers and texts that are not: document 01, 'Lines', and card P10. One computed test for reading
--- and one for writing; assumes nothing.
+-- Texts that are well-written numbers and texts that are not: [1.4], card P10 of [15.2] among them. One computed test for reading and
+-- one for writing; assumes nothing.
 use mathlib.Core.List.{List, [], _∷_, map}
 use mathlib.Core.Path.{_≡_, refl}
 use Prim.Native.Nat.{ℕ}

@@ -1,5 +1,5 @@
 -- Laws of numbers as they are written: those of the range read back, and what reads as a number is written in that one way, so
--- exactly document 01's numbers are well written; how many bytes they take, and which. Assumes nothing.
+-- exactly the numbers of [1.4] are well written; how many bytes they take, and which. Assumes nothing.
 use mathlib.Core.Bool.{Bool, true, false, true≢false, cond}
 use mathlib.Core.List.{List, [], _∷_}
 use mathlib.Core.Logic.{_≢_}

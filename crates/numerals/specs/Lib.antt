@@ -1,6 +1,6 @@
--- How a number is written: document 01, 'Lines', and question 2.
+-- How a number is written: [1.4].
 
--- The definitions: what a reader has to believe
+-- The definitions
 pub mod Numerals
 -- What the contracts of parts say besides
 pub mod Magnitudes

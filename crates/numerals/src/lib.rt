@@ -1,4 +1,4 @@
-// Numbers as a text writes them, in decimal: read from bytes, and put into bytes.
+// [1.4] Numbers as a text writes them, in decimal: read from bytes, and put into bytes.
 ghost use mathlib.Core.Path.{_≡_};
 ghost use Prim.Native.Nat.{_≤_};
 ghost use lib.IntN.{pos, natAbs};
@@ -119,6 +119,23 @@ pub fn put(number: i32, text: &mut [u8], at: usize)
     } else {
         put_digits(value, text, at);
     }
+}
+
+// How many bytes `put_natural` puts.
+pub fn natural_size(value: u64) -> usize
+    ensures { λ r. ⌜ (r ≡ length (decimal (pos value))) × (r ≤ 20) ⌝ }
+{
+    digit_count(value)
+}
+
+// Puts a number that is not below zero from place `at` on; a byte whose place is past the end of `text` is left out.
+pub fn put_natural(value: u64, text: &mut [u8], at: usize)
+    ensures { λ _. ⌜ now (text .exit) ≡ sets (now (text .entry)) at (decimal (pos value)) ⌝ }
+{
+    if text.len() <= at {
+        return;
+    }
+    put_digits(value, text, at);
 }
 
 // Puts the digits of `value`, the last one first.

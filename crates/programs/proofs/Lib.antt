@@ -1,0 +1,5 @@
+pub mod Fronts
+pub mod Putting
+pub mod MadeTexts
+pub mod Tables
+pub mod Outcomes

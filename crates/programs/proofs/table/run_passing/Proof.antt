@@ -1,0 +1,104 @@
+-- `run_passing` meets its contract: the values are asked, and the loops run on the store that holds them.
+use mathlib.Core.Path.{_∙_}
+use native.Mathlib.Omega.{arith}
+use lib.ListN.{length}
+use Rattle.words.specs.Kinds.{rowsOf}
+use Rattle.words.specs.Words.{words}
+use Rattle.syntax.specs.Reading.{loopsOf}
+use Rattle.programs.proofs.Outcomes as outcomes
+use borrow.Author.Needs.{needs}
+use Rattle.programs.proofs.table.run_passing.Statement.{statement}
+use Rattle.programs.proofs.table.run_passing.Tie as tie
+
+layout-of-requires : tie.Need-layout-of-requires
+layout-of-requires c κs = search needs
+
+fill-inputs-requires : tie.Need-fill-inputs-requires
+fill-inputs-requires c κs = search needs
+
+enum-told : tie.Need-enum-told
+enum-told c = search needs
+
+enum-known-filled : tie.Need-enum-known-filled
+enum-known-filled c = search needs
+
+enum-known-filled-2 : tie.Need-enum-known-filled-2
+enum-known-filled-2 c = search needs
+
+enum-told-2 : tie.Need-enum-told-2
+enum-told-2 c = search needs
+
+same-length : tie.Need-same-length
+same-length c = search needs
+
+returns : tie.Need-returns
+returns c = search needs
+
+put-refusal-requires : tie.Need-put-refusal-requires
+put-refusal-requires c κs = search needs
+
+same-length-2 : tie.Need-same-length-2
+same-length-2 c = search needs
+
+same-length-3 : tie.Need-same-length-3
+same-length-3 c = search needs
+
+returns-2 : tie.Need-returns-2
+returns-2 c =
+    let a = c .before .before .before .before .before .before .before .before .before .before .before .before .before .before .before .before .before .args in
+    let fill-inputs = c .before .before .before .before .before .before .before .before .before .before .before .fill-inputs in
+    let layout-of = c .before .before .before .before .before .before .before .before .before .before .before .before .before .layout-of in
+    let filled = c .before .before .before .before .before .before .before .before .filled in
+    let filled2 = c .before .before .before .before .before .filled2 in
+    let put-refusal = c .before .before .put-refusal in
+    let pre = c .before .before .before .before .before .before .before .before .before .before .before .before .before .before .before .before .before .pre in
+    let L = loopsOf (rowsOf (a .kinds .now) (a .numbers .now)) in
+    let fill = fill-inputs in
+    let layout = layout-of in
+    outcomes.values-refused words (a .values .now) L (a .store .now) (fill .last .1 .1 .0) (layout .result .inputs) (layout .result .output) (layout .ensures)
+    (fill .result) (fill .ensures) _ (filled .given .1 ∙ filled2 .given .1)
+    (outcomes.refusal-into L _ (fill .last .1 .1 .0) (put-refusal .ensures .0) (put-refusal .ensures .1) (pre .1))
+
+print-run-requires : tie.Need-print-run-requires
+print-run-requires c κs =
+    let a = c .before .before .before .before .before .before .before .before .before .before .before .args in
+    let fill = c .before .before .before .before .before .fill-inputs in
+    let pre = c .before .before .before .before .before .before .before .before .before .before .before .pre in
+    let layout-of = c .before .before .before .before .before .before .before .layout-of in
+    (outcomes.ready-same (a .kinds .now) (a .numbers .now) (length (fill .last .1 .1 .0)) (length (a .store .now)) (fill .kept .1 .1 .0) (pre .0), layout-of .ensures, pre .1)
+
+same-length-4 : tie.Need-same-length-4
+same-length-4 c = search needs
+
+same-length-5 : tie.Need-same-length-5
+same-length-5 c = search needs
+
+returns-3 : tie.Need-returns-3
+returns-3 c =
+    let a = c .before .before .before .before .before .before .before .before .before .before .before .before .before .before .before .args in
+    let fill = c .before .before .before .before .before .before .before .before .before .fill-inputs in
+    let layout = c .before .before .before .before .before .before .before .before .before .before .before .layout-of in
+    let enum-told = c .before .before .before .before .before .before .enum-told in
+    outcomes.values-run words (a .values .now) (loopsOf (rowsOf (a .kinds .now) (a .numbers .now))) (a .store .now) (fill .last .1 .1 .0) (layout .result .inputs) (layout .result .output)
+    (layout .ensures) (fill .result) (fill .ensures) _ (enum-told .given .1) (c .before .before .before .print-run .ensures)
+
+pub run-passing-spec : {M : Type 1} → statement M
+run-passing-spec =
+    tie.close
+    (tie.spec
+    layout-of-requires
+    fill-inputs-requires
+    enum-told
+    enum-known-filled
+    enum-known-filled-2
+    enum-told-2
+    same-length
+    returns
+    put-refusal-requires
+    same-length-2
+    same-length-3
+    returns-2
+    print-run-requires
+    same-length-4
+    same-length-5
+    returns-3)

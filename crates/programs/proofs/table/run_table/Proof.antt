@@ -1,0 +1,111 @@
+-- `run_table` meets its contract: the check's answer, then question 14, then the values and the run.
+use mathlib.Core.Path.{_∙_}
+use native.Mathlib.Omega.{arith}
+use Rattle.refusals.specs.declared.Refusal.the-variants.{StoreSize}
+use Rattle.words.specs.Kinds.{rowsOf}
+use Rattle.words.specs.Words.{words}
+use Rattle.syntax.specs.Reading.{loopsOf}
+use Rattle.programs.proofs.Outcomes as outcomes
+use borrow.Author.Needs.{needs}
+use Rattle.programs.proofs.table.run_table.Statement.{statement}
+use Rattle.programs.proofs.table.run_table.Tie as tie
+
+check-table-requires : tie.Need-check-table-requires
+check-table-requires c κs = search needs
+
+enum-known-checked : tie.Need-enum-known-checked
+enum-known-checked c = search needs
+
+enum-known-checked-2 : tie.Need-enum-known-checked-2
+enum-known-checked-2 c = search needs
+
+enum-known-checked-3 : tie.Need-enum-known-checked-3
+enum-known-checked-3 c = search needs
+
+enum-told : tie.Need-enum-told
+enum-told c = search needs
+
+returns : tie.Need-returns
+returns c = search needs
+
+put-refusal-requires : tie.Need-put-refusal-requires
+put-refusal-requires c κs = search needs
+
+same-length : tie.Need-same-length
+same-length c = search needs
+
+returns-2 : tie.Need-returns-2
+returns-2 c =
+    let a = c .before .before .before .before .before .before .before .before .before .before .before .before .before .before .args in
+    let check-table = c .before .before .before .before .before .before .before .before .before .before .check-table in
+    let checked2 = c .before .before .before .before .before .before .before .before .checked2 in
+    let checked3 = c .before .before .before .before .before .checked3 in
+    let put-refusal = c .before .before .put-refusal in
+    let pre = c .before .before .before .before .before .before .before .before .before .before .before .before .before .before .pre in
+    outcomes.check-refused words (a .values .now) (a .kinds .now) (a .numbers .now) (a .store .now) (check-table .result) (check-table .ensures) _
+    (checked2 .given .1 ∙ checked3 .given .1)
+    (outcomes.refusal-into (loopsOf (rowsOf (a .kinds .now) (a .numbers .now))) _ (a .store .now) (put-refusal .ensures .0) (put-refusal .ensures .1) (pre .2))
+
+put-refusal-requires-2 : tie.Need-put-refusal-requires-2
+put-refusal-requires-2 c κs = search needs
+
+same-length-2 : tie.Need-same-length-2
+same-length-2 c = search needs
+
+returns-3 : tie.Need-returns-3
+returns-3 c =
+    let a = c .before .before .before .before .before .before .before .before .before .before .before .before .args in
+    let check-table = c .before .before .before .before .before .before .before .before .check-table in
+    let checked = c .before .before .before .before .before .before .checked in
+    let put-refusal2 = c .before .before .put-refusal2 in
+    let pre = c .before .before .before .before .before .before .before .before .before .before .before .before .pre in
+    outcomes.store-short words (a .values .now) (a .kinds .now) (a .numbers .now) (a .store .now) (check-table .result) (check-table .ensures)
+    (checked .given .0 .0) (checked .given .0 .1 .0) (checked .given .1) (c .before .before .before .before .if1 .taken)
+    (outcomes.refusal-into (loopsOf (rowsOf (a .kinds .now) (a .numbers .now))) StoreSize (a .store .now) (put-refusal2 .ensures .0) (put-refusal2 .ensures .1) (pre .2))
+
+run-passing-requires : tie.Need-run-passing-requires
+run-passing-requires c κs =
+    let a = c .before .before .before .before .before .before .before .before .before .before .args in
+    let check-table = c .before .before .before .before .before .before .check-table in
+    let checked = c .before .before .before .before .checked in
+    let pre = c .before .before .before .before .before .before .before .before .before .before .pre in (
+      outcomes.ready words (a .values .now) (a .kinds .now) (a .numbers .now) (a .store .now) (check-table .result) (check-table .ensures)
+          (checked .given .0 .0) (checked .given .0 .1 .0) (checked .given .1) (pre .0) (pre .1) (c .before .before .if1 .left),
+      pre .2,
+    )
+
+same-length-3 : tie.Need-same-length-3
+same-length-3 c = search needs
+
+same-length-4 : tie.Need-same-length-4
+same-length-4 c = search needs
+
+returns-4 : tie.Need-returns-4
+returns-4 c =
+    let a = c .before .before .before .before .before .before .before .before .before .before .before .before .before .before .args in
+    let check-table = c .before .before .before .before .before .before .before .before .before .before .check-table in
+    let checked = c .before .before .before .before .before .before .before .before .checked in
+    let if1 = c .before .before .before .before .before .before .if1 in
+    outcomes.passing-run words (a .values .now) (a .kinds .now) (a .numbers .now) (a .store .now) (check-table .result) (check-table .ensures)
+    (checked .given .0 .0) (checked .given .0 .1 .0) (checked .given .1) (if1 .left) (c .before .before .before .run-passing .ensures)
+
+pub run-table-spec : {M : Type 1} → statement M
+run-table-spec =
+    tie.close
+    (tie.spec
+    check-table-requires
+    enum-known-checked
+    enum-known-checked-2
+    enum-known-checked-3
+    enum-told
+    returns
+    put-refusal-requires
+    same-length
+    returns-2
+    put-refusal-requires-2
+    same-length-2
+    returns-3
+    run-passing-requires
+    same-length-3
+    same-length-4
+    returns-4)

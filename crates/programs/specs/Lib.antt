@@ -1,0 +1,12 @@
+-- What the two programs print: [11.1], [11.5] to [11.9].
+
+-- The definitions
+pub mod Printed
+pub mod Runner
+-- What the contracts of parts say besides
+pub mod Steps
+-- Their laws
+pub mod Laws
+pub mod NoInputs
+-- The contracts of the entries
+pub mod Contracts
