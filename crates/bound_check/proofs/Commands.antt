@@ -139,7 +139,9 @@ module _ (ks : List ℕ) (ns : List ℤ) (cs : List ℕ) (c : ℕ) (rs : List �
     ask-command-fails f j (Command.assignment p x) b h = absurd (d (e ∙ table.kind b))
     ask-command-fails f j (seq x y) b h =
         let i = asking-refused (length (commandRows x)) (commandWrites x) (askCommand ins out cs rs (line + 1) x) f (sym j ∙ in-seq x y b h) in
-        j ∙ ap (λ (o : Option Refusal). asking (suc (length (commandRows x ++ commandRows y))) (commandWrites x + commandWrites y) (firstNo o (askCommand ins out cs rs (line + (1 + length (commandRows x))) y))) (sym i)
+        j ∙ ap (λ (o : Option Refusal). asking (suc (length (commandRows x ++ commandRows y)))
+        (commandWrites x + commandWrites y) (firstNo o (askCommand ins out cs rs
+        (line + (1 + length (commandRows x))) y))) (sym i)
     ask-command-fails f j (loop kind m x) b h =
         let i = asking-refused (length (commandRows x)) (commandWrites x) (askCommand ins out (m ∷ cs) rs (line + 1) x) f (sym j ∙ in-loop kind m x b h .1) in
         j ∙ ap (asking (suc (length (commandRows x))) (m * commandWrites x)) (sym i)

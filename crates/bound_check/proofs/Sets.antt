@@ -66,7 +66,8 @@ module _ (ks : List ℕ) (ns : List ℤ) (cs rc ic : List ℕ) (out line : ℕ) 
       value-fails x j p v b =
           let h = valued p v b in
           let r = counted-refused (length (valueRows v)) (askValue ic (counterBound cs) (entry rc) (line + length (placeRows p)) v) x (sym j ∙ h .2) in
-          j ∙ ap (counted (length (placeRows p) + length (valueRows v))) (sym (ap (λ (i : Option Refusal). firstNo i (askValue ic (counterBound cs) (entry rc) (line + length (placeRows p)) v)) (h .1) ∙ r))
+          j ∙ ap (counted (length (placeRows p) + length (valueRows v))) (sym (ap (λ (i : Option Refusal). firstNo i
+          (askValue ic (counterBound cs) (entry rc) (line + length (placeRows p)) v)) (h .1) ∙ r))
 
       pub set-both : (i : ℕ) → s ≡ Passed i → Sets ks ns cs rc ic out line (Passed (m + i))
       unfolding askSet
@@ -74,4 +75,5 @@ module _ (ks : List ℕ) (ns : List ℤ) (cs rc ic : List ℕ) (out line : ℕ) 
           let h = valued p v b in
           let r = counted-passed i (length (valueRows v)) (askValue ic (counterBound cs) (entry rc) (line + length (placeRows p)) v) (sym j ∙ h .2) in
           ap₂ (λ (x y : ℕ). Passed (x + y)) (h .0) (r .1)
-          ∙ ap (counted (length (placeRows p) + length (valueRows v))) (sym (ap (λ (i : Option Refusal). firstNo i (askValue ic (counterBound cs) (entry rc) (line + length (placeRows p)) v)) (h .1) ∙ r .0))
+          ∙ ap (counted (length (placeRows p) + length (valueRows v))) (sym (ap (λ (i : Option Refusal). firstNo i
+          (askValue ic (counterBound cs) (entry rc) (line + length (placeRows p)) v)) (h .1) ∙ r .0))

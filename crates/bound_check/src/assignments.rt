@@ -1,4 +1,4 @@
-// Question 9 on a `set`: its place, and the readings of its value, in line order.
+// [10.9] on a `set`: its place, and the readings of its value, in line order.
 ghost use mathlib.Core.Path.{_≡_};
 ghost use mathlib.Core.List.{_∷_, _++_};
 ghost use Prim.Native.Nat.{ℕ, suc, _+_, _≤_, _<_};

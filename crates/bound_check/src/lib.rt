@@ -1,4 +1,4 @@
-// Question 9 of document 01 put to the places and readings of a command, and its writes, by recursion over the rows.
+// [10.9] put to the places and readings of a command, and its writes ([7.1]), by recursion over the rows.
 ghost use mathlib.Core.Bool.{true, false, cond};
 ghost use mathlib.Core.Path.{_≡_};
 ghost use mathlib.Core.List.{_∷_};
@@ -27,7 +27,7 @@ pub enum Asked {
     Refused(Refusal),
 }
 
-// 16,777,217 stands for every number of writes above 16,777,216.
+// [13.15] 16,777,217 stands for every number of writes above 16,777,216.
 fn capped(writes: usize) -> usize
     ensures { λ r. ⌜ (r ≡ min writes 16777217) × (r ≤ 16777217) ⌝ }
 {
@@ -46,7 +46,7 @@ fn is_loop(kind: u8) -> bool
     kind == WORD_PAR
 }
 
-// How often a row's command is done.
+// [7.1] How often a row's command is done.
 fn rounds(kind: u8, n: usize) -> usize
     ensures { λ r. ⌜ r ≡ cond (isLoop kind) n 1 ⌝ }
 {
@@ -56,7 +56,7 @@ fn rounds(kind: u8, n: usize) -> usize
     1
 }
 
-// The names in force are frame[top..], innermost first. A row that opens one puts its number there: the new top.
+// [3.16] The names in force are frame[top..], innermost first. A row that opens one puts its number there: the new top.
 fn push(frame: &mut [usize], top: usize, opens: bool, n: usize) -> usize
     requires { ⌜ top ≤ length (now frame) ⌝ }
     ensures bounds { λ r. ⌜ (r ≤ top) × (drop top (now (frame .exit)) ≡ drop top (now (frame .entry))) ⌝ }
@@ -73,7 +73,7 @@ fn push(frame: &mut [usize], top: usize, opens: bool, n: usize) -> usize
     top
 }
 
-// A `set`, whose place and value were asked: one write.
+// [7.1] A `set`, whose place and value were asked: one write.
 fn once(asked: Answer) -> Asked
     requires { ⌜ passed asked < 18446744073709551615 ⌝ }
     ensures { λ r. ⌜ r ≡ onceOf asked ⌝ }
@@ -90,8 +90,8 @@ fn once(asked: Answer) -> Asked
     }
 }
 
-// The command whose rows stand in front. counters[c..] has the rounds of the loops around, innermost first, and regions[r..] the
-// cells of the regions in force; `inputs` has the inputs' cells.
+// The command whose rows stand in front. counters[c..] has the rounds of the loops around, innermost first ([13.10]), and
+// regions[r..] the cells of the regions in force ([13.11]); `inputs` has the inputs' cells.
 pub fn ask_command(
     kinds: &[u8],
     numbers: &[i32],
@@ -173,7 +173,7 @@ pub fn ask_command(
     }
 }
 
-// The command of the loops whose rows fill a table: `loops`, the `cells` rows of the inputs and of the output, and the command.
+// [3.12] The command of the loops whose rows fill a table: `loops`, the `cells` rows of the inputs and of the output, and the command.
 pub fn ask_loops(kinds: &[u8], numbers: &[i32]) -> Asked
     requires { ⌜ (length (now kinds) ≡ length (now numbers)) × (length (now kinds) ≤ 4096) ⌝ }
     ensures { λ w. ⌜ ((L : Loops) → rowsOf (now (kinds .entry)) (now (numbers .entry)) ≡ loopsRows L → LoopsInRange L

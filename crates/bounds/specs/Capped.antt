@@ -1,11 +1,11 @@
--- What the contract of an offset's bound says: the bound as far as question 9 asks for it. Definitions only; assumes nothing.
+-- What the contract of an offset's bound says: the bound as far as [10.9] asks for it. Definitions only; assumes nothing.
 use mathlib.Core.Bool.{cond}
 use Prim.Native.Nat.{ℕ, min}
 use Rattle.meaning.specs.Loops.{Offset}
 use Rattle.meaning.specs.Limits.{bound}
 use Rattle.bounds.specs.Bounds.{everyRowBounded}
 
--- 65,536 stands for every bound above 65,535
+-- [13.12] 65,536 stands for every bound above 65,535.
 abbrev pub capped : ℕ → ℕ
 capped x = min x 65536
 

@@ -1,6 +1,6 @@
--- Question 9 of document 01, put to loops; and the bound of an offset, as the code finds it.
+-- Question 9 put to loops, [10.9]; and the bound of an offset, [10.20], as the code finds it.
 
--- The definitions: what a reader has to believe
+-- The definitions
 pub mod Bounds
 -- What the contracts of parts say besides
 pub mod Capped

@@ -1,4 +1,4 @@
-// The bounds of offsets, for question 9.
+// The bounds of offsets ([10.20]), for [10.9].
 ghost use mathlib.Core.Path.{_≡_};
 ghost use Prim.Native.Nat.{min, _*_, _-_, _/_, _≤_};
 ghost use lib.ListN.{length};
@@ -18,7 +18,7 @@ pub struct Bound {
     pub rows: usize,
 }
 
-// 65,536 stands for every bound above 65,535.
+// [13.12] 65,536 stands for every bound above 65,535.
 fn capped(bound: usize) -> usize
     ensures { λ r. ⌜ (r ≡ cappedOf bound) × (r ≤ 65536) ⌝ }
 {
@@ -38,7 +38,7 @@ pub fn entry(list: &[usize], d: usize) -> usize
     0
 }
 
-// The greatest counter of a loop of n rounds.
+// [10.20] The greatest counter of a loop of n rounds.
 fn last_round(n: usize) -> usize
     ensures { λ r. ⌜ r ≡ n - 1 ⌝ }
 {
@@ -48,7 +48,7 @@ fn last_round(n: usize) -> usize
     n - 1
 }
 
-// The bound of `times`, `over` or `rest` of an offset.
+// [10.20] The bound of `times`, `over` or `rest` of an offset.
 fn scaled(kind: u8, n: usize, bound: usize) -> usize
     requires { ⌜ (n ≤ 2147483648) × (bound ≤ 65536) ⌝ }
     ensures times { λ r. ⌜ (kind ≡ word-times → r ≡ n * bound) ⌝ }
@@ -70,7 +70,7 @@ fn scaled(kind: u8, n: usize, bound: usize) -> usize
     bound
 }
 
-// The bound of the offset whose rows stand in front. `counters` has the rounds of the loops around, innermost first.
+// [10.20] The bound of the offset whose rows stand in front. `counters` has the rounds of the loops around, innermost first.
 pub fn largest(kinds: &[u8], numbers: &[i32], counters: &[usize]) -> Bound
     requires { ⌜ length (now kinds) ≡ length (now numbers) ⌝ }
     ensures bounds { λ r. ⌜ (r .rows ≤ length (now (kinds .entry))) × (r .value ≤ 65536) ⌝ }

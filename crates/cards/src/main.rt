@@ -1,5 +1,5 @@
-// The bench cards of document 01, executed as a user would, over the public entries: P1 to P10, and those that are run only. A card's
-// plan is read from its file. One line a card, and one for each order of a run: its name and its answer.
+// The cards of [15.1] and [15.2], executed as a user would, over the public entries: P1 to P10, and those without a name. A card's plan
+// is read from its file. One line a card, and one for each order of a run: its name and its answer.
 ghost use Rattle.io.specs.Counts.{Counts};
 use libc::STDOUT_FILENO;
 use lines::Printing;
@@ -18,7 +18,7 @@ fn main() {
     run_only();
 }
 
-// P1 and P2.
+// P1 [15.1] and P2.
 fn example_and_groups() {
     translate_card(b"P1", b"P1.plan");
     run_card(b"P1", b"P1.plan", &mut [4i32, 5, 0, 0, 0], 2, 1);
@@ -59,7 +59,7 @@ fn sizes_and_minus_zero() {
     check_card(b"P10", b"P10.plan");
 }
 
-// "Run only".
+// The cards without a name.
 fn run_only() {
     check_card(b"empty text", b"empty.plan");
     check_card(b"257 lines", b"257-lines.plan");

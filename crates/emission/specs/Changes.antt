@@ -1,5 +1,5 @@
--- Paths as the code holds them: a stack of nodes, each of which changes the path behind it as Figure 5 of the paper says, with
--- document 01's offsets ('Translation', last paragraph). Definitions only; assumes nothing.
+-- Paths as the code holds them: a stack of nodes, each of which changes the path behind it as [6.21] to [6.23] say (Figure 5 of the
+-- paper). Definitions only; assumes nothing.
 use mathlib.Core.Bool.{cond}
 use mathlib.Core.List.{List, [], _∷_}
 use Prim.Native.Nat.{ℕ, zero, suc}
@@ -35,7 +35,7 @@ changeOf k =
     (cond (eqb k zip-second) ZipSecond
     Unchanged)))))))))
 
--- the path behind a node of number n, where p leads to the node
+-- The path behind a node of number n, where p leads to the node: [6.22] for groups, [6.23] for `zip` and `pair`, [6.21] for indices.
 abbrev pub through : Change → ℕ → Path Offset → Path Offset
 through Zip n p = unzipped p
 through Pair n p = tail p

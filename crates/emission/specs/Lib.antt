@@ -1,4 +1,4 @@
--- What the translation emits, and the table in which the code holds it: document 01, 'Translation'. No contract of an entry rests on it.
+-- What the translation emits ([6.3], [6.17] to [6.23]), and the table in which the code holds it. No contract of an entry rests on it.
 
 -- What the contracts of parts say
 pub mod Table

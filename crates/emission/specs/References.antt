@@ -1,6 +1,6 @@
--- What the nodes of a table of references stand for: the expressions and acceptors of Figure 3, of which the translation reads
--- and writes. Every node of every table stands for something: one whose operands do not stand before it for nothing to speak of.
--- Definitions only; assumes nothing.
+-- What the nodes of a table of references stand for: the expressions and acceptors (Figure 3 of the paper) that the translation reads
+-- and writes ([6.2]). Every node of every table stands for something: one whose operands do not stand before it for nothing to speak
+-- of. Definitions only; assumes nothing.
 use mathlib.Core.Bool.{cond}
 use mathlib.Core.List.{List, [], _∷_, _++_}
 use Prim.Native.Nat.{ℕ, zero, suc}
@@ -87,7 +87,8 @@ expressionOver Y N w E F = expressionBy (classOf (kindIn w)) Y N w E F
 abbrev pub expressionAt : List ℕ → List ℤ → List ℕ → ℕ → Expression
 expressionAt Y N T i = nodeAt noExpression (expressionOver Y N) T i
 
--- Acceptors, written: what can only be read stands for no acceptor.
+-- Acceptors, written: what can only be read stands for no acceptor. [6.22] A `split` is written through a `join`, and the other way.
+-- [14.6] A region stands for both: it is written through its acceptor and read through its expression.
 abbrev pub noAcceptor : Acceptor
 noAcceptor = Acceptor.output number
 

@@ -1,5 +1,5 @@
--- A table of rows that is filled from its front: document 01, question 10 ("Do the made loops take at most 4,096 lines?").
--- Rows past the 4,096th are not put, and the end is then 4,097. Definitions only; assumes nothing.
+-- A table of rows that is filled from its front. [10.10] Rows past the 4,096th are not put, and the end is then 4,097. Definitions
+-- only; assumes nothing.
 use mathlib.Core.Bool.{cond}
 use mathlib.Core.List.{List, [], _∷_}
 use Prim.Native.Nat.{ℕ, _+_}

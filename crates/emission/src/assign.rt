@@ -1,4 +1,5 @@
-// "assign by type: number one `set`; array a `par` over elements; pair first, then second"
+// [6.3] Assignment by type: a number is one `set`, an array a `par` over its elements, a pair its first part and then its second.
+// [14.7] It is `par` also where all around it goes in sequence.
 ghost use mathlib.Core.Path.{_≡_};
 ghost use Prim.Native.Nat.{_+_, _*_, _<_, _≤_};
 ghost use lib.ListN.{length};
@@ -18,7 +19,7 @@ use type_table::ArrayShape;
 use type_table::PairShape;
 use words::kinds::*;
 
-// One `set`: the number that node `value` reads goes where node `target` writes.
+// [6.17] One `set`: the number that node `value` reads goes where node `target` writes.
 fn put_set(
     types: &[u64],
     plan: &[i32],
@@ -33,7 +34,9 @@ fn put_set(
 ) -> usize
     requires { ⌜ Sound (now types) (length (now types)) × (value < 4096) × (target < 4096) ⌝ }
     ensures { λ r. ⌜ table (now (kinds .exit)) (now (numbers .exit)) r
-        ≡ putRows (commandRows (assign numberType (expressionAt (now (types .entry)) (now (plan .entry)) (now (references .entry)) value) (acceptorAt (now (types .entry)) (now (references .entry)) target) counters regions)) (table (now (kinds .entry)) (now (numbers .entry)) to) ⌝ }
+        ≡ putRows (commandRows (assign numberType (expressionAt (now (types .entry)) (now (plan .entry))
+        (now (references .entry)) value) (acceptorAt (now (types .entry)) (now (references .entry))
+        target) counters regions)) (table (now (kinds .entry)) (now (numbers .entry)) to) ⌝ }
 {
     let mut changes = [0u64; 4096];
     let place = put_count(kinds, numbers, to, WORD_SET, 0);
@@ -80,7 +83,7 @@ fn push_both(
     push(references, len + 1, kind, number, target, 0);
 }
 
-// What node `value` reads, of the type at a place, goes where node `target` writes. Nodes from `len` on are free.
+// [6.3] What node `value` reads, of the type at a place, goes where node `target` writes. Nodes from `len` on are free.
 pub fn put_assign(
     types: &[u64],
     plan: &[i32],
@@ -98,7 +101,10 @@ pub fn put_assign(
     requires { ⌜ Sound (now types) (length (now types)) × (place < length (now types)) × (value < len) × (target < len)
         × (len + 2 * levelsOf (typeAt (now types) place) ≤ 4096) × (counters + levelsOf (typeAt (now types) place) < 65536) × (length (now references) ≡ 4096) ⌝ }
     ensures rows { λ r. ⌜ table (now (kinds .exit)) (now (numbers .exit)) r
-        ≡ putRows (commandRows (assign (typeAt (now (types .entry)) place) (expressionAt (now (types .entry)) (now (plan .entry)) (now (references .entry)) value) (acceptorAt (now (types .entry)) (now (references .entry)) target) counters regions)) (table (now (kinds .entry)) (now (numbers .entry)) to) ⌝ }
+        ≡ putRows (commandRows (assign (typeAt (now (types .entry)) place) (expressionAt (now (types .entry))
+        (now (plan .entry)) (now (references .entry)) value) (acceptorAt (now (types .entry))
+        (now (references .entry)) target) counters regions))
+        (table (now (kinds .entry)) (now (numbers .entry)) to) ⌝ }
     ensures grown { λ _. ⌜ Grown (now (references .entry)) (now (references .exit)) len ⌝ }
 {
     if MOST_ROWS < to {

@@ -1,4 +1,4 @@
-// What the translation of a plan emits: the rows of values, of places and of assignments.
+// What the translation of a plan emits: the rows of values, of places and of assignments: [6.3], [6.17] to [6.23].
 pub mod assign;
 mod offsets;
 mod paths;

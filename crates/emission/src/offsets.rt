@@ -1,4 +1,4 @@
-// The rows of an offset into a type, at a path: "An offset adds up, from outside in".
+// [6.18], [6.20] The rows of an offset into a type, at a path: a sum, the outermost step first.
 ghost use mathlib.Core.Path.{_≡_};
 ghost use Prim.Native.Nat.{suc, _+_, _-_, _<_, _≤_};
 ghost use lib.ListN.{drop, length};
@@ -40,7 +40,7 @@ pub fn put_cells(
     )
 }
 
-// How many summands the offset into the type at a place has, from step j of the path on.
+// [6.18] How many summands the offset into the type at a place has, from step j of the path on.
 fn count_summands(
     types: &[u64],
     changes: &[u64; 4096],
@@ -65,7 +65,7 @@ fn count_summands(
     count_summands(types, changes, first, depth, j + 1)
 }
 
-// Their rows, in order.
+// [6.18] Their rows, in order.
 fn put_summands(
     types: &[u64],
     changes: &[u64; 4096],
@@ -128,8 +128,8 @@ fn put_summands(
     )
 }
 
-// The offset into the type at a place that the path of the first `depth` changes leads to. A place that the table of types does
-// not have stands for a number.
+// [6.18], [6.20] The offset into the type at a place ([6.19]) that the path of the first `depth` changes leads to. A place that the
+// table of types does not have stands for a number.
 pub fn put_offset(
     types: &[u64],
     changes: &[u64; 4096],
@@ -142,7 +142,8 @@ pub fn put_offset(
 ) -> usize
     requires { ⌜ Sound (now types) (length (now types)) × (depth ≤ 4096) ⌝ }
     ensures { λ r. ⌜ table (now (kinds .exit)) (now (numbers .exit)) r
-        ≡ putRows (offsetRows (offsetFromInnermost counters (offsetOf (typeAt (now (types .entry)) place) (pathOf (now (changes .entry)) depth)))) (table (now (kinds .entry)) (now (numbers .entry)) to) ⌝ }
+        ≡ putRows (offsetRows (offsetFromInnermost counters (offsetOf (typeAt (now (types .entry)) place)
+        (pathOf (now (changes .entry)) depth)))) (table (now (kinds .entry)) (now (numbers .entry)) to) ⌝ }
 {
     if types.len() <= place {
         return put_count(kinds, numbers, to, WORD_LIT, 0);

@@ -1,5 +1,5 @@
-// A path is a stack of changes: the nodes passed from the one first read, or written, to the one reached. Each changes the
-// path behind it as Figure 5 says. Steps are found without building the path.
+// A path is a stack of changes: the nodes passed from the one first read, or written, to the one reached. Each changes the path behind
+// it as [6.21] to [6.23] say (Figure 5 of the paper). Steps are found without building the path.
 ghost use mathlib.Core.Path.{_≡_};
 ghost use mathlib.Core.Bool.{true, false};
 ghost use Prim.Native.Nat.{suc, _+_, _-_, _<_, _≤_};
@@ -119,7 +119,7 @@ fn gone(change: Change) -> usize
     }
 }
 
-// Step j of those that a change puts in front of the path at depth `behind`.
+// [6.22], [6.23] Step j of those that a change puts in front of the path at depth `behind`.
 fn own_step(change: Change, number: u16, j: usize, behind: usize) -> Found
     ensures { λ r. ⌜ r ≡ ownFound change number j behind ⌝ }
 {
@@ -187,14 +187,14 @@ pub fn is_second(changes: &[u64; 4096], depth: usize, j: usize) -> bool
     }
 }
 
-// The counter or region of a level, counted from 0 innermost, where so many are in force.
+// [3.16], [6.17] The counter or region of a level, counted from 0 innermost, where so many are in force.
 pub fn from_innermost(many: u16, level: u16) -> u16
     ensures { λ r. ⌜ r ≡ many - suc level ⌝ }
 {
     if level < many { many - 1 - level } else { 0 }
 }
 
-// The rows of the index at step j.
+// [6.21], [6.22] The rows of the index at step j.
 pub fn put_index(
     changes: &[u64; 4096],
     kinds: &mut [u8; 4096],

@@ -1,4 +1,4 @@
-// The rows of places: an acceptor written at a path (Figure 5b).
+// The rows of places: an acceptor written at a path ([6.22], [6.23]; Figure 5b of the paper).
 ghost use mathlib.Core.Path.{_≡_};
 ghost use Prim.Native.Nat.{_+_, _<_, _≤_};
 ghost use lib.ListN.{length};
@@ -69,7 +69,9 @@ pub fn put_place(
 ) -> usize
     requires { ⌜ Sound (now types) (length (now types)) × (from < 4096) × (depth + from ≤ 4096) × (length (now changes) ≡ 4096) ⌝ }
     ensures rows { λ r. ⌜ table (now (kinds .exit)) (now (numbers .exit)) r
-        ≡ putRows (placeRows (placeFromInnermost counters regions (writeAt (acceptorAt (now (types .entry)) (now (references .entry)) from) (pathOf (now (changes .entry)) depth)))) (table (now (kinds .entry)) (now (numbers .entry)) to) ⌝ }
+        ≡ putRows (placeRows (placeFromInnermost counters regions (writeAt (acceptorAt (now (types .entry))
+        (now (references .entry)) from) (pathOf (now (changes .entry)) depth))))
+        (table (now (kinds .entry)) (now (numbers .entry)) to) ⌝ }
     ensures size { λ _. ⌜ length (now (changes .exit)) ≡ 4096 ⌝ }
 {
     let node = references[from];

@@ -9,9 +9,9 @@ ghost use Rattle.emission.specs.References.{classOf};
 ghost use Rattle.emission.specs.Growth.{Pushed};
 use words::kinds::*;
 
-// Kinds of nodes that are no word: the acceptors of the two operands of a `zip`. The others are named by words: `in`, `loc` and
+// Kinds of nodes that are no word: the acceptors of the two operands of a `zip` ([6.9]). The others are named by words: `in`, `loc` and
 // `out` lie in the store in some type, their numbers being an input or a region's level; the number of `lit` is its row in
-// the plan. `split` and `join` are those of what is read; where a write goes through, `join` stands for the place of a
+// the plan. `split` and `join` are those of what is read; where a write goes through ([6.22]), `join` stands for the place of a
 // `split`'s operand, and `split` for that of a `join`'s.
 pub const ZIP_FIRST: u8 = 38;
 

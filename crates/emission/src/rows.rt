@@ -1,5 +1,5 @@
-// Rows put at the end of a table of at most 4,096: kinds and numbers. Past the last row nothing more is put, and the end
-// is 4,097 from then on: too many.
+// Rows put at the end of a table of at most 4,096 ([13.5]): kinds and numbers. Past the last row nothing more is put, and the end is
+// 4,097 from then on: too many ([10.10]).
 ghost use mathlib.Core.Path.{_≡_};
 ghost use lib.IntN.{pos};
 ghost use lib.ListN.{replicate};
@@ -46,7 +46,7 @@ pub fn put_count(
     put(kinds, numbers, to, kind, count as i32)
 }
 
-// As many rows `plus` as are asked for.
+// [6.20] As many rows `plus` as are asked for.
 pub fn put_pluses(
     kinds: &mut [u8; 4096],
     numbers: &mut [i32; 4096],

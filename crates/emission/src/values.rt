@@ -1,4 +1,4 @@
-// The rows of values: an expression read at a path (Figure 5c).
+// The rows of values: an expression read at a path ([6.22], [6.23]; Figure 5c of the paper).
 ghost use mathlib.Core.Path.{_≡_};
 ghost use Prim.Native.Nat.{_+_, _<_, _≤_};
 ghost use lib.ListN.{length, take, getD};
@@ -93,7 +93,9 @@ pub fn put_value(
 ) -> usize
     requires { ⌜ Sound (now types) (length (now types)) × (from < 4096) × (depth + from ≤ 4096) × (length (now changes) ≡ 4096) ⌝ }
     ensures rows { λ r. ⌜ table (now (kinds .exit)) (now (numbers .exit)) r
-        ≡ putRows (valueRows (valueFromInnermost counters regions (readAt (expressionAt (now (types .entry)) (now (plan .entry)) (now (references .entry)) from) (pathOf (now (changes .entry)) depth)))) (table (now (kinds .entry)) (now (numbers .entry)) to) ⌝ }
+        ≡ putRows (valueRows (valueFromInnermost counters regions (readAt (expressionAt (now (types .entry))
+        (now (plan .entry)) (now (references .entry)) from) (pathOf (now (changes .entry)) depth))))
+        (table (now (kinds .entry)) (now (numbers .entry)) to) ⌝ }
     ensures kept { λ _. ⌜ (take depth (now (changes .exit)) ≡ take depth (now (changes .entry))) × (length (now (changes .exit)) ≡ 4096) ⌝ }
 {
     let node = references[from];

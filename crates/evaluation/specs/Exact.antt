@@ -1,4 +1,4 @@
--- What makes the sums of 32 bits in an evaluation exact: loops that pass the check have it. Definitions only; assumes nothing.
+-- What makes the sums of 32 bits in an evaluation exact: loops that pass the check have it ([10.9]). Definitions only; assumes nothing.
 use Prim.Native.Nat.{ℕ, _+_, _*_, _≤_}
 use Rattle.meaning.specs.Loops.{Offset, Value, plus, times, over, rest}
 use Rattle.meaning.specs.Runs.{offsetAt}

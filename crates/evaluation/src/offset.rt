@@ -1,4 +1,4 @@
-// The number of an offset. The counters in force are counters[c..], innermost first.
+// [9.2] The number of an offset. The counters in force are counters[c..], innermost first.
 ghost use mathlib.Core.Path.{_≡_};
 ghost use Prim.Native.Nat.{min, _+_, _*_, _/_, _%_, _≤_};
 ghost use lib.ListN.{length, drop};
@@ -40,7 +40,7 @@ pub fn entry(list: &[u32], first: usize, d: u32) -> u32
     0
 }
 
-// `times`, `over` or `rest` of an offset.
+// [3.15] `times`, `over` or `rest` of an offset.
 fn scaled(kind: u8, n: u32, x: u32) -> u32
     ensures times { λ r. ⌜ (kind ≡ word-times → r ≡ min (n * x) 4294967295) ⌝ }
     ensures over { λ r. ⌜ (kind ≡ word-over → 1 ≤ n → r ≡ x / n) ⌝ }

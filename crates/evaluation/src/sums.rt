@@ -1,4 +1,4 @@
-// Sums and products as far as 32 bits go: exact in loops that pass the check.
+// Sums and products as far as 32 bits go: exact in loops that pass the check ([10.9]).
 ghost use mathlib.Core.Path.{_≡_};
 ghost use Prim.Native.Nat.{min, _+_, _*_};
 

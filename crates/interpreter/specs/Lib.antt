@@ -1,6 +1,6 @@
--- The interpreter of loops over rows: document 01, 'Value and run', second part, and the orders of question 13.
+-- The interpreter of loops over rows: [9.1] to [9.7], in the orders of [9.10].
 
--- The definitions: what a reader has to believe
+-- The definitions
 pub mod Orders
 -- What the contracts of parts say besides
 pub mod Exact

@@ -11,7 +11,7 @@ ghost use Rattle.interpreter.specs.Commands.{nextOf, placeOf, commandOf,
 use evaluation::offset;
 use words::kinds::*;
 
-// Where a `set` puts its value: an offset into the output, or into a region, 0 the innermost.
+// [3.14] Where a `set` puts its value: an offset into the output, or into a region, 0 the innermost.
 pub enum Place {
     Output(u32),
     Region(u32, u32),
@@ -49,7 +49,8 @@ fn set_at(
     Command::Set(Place::Region(region, offset.number), offset.next)
 }
 
-// The command whose rows begin at row `at`, `Nothing` where none does. A `for` takes its rounds in order 0, a `par` in the order named.
+// The command whose rows begin at row `at`, `Nothing` where none does. A `for` takes its rounds in order 0 [9.4], a `par` in the order
+// named [9.10].
 pub fn decode(
     kinds: &[u8; 4096],
     numbers: &[i32; 4096],

@@ -1,5 +1,6 @@
-// The run of a command. The counters in force are counters[c..], innermost first, and the first cells of the regions in force
-// regions[r..]; `inputs` has the first cells of the inputs, `output` is that of the output, and `free` the next cell for a region.
+// The run of a command. The counters in force are counters[c..], innermost first ([13.10]), and the first cells of the regions in force
+// regions[r..] ([13.11]); `inputs` has the first cells of the inputs ([13.6]), `output` is that of the output, and `free` the next cell
+// for a region.
 ghost use mathlib.Core.Path.{_≡_};
 ghost use mathlib.Core.List.{_∷_};
 ghost use Prim.Native.Nat.{ℕ, _+_, _*_, _-_, _≤_, _<_};
@@ -30,7 +31,7 @@ pub struct Progress {
     pub writes: u32,
 }
 
-// Puts the value whose rows begin at row `at` into a place: the row behind it.
+// [9.2] Puts the value whose rows begin at row `at` into a place: the row behind it.
 fn assign(
     kinds: &[u8; 4096],
     numbers: &[i32; 4096],
@@ -48,7 +49,8 @@ fn assign(
     ensures bound { λ n. ⌜ at ≤ n ⌝ }
     ensures frame { λ _. ⌜ frameOf (now (cells .exit)) (now (bytes .exit)) ≡ frameOf (now (cells .entry)) (now (bytes .entry)) ⌝ }
     ensures result { λ n. ⌜ ((v : ValueTree) → Stand (now (kinds .entry)) (now (numbers .entry)) at (valueRows v) → ValueExact (entryOf (drop c (now (counters .entry)))) v
-        → (n ≡ at + length (valueRows v)) × (storeOf (now (cells .exit)) (now (bytes .exit)) ≡ set (storeOf (now (cells .entry)) (now (bytes .entry))) (cellOf (entryOf (drop r (now (regions .entry)))) output place)
+        → (n ≡ at + length (valueRows v)) × (storeOf (now (cells .exit)) (now (bytes .exit)) ≡ set
+        (storeOf (now (cells .entry)) (now (bytes .entry))) (cellOf (entryOf (drop r (now (regions .entry)))) output place)
         (valueIn clamped32 (now (inputs .entry)) (entryOf (drop c (now (counters .entry)))) (entryOf (drop r (now (regions .entry)))) (storeOf (now (cells .entry)) (now (bytes .entry))) v))) ⌝ }
 {
     let value = value::evaluate(
@@ -72,8 +74,8 @@ fn assign(
     value.next
 }
 
-// The rounds of a loop whose command's rows begin at row `at`, n of them, in the order named `turns`; a `par` in its command takes the order
-// named `order`.
+// [9.4], [9.5] The rounds of a loop whose command's rows begin at row `at`, n of them, in the order named `turns`; a `par` in its
+// command takes the order named `order`.
 fn run_rounds(
     kinds: &[u8; 4096],
     numbers: &[i32; 4096],
@@ -140,7 +142,8 @@ fn run_rounds(
     done
 }
 
-// The command whose rows begin at row `at`.
+// The command whose rows begin at row `at`: a `set` [9.2], a `seq` [9.3], a loop [9.4], [9.5], or a `new`, which clears nothing [9.6].
+// Its writes are counted as they are made ([9.7]).
 pub fn run_command(
     kinds: &[u8; 4096],
     numbers: &[i32; 4096],

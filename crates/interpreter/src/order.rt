@@ -1,4 +1,4 @@
-// The orders of rounds: 0 forward, 1 backward, 2 the even rounds and then the odd ones.
+// [9.10] The orders of rounds: 0 forward, 1 backward, 2 the even rounds and then the odd ones.
 ghost use mathlib.Core.Path.{_≡_};
 ghost use Prim.Native.Nat.{_<_};
 ghost use lib.ListN.{getD};

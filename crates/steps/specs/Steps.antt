@@ -7,7 +7,8 @@ use Prim.Native.Nat.{ℕ, _+_, _-_}
 use lib.Dec.{eqb, ltb}
 use lib.IntN.{pos}
 use lib.ListN.{getD, set}
-use Rattle.words.specs.Kinds.{word-in, word-var, word-lit, word-neg, word-mappar, word-mapseq, word-zip, word-pair, word-split, word-join, word-fst, word-snd, word-seq, word-for, word-par, word-new, word-loc, word-ctr}
+use Rattle.words.specs.Kinds.{word-in, word-var, word-lit, word-neg, word-mappar, word-mapseq, word-zip, word-pair, word-split, word-join}
+use Rattle.words.specs.Kinds.{word-fst, word-snd, word-seq, word-for, word-par, word-new, word-loc, word-ctr}
 use Rattle.meaning.specs.Types.{DataType, cells, arrayLength, element}
 use Rattle.meaning.specs.Expressions.{Expression, Acceptor}
 use Rattle.meaning.specs.Translation.{assign}
@@ -32,15 +33,15 @@ regionNode k = cond (isMap k) 1 0
 abbrev pub hasOneOperand : ℕ → Bool
 hasOneOperand k = cond (eqb k word-neg) true (ltb word-pair k)
 
--- the number of a node over one operand of type t: of a `join` the length of the groups, else that of its row
+-- [6.22] The number of a node over one operand of type t: of a `join` the length of a group, else that of its row
 abbrev pub numberOver : ℕ → ℕ → DataType → ℕ
 numberOver k n t = cond (eqb k word-join) (arrayLength (element t)) n
 
--- the loop that a map becomes
+-- [6.7] The loop that a map becomes
 abbrev pub mapLoop : ℕ → ℕ
 mapLoop k = cond (eqb k word-mappar) word-par word-for
 
--- `zip` and `pair`, and the places of their operands
+-- [6.9] `zip` and `pair`, and the places of their operands
 abbrev pub isPaired : ℕ → Bool
 isPaired k = cond (eqb k word-zip) true (eqb k word-pair)
 
@@ -50,7 +51,7 @@ firstPart k = cond (eqb k word-zip) zip-first word-fst
 abbrev pub secondPart : ℕ → ℕ
 secondPart k = cond (eqb k word-zip) zip-second word-snd
 
--- `split` and `join`, and the place of their operand
+-- [6.10], [6.22] `split` and `join`, and the place of their operand
 abbrev pub isRegrouped : ℕ → Bool
 isRegrouped k = cond (eqb k word-split) true (eqb k word-join)
 
@@ -59,15 +60,15 @@ regroupedBy k = cond (eqb k word-split) word-join word-split
 
 -- ---- rows
 
--- a region of type t, and a `seq`
+-- [6.13], [6.14] A region of type t, and a `seq`
 abbrev pub regionRows : DataType → Table → Table
 regionRows t o = putRow (putRow o (word-new, pos (cells t))) (word-seq, pos 0)
 
--- the loop of a map of type t
+-- [6.7] The loop of a map of type t
 abbrev pub mapRows : ℕ → DataType → Table → Table
 mapRows k t o = putRow o (mapLoop k, pos (arrayLength t))
 
--- a reduction of type t and n rounds as far as its body, in round c, the total being region r: the start Z is assigned
+-- [6.14], [6.16] A reduction of type t and n rounds as far as its body, in round c, the total being region r: the start Z is assigned.
 abbrev pub enteredRows : DataType → ℕ → Expression → ℕ → ℕ → Table → Table
 enteredRows t n Z c r o =
     regionRows t
@@ -75,7 +76,7 @@ enteredRows t n Z c r o =
     (putRow (putRows (commandRows (assign t Z (Acceptor.region r t) c (r + 1))) (regionRows t o)) (word-seq, pos 0))
     (word-for, pos n))
 
--- behind its body, the next total E is assigned to the total P
+-- [6.14] Behind its body, the next total E is assigned to the total P.
 abbrev pub leftRows : DataType → Expression → Acceptor → ℕ → ℕ → Table → Table
 leftRows t E P c r o = putRows (commandRows (assign t E P (c + 1) (r + 2))) o
 
@@ -98,13 +99,13 @@ pub record VariableUsed (T U : List ℕ) (n : ℕ) (s : State) (r : Walked) : Ty
   pub to : r .to ≡ s .to
   pub same : U ≡ T
 
--- An input of the type at place t, a variable or a literal, which stands in a row of the plan.
+-- [6.12] An input of the type at place t, a variable or a literal, which stands in a row of the plan.
 pub record LeafUsed (T U : List ℕ) (k n t row : ℕ) (s : State) (r : Walked) : Type 0 where
   pub input : k ≡ word-in → Pushed T U (s .len) (nodeOf word-in t n 0 0) × NodeUsed s r
   pub variable : k ≡ word-var → VariableUsed T U n s r
   pub literal : k ≡ word-lit → Pushed T U (s .len) (nodeOf word-lit 0 row 0 0) × NodeUsed s r
 
--- a node of kind k and number n over what was used
+-- [6.15] A node of kind k and number n over what was used
 pub record OverOne (T U : List ℕ) (k n : ℕ) (one r : Walked) : Type 0 where
   pub node : Pushed T U (one .len) (nodeOf k 0 n (one .value) 0)
   pub rows : r .rows ≡ 1 + one .rows
@@ -128,7 +129,7 @@ pub record SameVariables (s r : State) : Type 0 where
   pub variables : r .variables ≡ s .variables
   pub count : r .count ≡ s .count
 
--- node s .len is a new region of the type at place t
+-- [6.13] Node s .len is a new region of the type at place t.
 pub record RegionOpened (T U : List ℕ) (t : ℕ) (s r : State) : Type 0 where
   pub node : Pushed T U (s .len) (nodeOf word-loc t (s .regions) 0 0)
   pub counters : r .counters ≡ s .counters
@@ -169,7 +170,7 @@ pub record IntoPart (T U : List ℕ) (k n P m : ℕ) (s r : State) : Type 0 wher
 
 -- ---- bodies
 
--- in the round of a map written into P: the element, which is the body's variable, and the body's place
+-- [6.7] In the round of a map written into P: the element, which is the body's variable, and the body's place
 pub record MapEntered (T U : List ℕ) (P : ℕ) (s : State) (used : Walked) (r : State) : Type 0 where
   pub nodes : BothPushed T U (used .len) word-ctr (s .counters) (used .value) P
   pub counters : r .counters ≡ s .counters + 1
@@ -178,7 +179,7 @@ pub record MapEntered (T U : List ℕ) (P : ℕ) (s : State) (used : Walked) (r 
   pub count : r .count ≡ s .count + 1
   pub len : r .len ≡ used .len + 2
 
--- the total, region r of the type at place t; the element of node a at counter c; the next total
+-- [6.14] The total, region r of the type at place t; the element of node a at counter c; the next total
 pub record ReductionPushed (T U : List ℕ) (t a c r len : ℕ) : Type 0 where
   pub one : List ℕ
   pub two : List ℕ
@@ -192,7 +193,7 @@ pub record ReductionBegun (T U : List ℕ) (t a c r len : ℕ) : Type 0 where
   pub nodes : ReductionPushed T between t a c r len
   pub grown : Grown between U (len + 3)
 
--- in the round of a reduction: the body's variables are the total, innermost, and the element
+-- [3.10] In the round of a reduction: the body's variables are the total, innermost, and the element.
 pub record InRound (s : State) (start : Walked) (to : ℕ) (r : State) : Type 0 where
   pub counters : r .counters ≡ s .counters + 1
   pub regions : r .regions ≡ start .regions + 2
@@ -205,7 +206,7 @@ pub record ReductionEntered (T U : List ℕ) (t a : ℕ) (s : State) (start : Wa
   pub begun : ReductionBegun T U t a (s .counters) (start .regions) (start .len)
   pub round : InRound s start (r .to) r
 
--- what is used of it is the total, region n; m rows stand before its body
+-- [6.14] What is used of it is the total, region n; m rows stand before its body.
 pub record ReductionLeft (T U : List ℕ) (total n m : ℕ) (body r : Walked) : Type 0 where
   pub grown : Grown T U (body .len)
   pub rows : r .rows ≡ m + body .rows

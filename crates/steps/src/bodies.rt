@@ -1,4 +1,4 @@
-// Into and out of the loops of maps and of reductions, whose bodies have variables of their own.
+// Into and out of the loops of maps [6.7] and of reductions [6.14], whose bodies have variables of their own.
 ghost use mathlib.Core.Path.{_≡_};
 ghost use Prim.Native.Nat.{_+_, _≤_, _<_};
 ghost use lib.ListN.{length};
@@ -16,7 +16,7 @@ use emission::references::push_stored;
 use emission::rows::put_count;
 use words::kinds::*;
 
-// The loop that a map becomes.
+// [6.7] The loop that a map becomes.
 fn map_loop(kind: u8) -> u8
     ensures { λ r. ⌜ r ≡ mapLoop kind ⌝ }
 {
@@ -26,7 +26,7 @@ fn map_loop(kind: u8) -> u8
     WORD_FOR
 }
 
-// Into the loop of a map that is written where node `target` says: node `used.len` is the element that was used, the body's
+// [6.7] Into the loop of a map that is written where node `target` says: node `used.len` is the element that was used, the body's
 // variable, and the node behind it the place where the body is written.
 pub fn enter_map(
     types: &[u64],
@@ -82,7 +82,7 @@ pub fn enter_map(
     }
 }
 
-// The nodes of a reduction: its total, the element of the array at a counter, and the next total.
+// [6.14] The nodes of a reduction: its total, the element of the array at a counter, and the next total.
 fn push_reduction(
     references: &mut [u64; 4096],
     place: usize,
@@ -99,8 +99,8 @@ fn push_reduction(
     push_stored(references, len + 2, WORD_LOC, regions + 1, place);
 }
 
-// The nodes of a reduction whose type is at a place, and its rows as far as its body: the start, which was used, is assigned to
-// the total; then come so many rounds over what node `array` reads.
+// [6.14] The nodes of a reduction whose type is at a place, and its rows as far as its body: the start, which was used, is assigned
+// to the total; then come so many rounds over what node `array` reads.
 fn begin_reduction(
     types: &[u64],
     plan: &[i32],
@@ -117,7 +117,9 @@ fn begin_reduction(
         × (counters + 8 < 65536) × (start .regions + 2 < 65536) × (length (now references) ≡ 4096) ⌝ }
     ensures made { λ _. ⌜ ReductionBegun (now (references .entry)) (now (references .exit)) place array counters (start .regions) (start .len) ⌝ }
     ensures rows { λ r. ⌜ table (now (outkinds .exit)) (now (outnumbers .exit)) r
-        ≡ enteredRows (typeAt (now (types .entry)) place) rounds (expressionAt (now (types .entry)) (now (plan .entry)) (now (references .entry)) (start .value)) counters (start .regions) (table (now (outkinds .entry)) (now (outnumbers .entry)) (start .to)) ⌝ }
+        ≡ enteredRows (typeAt (now (types .entry)) place) rounds (expressionAt (now (types .entry))
+        (now (plan .entry)) (now (references .entry)) (start .value)) counters (start .regions) (table
+        (now (outkinds .entry)) (now (outnumbers .entry)) (start .to)) ⌝ }
 {
     push_reduction(references, place, array, counters, start.regions, start.len);
     let opened = put_region(types, outkinds, outnumbers, place, start.to);
@@ -140,7 +142,7 @@ fn begin_reduction(
     put_region(types, outkinds, outnumbers, place, round)
 }
 
-// In its round: the body's variables are the total, innermost, and the element.
+// [3.10], [14.8] In its round: the body's variables are the total, innermost, and the element.
 fn in_round(state: State, start: Walked, to: usize) -> State
     requires { ⌜ (start .len + 3 ≤ 4096) × (state .counters + 1 < 65536) × (start .regions + 2 < 65536) × (state .count + 1 < 16) × (length (state .variables) ≡ 16) ⌝ }
     ensures { λ r. ⌜ InRound state start to r ⌝ }
@@ -160,7 +162,7 @@ fn in_round(state: State, start: Walked, to: usize) -> State
     }
 }
 
-// Into the loop of a reduction: both.
+// [6.14] Into the loop of a reduction: both. The body is written apart, into the next total, since it still reads the total ([14.5]).
 pub fn enter_reduction(
     types: &[u64],
     plan: &[i32],
@@ -177,7 +179,9 @@ pub fn enter_reduction(
         × (state .counters + 8 < 65536) × (start .regions + 2 < 65536) × (state .count + 1 < 16) × (length (state .variables) ≡ 16) × (length (now references) ≡ 4096) ⌝ }
     ensures made { λ r. ⌜ ReductionEntered (now (references .entry)) (now (references .exit)) place array state start r ⌝ }
     ensures rows { λ r. ⌜ table (now (outkinds .exit)) (now (outnumbers .exit)) (r .to)
-        ≡ enteredRows (typeAt (now (types .entry)) place) rounds (expressionAt (now (types .entry)) (now (plan .entry)) (now (references .entry)) (start .value)) (state .counters) (start .regions) (table (now (outkinds .entry)) (now (outnumbers .entry)) (start .to)) ⌝ }
+        ≡ enteredRows (typeAt (now (types .entry)) place) rounds (expressionAt (now (types .entry))
+        (now (plan .entry)) (now (references .entry)) (start .value)) (state .counters) (start .regions) (table
+        (now (outkinds .entry)) (now (outnumbers .entry)) (start .to)) ⌝ }
 {
     let to = begin_reduction(
         types,
@@ -194,7 +198,7 @@ pub fn enter_reduction(
     in_round(state, start, to)
 }
 
-// Out of it: the next total is assigned to the total, node `total`, which is what is read of the reduction.
+// [6.14] Out of it: the next total is assigned to the total, node `total`, which is what is read of the reduction.
 pub fn leave_reduction(
     types: &[u64],
     plan: &[i32],
@@ -212,7 +216,9 @@ pub fn leave_reduction(
         × (counters + 9 < 65536) × (regions + 2 < 65536) × (rows ≤ 65535) × (body .rows ≤ 65535) × (length (now references) ≡ 4096) ⌝ }
     ensures made { λ r. ⌜ ReductionLeft (now (references .entry)) (now (references .exit)) total regions rows body r ⌝ }
     ensures rows { λ r. ⌜ table (now (outkinds .exit)) (now (outnumbers .exit)) (r .to)
-        ≡ leftRows (typeAt (now (types .entry)) place) (expressionAt (now (types .entry)) (now (plan .entry)) (now (references .entry)) (total + 2)) (acceptorAt (now (types .entry)) (now (references .entry)) total) counters regions (table (now (outkinds .entry)) (now (outnumbers .entry)) (body .to)) ⌝ }
+        ≡ leftRows (typeAt (now (types .entry)) place) (expressionAt (now (types .entry)) (now (plan .entry))
+        (now (references .entry)) (total + 2)) (acceptorAt (now (types .entry)) (now (references .entry)) total)
+        counters regions (table (now (outkinds .entry)) (now (outnumbers .entry)) (body .to)) ⌝ }
 {
     let to = put_assign(
         types,

@@ -1,5 +1,5 @@
-// What one word of a term does in the translation, around the calls for its operands. Here are the steps of "use E in C": the node of a
-// term over those of its operands, the region of a used map, and where a walk goes on.
+// What one word of a term does in the translation, around the calls for its operands. Here are the steps of using a term
+// ([6.12] to [6.15]): its node over those of its operands, the region of a used map, and where a walk goes on.
 ghost use mathlib.Core.Path.{_≡_};
 ghost use Prim.Native.Nat.{_+_, _≤_, _<_};
 ghost use lib.ListN.{length};
@@ -71,7 +71,7 @@ pub fn array_length(types: &[u64], place: usize) -> u16
     length as u16
 }
 
-// The length of its elements.
+// [6.22] The length of its elements: of a `join`'s operand the length of a group, by which an index is divided ([14.4]).
 pub fn group_length(types: &[u64], place: usize) -> u16
     requires { ⌜ Sound (now types) (length (now types)) × (place < length (now types)) ⌝ }
     ensures { λ r. ⌜ r ≡ arrayLength (elementType (typeAt (now (types .entry)) place)) ⌝ }
@@ -83,7 +83,7 @@ pub fn group_length(types: &[u64], place: usize) -> u16
     array_length(types, element)
 }
 
-// The number of the node of a term with one operand, whose type is at a place: a `join` has the length of the groups.
+// [6.22] The number of the node of a term with one operand, whose type is at a place: a `join` has the length of a group.
 pub fn node_number(kind: u8, number: usize, types: &[u64], place: usize) -> u16
     requires { ⌜ Sound (now types) (length (now types)) × (place < length (now types)) × (number < 65536) ⌝ }
     ensures { λ r. ⌜ r ≡ numberOver kind number (typeAt (now (types .entry)) place) ⌝ }
@@ -108,7 +108,7 @@ fn node_used(state: State) -> Walked
     }
 }
 
-// A use of an input, a variable or a literal, which stands in row `row` of the plan.
+// [6.12] A use of an input, a variable or a literal, which stands in row `row` of the plan.
 pub fn leaf(
     references: &mut [u64; 4096],
     kind: u8,
@@ -139,7 +139,7 @@ pub fn leaf(
     node_used(state)
 }
 
-// A node over the one that was used.
+// [6.15] A node over the one that was used.
 pub fn over_one(references: &mut [u64; 4096], kind: u8, number: u16, one: Walked) -> Walked
     requires { ⌜ (one .value < one .len) × (one .len < 4096) × (one .rows ≤ 65535) × (length (now references) ≡ 4096) ⌝ }
     ensures { λ r. ⌜ OverOne (now (references .entry)) (now (references .exit)) kind number one r ⌝ }
@@ -154,7 +154,7 @@ pub fn over_one(references: &mut [u64; 4096], kind: u8, number: u16, one: Walked
     }
 }
 
-// A node over the two that were used, one after the other.
+// [6.15] A node over the two that were used, one after the other.
 pub fn over_two(references: &mut [u64; 4096], kind: u8, one: Walked, two: Walked) -> Walked
     requires { ⌜ (one .value < two .len) × (two .value < two .len) × (two .len < 4096) × (one .rows ≤ 65535) × (two .rows ≤ 65535) × (length (now references) ≡ 4096) ⌝ }
     ensures { λ r. ⌜ OverTwo (now (references .entry)) (now (references .exit)) kind one two r ⌝ }
@@ -169,7 +169,7 @@ pub fn over_two(references: &mut [u64; 4096], kind: u8, one: Walked, two: Walked
     }
 }
 
-// The rows that open a region of the type at a place: `new`, and a `seq` whose first command fills it.
+// [6.13], [6.14] The rows that open a region of the type at a place: `new`, and a `seq` whose first command fills it.
 pub fn put_region(
     types: &[u64],
     outkinds: &mut [u8; 4096],
@@ -191,7 +191,7 @@ pub fn put_region(
     put_count(outkinds, outnumbers, begun, WORD_SEQ, 0)
 }
 
-// A region for a used map whose type is at a place: node `state.len` is where the map is written.
+// [6.13] A region for a used map whose type is at a place: node `state.len` is where the map is written.
 pub fn open_region(
     types: &[u64],
     references: &mut [u64; 4096],
@@ -233,7 +233,7 @@ pub fn region_used(state: State, written: Walked) -> Walked
     }
 }
 
-// The walk goes on behind a use: the regions that it opened are in force.
+// [6.2] The walk goes on behind a use, within C: the regions that it opened are in force.
 pub fn after_use(state: State, used: Walked) -> State
     ensures { λ r. ⌜ AfterUse state used r ⌝ }
 {

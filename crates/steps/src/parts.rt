@@ -1,4 +1,4 @@
-// The steps of "write E into P" where the operands of E are written into parts of P: of a `zip`, a `pair`, a `split` and a `join`.
+// The steps of writing a term whose operands are written into parts of its place: `zip` and `pair` [6.9], `split` and `join` [6.10].
 ghost use mathlib.Core.Path.{_≡_};
 ghost use Prim.Native.Nat.{_<_};
 ghost use lib.IntN.{pos};
@@ -54,7 +54,7 @@ pub fn second_part(kind: u8) -> u8
     WORD_SND
 }
 
-// The kind of the place of a `split`'s or a `join`'s operand.
+// [6.22] The kind of the place of a `split`'s or a `join`'s operand.
 pub fn regrouped(kind: u8) -> u8
     ensures { λ r. ⌜ r ≡ regroupedBy kind ⌝ }
 {
@@ -87,7 +87,7 @@ pub fn into_part(
     }
 }
 
-// Into the part of the first of two operands: `seq`, and node `state.len`.
+// [6.9] Into the part of the first of two operands: `seq`, and node `state.len`.
 pub fn into_first(
     references: &mut [u64; 4096],
     outkinds: &mut [u8; 4096],
@@ -113,7 +113,7 @@ pub fn into_first(
     }
 }
 
-// Into the part of the second, behind the first: node `written.len`.
+// [6.9] Into the part of the second, behind the first: node `written.len`.
 pub fn into_second(
     references: &mut [u64; 4096],
     kind: u8,

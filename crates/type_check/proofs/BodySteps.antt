@@ -150,7 +150,8 @@ module _ (ks : List ℕ) (ns : List ℤ) (T : List ℕ) (m : ℕ) (C : List ℕ)
             (F I (typeAt T p ∷ element (typeAt T q) ∷ Γ) (thirdOperand e) operand-stands))))
 
         module _ (u c l : ℕ) (h : r ≡ Typed u c l) where
-          found : Found T m U (m + 2 * length (termRows (thirdOperand e))) (length (termRows (thirdOperand e))) (check I (typeAt T p ∷ element (typeAt T q) ∷ Γ) (thirdOperand e) (row + at + 1)) (Typed u c l)
+          found : Found T m U (m + 2 * length (termRows (thirdOperand e))) (length (termRows (thirdOperand e)))
+              (check I (typeAt T p ∷ element (typeAt T q) ∷ Γ) (thirdOperand e) (row + at + 1)) (Typed u c l)
               × Noted U l I (typeAt T p ∷ element (typeAt T q) ∷ Γ) (thirdOperand e) (drop (row + at) D) × Kept C D (row + at) (length (termRows (thirdOperand e)))
           found = term-was T m C U D (row + at) I (typeAt T p ∷ element (typeAt T q) ∷ Γ) (thirdOperand e) _ _ r u c l h
               (F I (typeAt T p ∷ element (typeAt T q) ∷ Γ) (thirdOperand e) operand-stands)
@@ -213,7 +214,9 @@ module _ (ks : List ℕ) (ns : List ℤ) (T : List ℕ) (m : ℕ) (C : List ℕ)
               noted-row T m C U l D U row I Γ e (m + 2 * (suc (length (termRows e)) - at)) l (reduceRule (row + 1) (typeAt U p) (typeAt U u)) grown
               (omega (arith, few-types, operand-rows, total))
               (row-of-three I Γ e (row + 1) (typeAt T p) checked opens (typeAt T q) array-checked (Q .three) (typeAt U u) over-array
-              (at-line I (typeAt T p ∷ element (typeAt T q) ∷ Γ) (thirdOperand e) (typed (typeAt U u)) (row + at + 1) (behind (secondOperand e) (behind (firstOperand e) (suc (row + 1)))) lines (found .0 .0))
+              (at-line I (typeAt T p ∷ element (typeAt T q) ∷ Γ) (thirdOperand e) (typed (typeAt U u))
+              (row + at + 1) (behind (secondOperand e) (behind (firstOperand e) (suc (row + 1)))) lines
+              (found .0 .0))
               ∙ ap (λ (t : DataType). reduceRule (row + 1) t (typeAt U u)) (sym start-kept))
               (record {
                 size = found .2 .size;

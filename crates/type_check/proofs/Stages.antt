@@ -11,7 +11,8 @@ use Rattle.meaning.specs.Terms.{LoopKind, Term}
 use Rattle.meaning.specs.Rows.{operationWord, mapWord}
 use Rattle.syntax.specs.Standing.{termKind, termNumber, operandCount, firstOperand, secondOperand, thirdOperand}
 use Rattle.typing.specs.Check.{Verdict, refused, sized, afterOperand, behind, check, isArray}
-use Rattle.type_check.specs.Rules.{unaryRule, negateRule, splitRule, joinRule, firstRule, secondRule, indexRule, binaryRule, mapRule, zipRule, operationRule, reduceRule, opensSecond, secondScope}
+use Rattle.type_check.specs.Rules.{unaryRule, negateRule, splitRule, joinRule, firstRule, secondRule, indexRule, binaryRule, mapRule}
+use Rattle.type_check.specs.Rules.{zipRule, operationRule, reduceRule, opensSecond, secondScope}
 
 pub never : {P : Type 0} {b : Bool} → b ≡ false → b ≡ true → P
 never e f = absurd (let z : _≡_ {A = ℕ} 0 1 = cc in omega arith)

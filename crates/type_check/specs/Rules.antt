@@ -1,5 +1,5 @@
--- Questions 7 and 8 on a row whose operands have types, by the row's kind and number; and what it is that the code found
--- what the check says. Definitions only; assumes nothing.
+-- Questions 7 and 8, [10.7] and [10.8], on a row whose operands have types, by the row's kind and number; and what it is that the code
+-- found what the check says. Definitions only; assumes nothing.
 use mathlib.Core.Path.{_≡_}
 use mathlib.Core.Bool.{Bool, true, cond, _&&_}
 use mathlib.Core.List.{List, _∷_}
@@ -13,23 +13,28 @@ use Rattle.typing.specs.Check.{Verdict, typed, refused, isNumber, isArray, isPa
 use Rattle.type_check.specs.declared.Typing.{Typing}
 use Rattle.type_check.specs.declared.Typing.the-variants.{Typed, Refused}
 
--- ---- the rules
+-- ---- the rules, [5.3] to [5.10]
 
+-- [5.8] `split,n`: an array whose length n divides.
 unfoldable pub splitRule : ℕ → ℕ → DataType → Verdict
 splitRule n line t = fitted line (splitFits n t) (array (arrayLength t / n) (array n (element t)))
 
+-- [5.9] `join`: an array of arrays.
 unfoldable pub joinRule : ℕ → DataType → Verdict
 joinRule line t = fitted line (joinFits t) (array (arrayLength t * arrayLength (element t)) (element (element t)))
 
+-- [5.7] `fst` and `snd`: a pair.
 unfoldable pub firstRule : ℕ → DataType → Verdict
 firstRule line t = fitted line (isPair t) (firstType t)
 
 unfoldable pub secondRule : ℕ → DataType → Verdict
 secondRule line t = fitted line (isPair t) (secondType t)
 
+-- [5.10] `idx,k`: an array of more than k elements.
 unfoldable pub indexRule : ℕ → ℕ → DataType → Verdict
 indexRule k line t = fitted line (indexFits k t) (element t)
 
+-- [5.3] `neg`: a number.
 unfoldable pub negateRule : ℕ → DataType → Verdict
 negateRule line t = fitted line (isNumber t) number
 
@@ -47,20 +52,22 @@ unaryRule k n line t =
     (cond (eqb k word-snd) (secondRule line t)
     (indexRule n line t)))))
 
+-- [5.6] `zip`: two arrays of one length.
 unfoldable pub zipRule : ℕ → DataType → DataType → Verdict
 zipRule line s t = fitted line (zipFits s t) (array (arrayLength s) (DataType.pair (element s) (element t)))
 
--- a map over an array of type s with a body of type t
+-- [5.4] A map over an array of type s with a body of type t
 unfoldable pub mapRule : ℕ → DataType → DataType → Verdict
 mapRule line s t = fitted line (isArray s) (array (arrayLength s) t)
 
+-- [5.3] An operation: two numbers.
 unfoldable pub operationRule : ℕ → DataType → DataType → Verdict
 operationRule line s t = fitted line (isNumber s && isNumber t) number
 
 abbrev pub isMap : ℕ → Bool
 isMap k = cond (eqb k word-mappar) true (eqb k word-mapseq)
 
--- the names in force in a row's second operand, the first having the type t: a map's body stands over an array
+-- [5.4] The names in force in a row's second operand, the first having the type t; [5.11] a map's body stands over an array.
 abbrev pub opensSecond : ℕ → DataType → Bool
 opensSecond k t = cond (isMap k) (isArray t) true
 
@@ -75,7 +82,7 @@ binaryRule k line s t =
     (cond (eqb k word-pair) (sized line (DataType.pair s t))
     (operationRule line s t)))
 
--- a reduction with a start of type s and a body of type u
+-- [5.5] A reduction with a start of type s and a body of type u
 unfoldable pub reduceRule : ℕ → DataType → DataType → Verdict
 reduceRule line s u = fitted line (sameType u s) s
 

@@ -1,4 +1,4 @@
--- What the names in force stand for: the inputs' types and the variables' types, by their places in the table of types.
+-- What the names in force stand for: the inputs' types and the variables' types ([5.2]), by their places in the table of types.
 -- Definitions only; assumes nothing.
 use mathlib.Core.Path.{_≡_}
 use mathlib.Core.List.{List}

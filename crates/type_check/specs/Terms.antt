@@ -88,7 +88,7 @@ pub record SecondTyped (T : List ℕ) (m : ℕ) (C : List ℕ) (row : ℕ) (I Γ
 
 -- ---- a row without operands
 
--- the place of the type of `in`, `var` and `lit`
+-- [5.2] The place of the type of `in`, `var` and `lit`
 abbrev pub leafPlace : ℕ → ℕ → Scope → ℕ
 leafPlace k n s =
     cond (eqb k word-in) (getD (s .inputs) n 0) (cond (eqb k word-var) (getD (s .variables) (s .count - (n + 1)) 0) 0)

@@ -1,4 +1,4 @@
--- What the types of a plan are in the table of types and in the column beside its rows: what `type_plan` finds. The translator
+-- What the types of a plan ([5.1]) are in the table of types and in the column beside its rows: what `type_plan` finds. The translator
 -- goes by it. Definitions only; assumes nothing.
 use mathlib.Core.Path.{_≡_}
 use mathlib.Core.List.{List, []}

@@ -1,4 +1,4 @@
-// The types of a plan's inputs.
+// The types of a plan's inputs, which are asked first ([10.19]).
 ghost use mathlib.Core.Path.{_≡_};
 ghost use Prim.Native.Nat.{_≤_};
 ghost use lib.ListN.{length};

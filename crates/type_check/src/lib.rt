@@ -1,4 +1,4 @@
-// The types of a plan's rows, by recursion over the rows: questions 7 and 8 of document 01.
+// The types of a plan's rows, by recursion over the rows: [10.7] and [10.8].
 mod inputs;
 mod rules;
 mod scope;
@@ -26,7 +26,7 @@ pub struct TypedPlan {
     pub typing: Typing,
 }
 
-// The types of a plan: they are put in the table of types, and those of its term's rows noted in the column beside them.
+// [3.6] The types of a plan: they are put in the table of types, and those of its term's rows noted in the column beside them.
 pub fn type_plan(kinds: &[u8], numbers: &[i32], nodes: &mut [u64], types: &mut [u16]) -> TypedPlan
     requires { ⌜ PlanRoom (now kinds) (now numbers) (now nodes) (now types) ⌝ }
     ensures { λ r. ⌜ PlanAnswered (now (kinds .entry)) (now (numbers .entry)) (now (nodes .entry)) (now (types .entry)) (now (nodes .exit)) (now (types .exit)) r ⌝ }

@@ -1,4 +1,4 @@
-// Questions 7 and 8 on a row whose operands have types: `rows` is how many rows the term takes, `line` its first row's line.
+// [10.7] and [10.8] on a row whose operands have types: `rows` is how many rows the term takes, `line` its first row's line.
 ghost use mathlib.Core.Path.{_≡_};
 ghost use Prim.Native.Nat.{_+_, _≤_, _<_};
 ghost use Rattle.words.specs.Kinds.{word-split};
@@ -14,14 +14,14 @@ use type_table::ArrayShape;
 use type_table::PairShape;
 use words::kinds::*;
 
-// The "no" to question 7.
+// [10.7] The "no" to question 7.
 pub fn misfit(line: usize) -> Typing
     ensures { λ r. ⌜ r ≡ Refused (TypeMisfit line) ⌝ }
 {
     Typing::Refused(Refusal::TypeMisfit(line))
 }
 
-// Question 8 on an array of this length and element.
+// [10.8], [13.13], [13.14] Question 8 on an array of this length and element.
 pub fn sized_array(
     nodes: &mut [u64],
     len: usize,
@@ -47,7 +47,7 @@ pub fn sized_array(
     }
 }
 
-// Question 8 on a pair of these two types.
+// [10.8], [13.13], [13.14] Question 8 on a pair of these two types.
 pub fn sized_pair(
     nodes: &mut [u64],
     len: usize,
@@ -77,6 +77,7 @@ pub fn sized_pair(
     }
 }
 
+// [5.8] `split,n`: an array whose length n divides.
 fn split(nodes: &mut [u64], len: usize, n: usize, place: usize, rows: usize, line: usize) -> Typing
     requires { ⌜ Room (now nodes) len 2 × (place < len) × (1 ≤ n) × (n ≤ 4096) ⌝ }
     ensures { λ r. ⌜ Found (now (nodes .entry)) len (now (nodes .exit)) (len + 2) rows (splitRule n line (typeAt (now (nodes .entry)) place)) r ⌝ }
@@ -100,6 +101,7 @@ fn split(nodes: &mut [u64], len: usize, n: usize, place: usize, rows: usize, lin
     sized_array(nodes, more, length / n, inner, rows, line)
 }
 
+// [5.9] `join`: an array of arrays.
 fn join(nodes: &mut [u64], len: usize, place: usize, rows: usize, line: usize) -> Typing
     requires { ⌜ Room (now nodes) len 1 × (place < len) ⌝ }
     ensures { λ r. ⌜ Found (now (nodes .entry)) len (now (nodes .exit)) (len + 1) rows (joinRule line (typeAt (now (nodes .entry)) place)) r ⌝ }
@@ -123,6 +125,7 @@ fn join(nodes: &mut [u64], len: usize, place: usize, rows: usize, line: usize) -
     sized_array(nodes, len, groups * each, element, rows, line)
 }
 
+// [5.7] `fst`: a pair.
 fn first(nodes: &[u64], len: usize, place: usize, rows: usize, line: usize) -> Typing
     requires { ⌜ Room (now nodes) len 0 × (place < len) ⌝ }
     ensures { λ r. ⌜ Found (now (nodes .entry)) len (now (nodes .entry)) len rows (firstRule line (typeAt (now (nodes .entry)) place)) r ⌝ }
@@ -138,6 +141,7 @@ fn first(nodes: &[u64], len: usize, place: usize, rows: usize, line: usize) -> T
     }
 }
 
+// [5.7] `snd`: a pair.
 fn second(nodes: &[u64], len: usize, place: usize, rows: usize, line: usize) -> Typing
     requires { ⌜ Room (now nodes) len 0 × (place < len) ⌝ }
     ensures { λ r. ⌜ Found (now (nodes .entry)) len (now (nodes .entry)) len rows (secondRule line (typeAt (now (nodes .entry)) place)) r ⌝ }
@@ -153,6 +157,7 @@ fn second(nodes: &[u64], len: usize, place: usize, rows: usize, line: usize) -> 
     }
 }
 
+// [5.10] `idx,k`: an array of more than k elements.
 fn index(nodes: &[u64], len: usize, k: usize, place: usize, rows: usize, line: usize) -> Typing
     requires { ⌜ Room (now nodes) len 0 × (place < len) ⌝ }
     ensures { λ r. ⌜ Found (now (nodes .entry)) len (now (nodes .entry)) len rows (indexRule k line (typeAt (now (nodes .entry)) place)) r ⌝ }
@@ -171,6 +176,7 @@ fn index(nodes: &[u64], len: usize, k: usize, place: usize, rows: usize, line: u
     }
 }
 
+// [5.3] `neg`: a number.
 fn negate(nodes: &[u64], len: usize, place: usize, rows: usize, line: usize) -> Typing
     requires { ⌜ Room (now nodes) len 0 × (place < len) ⌝ }
     ensures { λ r. ⌜ Found (now (nodes .entry)) len (now (nodes .entry)) len rows (negateRule line (typeAt (now (nodes .entry)) place)) r ⌝ }
@@ -204,6 +210,7 @@ pub fn unary(
     }
 }
 
+// [5.6] `zip`: two arrays of one length.
 fn zip(nodes: &mut [u64], len: usize, left: usize, right: usize, rows: usize, line: usize) -> Typing
     requires { ⌜ Room (now nodes) len 2 × (left < len) × (right < len) ⌝ }
     ensures { λ r. ⌜ Found (now (nodes .entry)) len (now (nodes .exit)) (len + 2) rows
@@ -236,6 +243,7 @@ fn zip(nodes: &mut [u64], len: usize, left: usize, right: usize, rows: usize, li
     sized_array(nodes, more, length, both, rows, line)
 }
 
+// [5.4] A map: an array of so many elements of the body's type.
 fn map(nodes: &mut [u64], len: usize, array: usize, body: usize, rows: usize, line: usize) -> Typing
     requires { ⌜ Room (now nodes) len 1 × (array < len) × (body < len) ⌝ }
     ensures { λ r. ⌜ Found (now (nodes .entry)) len (now (nodes .exit)) (len + 1) rows
@@ -248,6 +256,7 @@ fn map(nodes: &mut [u64], len: usize, array: usize, body: usize, rows: usize, li
     sized_array(nodes, len, length, body, rows, line)
 }
 
+// [5.3] An operation: two numbers.
 fn operation(
     nodes: &[u64],
     len: usize,
@@ -296,7 +305,7 @@ pub fn binary(
     }
 }
 
-// A reduction: its body has the start's type.
+// [5.5] A reduction: its body has the start's type.
 pub fn reduce(
     nodes: &[u64],
     len: usize,

@@ -1,4 +1,4 @@
-// The names in force: which types the inputs and the variables have.
+// [3.7] The names in force: which types the inputs and the variables have.
 ghost use mathlib.Core.Path.{_≡_};
 ghost use mathlib.Core.Bool.{true};
 ghost use mathlib.Core.List.{List, _∷_};
@@ -36,7 +36,7 @@ pub fn with_variable(scope: Scope, place: usize) -> Scope
     }
 }
 
-// The names in force in an operand, and whether there is such an operand: a body stands over an array.
+// [5.11] The names in force in an operand, and whether there is such an operand: a body stands over an array.
 pub struct Opened {
     pub fits: bool,
     pub scope: Scope,
@@ -51,7 +51,7 @@ fn is_map(kind: u8) -> bool
     kind == WORD_MAPSEQ
 }
 
-// The names in force in a row's second operand, the first having the type at a place: a map's body has the element.
+// [5.4] The names in force in a row's second operand, the first having the type at a place: a map's body has the element.
 pub fn second(kind: u8, scope: Scope, nodes: &[u64], place: usize) -> Opened
     requires { ⌜ Sound (now nodes) (suc place) × (isMap kind ≡ true → scope .count < 16) ⌝ }
     ensures { λ r. ⌜ (r .fits ≡ opensSecond kind (typeAt (now (nodes .entry)) place))
@@ -71,7 +71,7 @@ pub fn second(kind: u8, scope: Scope, nodes: &[u64], place: usize) -> Opened
     }
 }
 
-// The names in force in the body of a reduction: the total has the start's type, and below it stands the element.
+// [5.5] The names in force in the body of a reduction: the total has the start's type, and below it stands the element.
 pub fn third(scope: Scope, nodes: &[u64], start: usize, array: usize) -> Opened
     requires { ⌜ Sound (now nodes) (suc start) × Sound (now nodes) (suc array) × (scope .count < 15) ⌝ }
     ensures { λ r. ⌜ (r .fits ≡ isArray (typeAt (now (nodes .entry)) array))

@@ -1,4 +1,4 @@
-// The types that rows spell and the types of terms, found by recursion over the rows.
+// The types that rows spell and the types of terms ([5.1]), found by recursion over the rows, operands first ([5.11]).
 ghost use mathlib.Core.Path.{_≡_};
 ghost use mathlib.Core.List.{List};
 ghost use Prim.Native.Nat.{suc, _+_, _-_, _*_, _≤_, _<_};
@@ -86,7 +86,7 @@ fn has_one_operand(kind: u8) -> bool
     WORD_PAIR < kind
 }
 
-// The place of the type of `in`, `var` and `lit`.
+// [5.2] The place of the type of `in`, `var` and `lit`.
 fn leaf_place(kind: u8, number: usize, scope: Scope) -> usize
     requires { ⌜ (kind ≡ word-in → number < 8) × (kind ≡ word-var → number < scope .count) × (scope .count ≤ 16) ⌝ }
     ensures { λ r. ⌜ r ≡ leafPlace kind number scope ⌝ }

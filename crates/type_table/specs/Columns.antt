@@ -1,4 +1,4 @@
--- The types of a term's rows, noted in a column beside them: each entry is the place of a type in the table of types.
+-- The types of a term's rows ([5.1]), noted in a column beside them: each entry is the place of a type in the table of types.
 -- Definitions only; assumes nothing.
 use mathlib.Core.Path.{_≡_}
 use mathlib.Core.List.{List, _∷_}

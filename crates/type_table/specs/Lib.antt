@@ -1,4 +1,4 @@
--- A table in which a type is named by its place: document 01, 'Lines', the types. No contract of an entry rests on it.
+-- A table in which a type is named by its place: types as [3.1] has them. No contract of an entry rests on it.
 
 -- What the contracts of parts say
 pub mod Nodes

@@ -1,5 +1,4 @@
--- What a table of types stands for: document 01's types ("`num,0`; `arr,n` and its element type; `two,0` and its two
--- types"), each named by its place in the table. Definitions only; assumes nothing.
+-- What a table of types stands for: the types of [3.1], each named by its place in the table. Definitions only; assumes nothing.
 use mathlib.Core.Path.{_≡_}
 use mathlib.Core.List.{List, [], _∷_, _++_}
 use Prim.Native.Nat.{ℕ, zero, suc, _≤_, _<_}
@@ -12,7 +11,7 @@ use Rattle.type_table.specs.declared.ArrayShape.the-variants.{Array, NoA
 use Rattle.type_table.specs.declared.PairShape.{PairShape}
 use Rattle.type_table.specs.declared.PairShape.the-variants.{Pair, NoPair}
 
--- the type of a node by its kind, from its left field and the types at its two fields' places
+-- [3.1] The type of a node by its kind, from its left field and the types at its two fields' places
 abbrev pub byKind : ℕ → ℕ → DataType → DataType → DataType
 byKind zero n s t = number
 byKind (suc zero) n s t = array n t
@@ -38,7 +37,7 @@ typeAt T i = getD (typesOf T) i number
 abbrev pub PartsBefore : ℕ → ℕ → Type 0
 PartsBefore w i = (kindIn w ≡ 1 → rightIn w < i) × (2 ≤ kindIn w → (leftIn w < i) × (rightIn w < i))
 
--- The node at place i says its type's cells and levels, and its type keeps the limits of question 8.
+-- The node at place i says its type's cells [3.2] and levels [3.3], and its type keeps the limits of [10.8]: [13.13], [13.14].
 pub record SoundAt (T : List ℕ) (i : ℕ) : Type 0 where
   pub parts : PartsBefore (getD T i 0) i
   pub itsCells : cellsIn (getD T i 0) ≡ cells (typeAt T i)

@@ -59,7 +59,7 @@ fn right_in(node: u64) -> usize
     (node % 65536) as usize
 }
 
-// The cells of the type at a place.
+// [3.2] The cells of the type at a place.
 pub fn cells(nodes: &[u64], place: usize) -> usize
     requires { ⌜ Sound (now nodes) (suc place) ⌝ }
     ensures { λ r. ⌜ r ≡ cellsOf (typeAt (now (nodes .entry)) place) ⌝ }
@@ -67,7 +67,7 @@ pub fn cells(nodes: &[u64], place: usize) -> usize
     (nodes[place] / 4294967296 % 65536) as usize
 }
 
-// Its levels.
+// [3.3] Its levels.
 pub fn levels(nodes: &[u64], place: usize) -> usize
     requires { ⌜ Sound (now nodes) (suc place) ⌝ }
     ensures { λ r. ⌜ r ≡ levelsOf (typeAt (now (nodes .entry)) place) ⌝ }
@@ -114,7 +114,7 @@ pub fn as_pair(nodes: &[u64], place: usize) -> PairShape
     }
 }
 
-// Whether the types at two places are the same.
+// [3.5] Whether the types at two places are the same.
 pub fn same(nodes: &[u64], a: usize, b: usize) -> bool
     requires { ⌜ Sound (now nodes) (suc a) × Sound (now nodes) (suc b) ⌝ }
     ensures yes { λ r. ⌜ (r ≡ true → typeAt (now (nodes .entry)) a ≡ typeAt (now (nodes .entry)) b) ⌝ }

@@ -76,7 +76,8 @@ module _ (ks : List ℕ) (ns : List ℤ) (C Y : List ℕ) (N : List ℤ) (T : Li
     pub array-asks : Room (nodesUsed e) Y N T s → ReadyToUse (part (1 + a) ks) (part (1 + a) ns) (part (1 + a) C) Y N T s
     array-asks R =
         ready-use array-here
-        (room-on (nodesUsed e) (nodesUsed (secondOperand e)) Y N T T s s R (grown-none T (s .len) (R .size)) (omega arith) (omega (arith, all-rows)) (omega (arith, all-rows)) (omega (arith, all-rows)))
+        (room-on (nodesUsed e) (nodesUsed (secondOperand e)) Y N T T s s R (grown-none T (s .len) (R .size))
+        (omega arith) (omega (arith, all-rows)) (omega (arith, all-rows)) (omega (arith, all-rows)))
 
     module _ {U : List ℕ} {o : Table} {K : List ℕ} {M : List ℤ} {x : Walked}
         (H : Uses (part (1 + a) ks) (part (1 + a) ns) (part (1 + a) C) Y N s T U o (table K M (x .to)) x) where

@@ -12,7 +12,8 @@ use Rattle.words.specs.Kinds.{word-lit, word-neg, word-redseq, word-pair}
 use Rattle.meaning.specs.Terms.{Term}
 use Rattle.meaning.specs.Rows.{termRows}
 use Rattle.syntax.specs.Standing.{TermStands, termKind, operandCount, firstOperand, secondOperand, thirdOperand, secondOpens}
-use Rattle.syntax.proofs.Standing.{leaf-kind, some-operand, two-operands, three-operands, its-kind, rows-within, some-row, first-stands, second-stands, third-stands, rows-of-none, rows-of-one, rows-of-two, rows-of-three}
+use Rattle.syntax.proofs.Standing.{leaf-kind, some-operand, two-operands, three-operands, its-kind, rows-within, some-row, first-stands}
+use Rattle.syntax.proofs.Standing.{second-stands, third-stands, rows-of-none, rows-of-one, rows-of-two, rows-of-three}
 use Rattle.syntax.proofs.Front.{part, part-length}
 use Rattle.steps.specs.Steps.{hasOneOperand}
 use Rattle.walk.specs.Walk.{SomeRows, CountsRows}
@@ -75,7 +76,14 @@ module _ (ks : List ℕ) where
 
         pub first-within : 1 + a ≤ length ks
         first-within =
-            omega (arith, rows-begin, first-rows (X .numbers) (X .inputs) (X .variables) (X .term) (X .stands), rows-within (part 1 ks) (part 1 (X .numbers)) (X .inputs) (X .variables) (firstOperand (X .term)) (first-there (X .numbers) (X .inputs) (X .variables) (X .term) (X .stands)), part-length 1 ks)
+            omega (
+              arith,
+              rows-begin,
+              first-rows (X .numbers) (X .inputs) (X .variables) (X .term) (X .stands),
+              rows-within (part 1 ks) (part 1 (X .numbers)) (X .inputs) (X .variables) (firstOperand (X .term))
+                  (first-there (X .numbers) (X .inputs) (X .variables) (X .term) (X .stands)),
+              part-length 1 ks,
+            )
 
         pub one-counts : hasOneOperand (getD ks 0 0) ≡ true → CountsRows ks (1 + a)
         one-counts h ns K v e S =
@@ -108,7 +116,16 @@ module _ (ks : List ℕ) where
 
             pub second-within : 1 + a + b ≤ length ks
             second-within =
-                omega (arith, first-within, second-rows (X .numbers) (X .inputs) (X .variables) (X .term) (X .stands), rows-within (part (1 + a) ks) (part (1 + a) (X .numbers)) (X .inputs) (X .variables + secondOpens (X .term)) (secondOperand (X .term)) (second-there (X .numbers) (X .inputs) (X .variables) (X .term) (X .stands)), part-length (1 + a) ks)
+                omega (
+                  arith,
+                  first-within,
+                  second-rows (X .numbers) (X .inputs) (X .variables) (X .term)
+                      (X .stands),
+                  rows-within (part (1 + a) ks) (part (1 + a) (X .numbers)) (X .inputs)
+                      (X .variables + secondOpens (X .term)) (secondOperand (X .term)) (second-there (X .numbers)
+                      (X .inputs) (X .variables) (X .term) (X .stands)),
+                  part-length (1 + a) ks,
+                )
 
             pub two-counts : (getD ks 0 0 ≡ word-redseq → ⊥) → CountsRows ks (1 + a + b)
             two-counts x ns K v e S =
@@ -140,7 +157,16 @@ module _ (ks : List ℕ) where
 
                 pub third-within : 1 + a + b + d ≤ length ks
                 third-within =
-                    omega (arith, second-within, third-rows (X .numbers) (X .inputs) (X .variables) (X .term) (X .stands), rows-within (part (1 + a + b) ks) (part (1 + a + b) (X .numbers)) (X .inputs) (X .variables + 2) (thirdOperand (X .term)) (third-there (X .numbers) (X .inputs) (X .variables) (X .term) (X .stands)), part-length (1 + a + b) ks)
+                    omega (
+                      arith,
+                      second-within,
+                      third-rows (X .numbers) (X .inputs) (X .variables) (X .term)
+                          (X .stands),
+                      rows-within (part (1 + a + b) ks) (part (1 + a + b) (X .numbers)) (X .inputs)
+                          (X .variables + 2) (thirdOperand (X .term)) (third-there (X .numbers) (X .inputs)
+                          (X .variables) (X .term) (X .stands)),
+                      part-length (1 + a + b) ks,
+                    )
 
                 pub three-counts : CountsRows ks (1 + a + b + d)
                 three-counts ns K v e S =

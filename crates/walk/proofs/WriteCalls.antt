@@ -105,7 +105,8 @@ module _ (ks : List ℕ) (ns : List ℤ) (C Y : List ℕ) (N : List ℤ) (T : Li
     array-of-map-asks R =
         let n : regionNode (termKind e) ≤ 1 = region-node (termKind e) in
         ready-use (calls.first-here ks ns C Y N T s I Γ Δ e S l)
-        (room-on (nodesWritten e) (nodesUsed (firstOperand e)) Y N T T s s R (grown-none T (s .len) (R .size)) (omega arith) (omega (arith, n, fewer)) (omega (arith, n, fewer)) (omega (arith, n, fewer)))
+        (room-on (nodesWritten e) (nodesUsed (firstOperand e)) Y N T T s s R (grown-none T (s .len) (R .size))
+        (omega arith) (omega (arith, n, fewer)) (omega (arith, n, fewer)) (omega (arith, n, fewer)))
 
     -- the body of a map that is written, where the element is entered
     module _ {U : List ℕ} {o : Table} {K : List ℕ} {M : List ℤ} {r : Walked} (H : Uses (part 1 ks) (part 1 ns) (part 1 C) Y N s T U o (table K M (r .to)) r)
@@ -156,7 +157,9 @@ module _ (ks : List ℕ) (ns : List ℤ) (C Y : List ℕ) (N : List ℤ) (T : Li
         pub map-later-asks : Room (nodesWritten e) Y N T s → {Z : List ℕ} {P : Acceptor} {p p′ : Table} {w : Walked}
             → Writes (part (1 + r .rows) ks) (part (1 + r .rows) ns) (part (1 + r .rows) C) Y N P s′ W Z p p′ w → (1 + r .rows ≤ 65535) × (w .rows ≤ 65535)
         map-later-asks R D =
-            let B = D I (element (typeOf I Γ (firstOperand e)) ∷ Γ) (Expression.index (expressionOf I (firstOperand e) Γ Δ (s .regions)) (Offset.counter (s .counters)) ∷ Δ) (secondOperand e) body-here in
+            let B = D I (element (typeOf I Γ (firstOperand e)) ∷ Γ) (Expression.index
+            (expressionOf I (firstOperand e) Γ Δ (s .regions)) (Offset.counter (s .counters)) ∷ Δ)
+            (secondOperand e) body-here in
             (omega (arith, map-reach, bounds, R .plan), omega (arith, B .passed, map-rows, bounds, R .plan))
 
     -- operands that are written into parts of the place
@@ -208,7 +211,9 @@ module _ (ks : List ℕ) (ns : List ℤ) (C Y : List ℕ) (N : List ℤ) (T : Li
                     omega (arith, G .len),
                     ready-write second-part-here
                         (room-on (nodesWritten e) (nodesWritten (secondOperand e)) Y N T X s s₂ R g′ (omega (arith, F .len, part-written .more, G .len))
-                        (omega (arith, F .len, part-written .few, G .len, paired-rows, paired .noMap)) (omega (arith, G .counters, paired-rows, paired .noMap)) (omega (arith, G .regions, paired-rows, paired .noMap))),
+                        (omega (arith, F .len, part-written .few, G .len, paired-rows, paired .noMap))
+                        (omega (arith, G .counters, paired-rows, paired .noMap))
+                        (omega (arith, G .regions, paired-rows, paired .noMap))),
                   )
 
               pub paired-later-asks : Room (nodesWritten e) Y N T s → {Z : List ℕ} {Q : Acceptor} {p p′ : Table} {w : Walked}

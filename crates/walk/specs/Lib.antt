@@ -1,4 +1,4 @@
--- The walks over a term's rows, "write E into P" and "use E in C": document 01, 'Translation'. No contract of an entry rests on it.
+-- The two walks over a term's rows, which write it and use it: [6.2] to [6.15]. No contract of an entry rests on it.
 
 -- What the contracts of parts say
 pub mod Walk

@@ -1,4 +1,4 @@
--- What the two walks over a term's rows are given and what they give: document 01, 'Translation'. Definitions only; assumes
+-- What the two walks over a term's rows, to write it and to use it ([6.2]), are given and what they give. Definitions only; assumes
 -- nothing. Throughout, Y is the table of types, N the numbers of the whole plan's rows, T and U the table of references
 -- before and after.
 use mathlib.Core.Path.{_≡_}
@@ -84,7 +84,7 @@ ReadyToUse ks ns C Y N T s = (x : SomeTerm ks ns C Y N T s) × Room (nodesUsed (
 abbrev pub ReadyToWrite : List ℕ → List ℤ → List ℕ → List ℕ → List ℤ → List ℕ → State → Type 0
 ReadyToWrite ks ns C Y N T s = (x : SomeTerm ks ns C Y N T s) × Room (nodesWritten (x .term)) Y N T s
 
--- What a use of e gives, from the rows o to the rows o′.
+-- [6.2] What a use of e gives, from the rows o to the rows o′.
 pub record Used (Y : List ℕ) (N : List ℤ) (I Γ : List DataType) (Δ : List Expression) (e : Term) (s : State) (T U : List ℕ) (o o′ : Table) (r : Walked) : Type 0 where
   pub passed : r .rows ≡ length (termRows e)
   pub rows : o′ ≡ putRows (useRows I e Γ Δ (s .counters) (s .regions)) o
@@ -95,7 +95,7 @@ pub record Used (Y : List ℕ) (N : List ℤ) (I Γ : List DataType) (Δ : List 
   pub more : s .len ≤ r .len
   pub few : r .len ≤ s .len + 3 * length (termRows e)
 
--- What a write of e into P gives.
+-- [6.2] What a write of e into P gives.
 pub record Written (Y : List ℕ) (N : List ℤ) (I Γ : List DataType) (Δ : List Expression) (e : Term) (P : Acceptor) (s : State) (T U : List ℕ) (o o′ : Table) (r : Walked) : Type 0 where
   pub passed : r .rows ≡ length (termRows e)
   pub rows : o′ ≡ putRows (commandRows (writeTerm I e Γ Δ (s .counters) (s .regions) P)) o

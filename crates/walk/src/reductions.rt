@@ -1,4 +1,4 @@
-// "Use `redseq`".
+// Using a reduction: [6.14].
 ghost use mathlib.Core.Path.{_≡_};
 ghost use mathlib.Core.List.{List};
 ghost use Prim.Native.Nat.{_≤_};
@@ -16,7 +16,7 @@ use steps::Walked;
 use steps::bodies;
 use words::kinds::*;
 
-// How many rows the term has whose kinds stand in front.
+// [1.7] How many rows the term has whose kinds stand in front.
 fn rows_of(kinds: &[u8]) -> usize
     requires { ⌜ (length (now kinds) ≤ 65536) × SomeRows (now kinds) ⌝ }
     ensures { λ r. ⌜ CountsRows (now (kinds .entry)) r ⌝ }
@@ -36,7 +36,7 @@ fn rows_of(kinds: &[u8]) -> usize
     two + rows_of(&kinds[two..])
 }
 
-// "Use `redseq`": the array, then the start, then the rounds. The start's rows are the first behind its own, the array's follow them.
+// [6.14] The array is used, then the start, then come the rounds. The start's rows are the first behind its own, the array's next.
 pub fn use_reduce(
     kinds: &[u8],
     numbers: &[i32],
@@ -51,7 +51,9 @@ pub fn use_reduce(
     requires { ⌜ (getD (now kinds) 0 0 ≡ word-redseq) × ReadyToUse (now kinds) (now numbers) (now column) (now types) (now plan) (now references) state ⌝ }
     ensures { λ r. ⌜ ((I Γ : List DataType) (Δ : List Expression) (e : Term)
         → Stands (now (kinds .entry)) (now (numbers .entry)) (now (column .entry)) (now (types .entry)) (now (plan .entry)) (now (references .entry)) state I Γ Δ e
-        → Used (now (types .entry)) (now (plan .entry)) I Γ Δ e state (now (references .entry)) (now (references .exit)) (table (now (outkinds .entry)) (now (outnumbers .entry)) (state .to)) (table (now (outkinds .exit)) (now (outnumbers .exit)) (r .to)) r) ⌝ }
+        → Used (now (types .entry)) (now (plan .entry)) I Γ Δ e state (now (references .entry))
+        (now (references .exit)) (table (now (outkinds .entry)) (now (outnumbers .entry)) (state .to)) (table
+        (now (outkinds .exit)) (now (outnumbers .exit)) (r .to)) r) ⌝ }
 {
     let place = column[0] as usize;
     let first = 1;

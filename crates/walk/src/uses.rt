@@ -1,4 +1,4 @@
-// "Use E in C".
+// Using a term: [6.12] to [6.15].
 ghost use mathlib.Core.List.{List};
 ghost use Rattle.meaning.specs.Types.{DataType};
 ghost use Rattle.meaning.specs.Terms.{Term};
@@ -12,8 +12,8 @@ use steps::Walked;
 use syntax::ranges;
 use words::kinds::*;
 
-// "Use E in C", E being the term whose rows stand in front. `column` has the places of its rows' types in the table `types`, and
-// `plan` the numbers of the whole plan.
+// Uses the term whose rows stand in front: a leaf [6.12], a map [6.13], a reduction [6.14], any other by its operands, the left one
+// first [6.15]. `column` has the places of its rows' types in the table `types`, and `plan` the numbers of the whole plan.
 pub fn use_term(
     kinds: &[u8],
     numbers: &[i32],
@@ -28,7 +28,9 @@ pub fn use_term(
     requires { ⌜ ReadyToUse (now kinds) (now numbers) (now column) (now types) (now plan) (now references) state ⌝ }
     ensures { λ r. ⌜ ((I Γ : List DataType) (Δ : List Expression) (e : Term)
         → Stands (now (kinds .entry)) (now (numbers .entry)) (now (column .entry)) (now (types .entry)) (now (plan .entry)) (now (references .entry)) state I Γ Δ e
-        → Used (now (types .entry)) (now (plan .entry)) I Γ Δ e state (now (references .entry)) (now (references .exit)) (table (now (outkinds .entry)) (now (outnumbers .entry)) (state .to)) (table (now (outkinds .exit)) (now (outnumbers .exit)) (r .to)) r) ⌝ }
+        → Used (now (types .entry)) (now (plan .entry)) I Γ Δ e state (now (references .entry))
+        (now (references .exit)) (table (now (outkinds .entry)) (now (outnumbers .entry)) (state .to)) (table
+        (now (outkinds .exit)) (now (outnumbers .exit)) (r .to)) r) ⌝ }
 {
     let kind = kinds[0];
     let number = ranges::natural(numbers[0]);

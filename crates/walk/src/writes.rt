@@ -1,4 +1,4 @@
-// "Write E into P".
+// Writing a term into a place: [6.4] to [6.11].
 ghost use mathlib.Core.Path.{_≡_};
 ghost use mathlib.Core.Bool.{true};
 ghost use mathlib.Core.List.{List};
@@ -20,7 +20,7 @@ use steps::parts;
 use syntax::ranges;
 use words::kinds::*;
 
-// "Write a map: use the array, then `par` (`mapseq`: `for`), writing the body into the element's place."
+// [6.7] A map is written: its array is used; then in a `par` (`mapseq`: a `for`) the body is written into the place's element.
 pub fn write_map(
     kinds: &[u8],
     numbers: &[i32],
@@ -36,7 +36,10 @@ pub fn write_map(
     requires { ⌜ (isMap (getD (now kinds) 0 0) ≡ true) × (target < state .len) × ReadyToWrite (now kinds) (now numbers) (now column) (now types) (now plan) (now references) state ⌝ }
     ensures { λ r. ⌜ ((I Γ : List DataType) (Δ : List Expression) (e : Term)
         → Stands (now (kinds .entry)) (now (numbers .entry)) (now (column .entry)) (now (types .entry)) (now (plan .entry)) (now (references .entry)) state I Γ Δ e
-        → Written (now (types .entry)) (now (plan .entry)) I Γ Δ e (acceptorAt (now (types .entry)) (now (references .entry)) target) state (now (references .entry)) (now (references .exit)) (table (now (outkinds .entry)) (now (outnumbers .entry)) (state .to)) (table (now (outkinds .exit)) (now (outnumbers .exit)) (r .to)) r) ⌝ }
+        → Written (now (types .entry)) (now (plan .entry)) I Γ Δ e (acceptorAt (now (types .entry))
+        (now (references .entry)) target) state (now (references .entry)) (now (references .exit)) (table
+        (now (outkinds .entry)) (now (outnumbers .entry)) (state .to)) (table (now (outkinds .exit))
+        (now (outnumbers .exit)) (r .to)) r) ⌝ }
 {
     let kind = kinds[0];
     let place = column[0] as usize;
@@ -78,7 +81,8 @@ pub fn write_map(
     steps::later(at, body)
 }
 
-// "Write E into P", P being node `target`.
+// Writes the term whose rows stand in front into the place at node `target`: a map [6.7], `zip` or `pair` [6.9], `split` or `join`
+// [6.10]. Any other is used and then assigned: [6.4], [6.5], [6.6], [6.8], [6.11].
 pub fn write_term(
     kinds: &[u8],
     numbers: &[i32],
@@ -94,7 +98,10 @@ pub fn write_term(
     requires { ⌜ (target < state .len) × ReadyToWrite (now kinds) (now numbers) (now column) (now types) (now plan) (now references) state ⌝ }
     ensures { λ r. ⌜ ((I Γ : List DataType) (Δ : List Expression) (e : Term)
         → Stands (now (kinds .entry)) (now (numbers .entry)) (now (column .entry)) (now (types .entry)) (now (plan .entry)) (now (references .entry)) state I Γ Δ e
-        → Written (now (types .entry)) (now (plan .entry)) I Γ Δ e (acceptorAt (now (types .entry)) (now (references .entry)) target) state (now (references .entry)) (now (references .exit)) (table (now (outkinds .entry)) (now (outnumbers .entry)) (state .to)) (table (now (outkinds .exit)) (now (outnumbers .exit)) (r .to)) r) ⌝ }
+        → Written (now (types .entry)) (now (plan .entry)) I Γ Δ e (acceptorAt (now (types .entry))
+        (now (references .entry)) target) state (now (references .entry)) (now (references .exit)) (table
+        (now (outkinds .entry)) (now (outnumbers .entry)) (state .to)) (table (now (outkinds .exit))
+        (now (outnumbers .exit)) (r .to)) r) ⌝ }
 {
     let kind = kinds[0];
     let number = ranges::natural(numbers[0]);

@@ -32,608 +32,9 @@ largest-at t = and 3 largest-kinds.ps (is 3 largest-kinds.ps μ-largest t) large
 abbrev largest-below : ℕ → In 3 largest-kinds.ps
 largest-below t = and 3 largest-kinds.ps (falls 3 largest-kinds.ps _<_ μ-largest t) largest.Pre
 
-largest-returns : (t : ℕ) → largest-lts.Need-returns (
-  natural-reads.Asked,
-  natural-reads.Learnt,
-  capped-reads.Asked,
-  capped-reads.Learnt,
-  entry-reads.Asked,
-  entry-reads.Learnt,
-  last-round-reads.Asked,
-  last-round-reads.Learnt,
-  largest-below t,
-  largest.Post,
-  scaled-reads.Asked,
-  scaled-reads.Learnt,
-) (largest-at t) largest.Post
-largest-returns t c =
-    let a = c .before .before .before .args in (
-      (omega arith, omega arith),
-      offsets.offset-none (a .kinds .now) (a .numbers .now) (counterBound (a .counters .now)) 0 0 (c .if1 .taken),
-    )
-
-largest-shared-slice-read-kind : (t : ℕ) → largest-lts.Need-shared-slice-read-kind (
-  natural-reads.Asked,
-  natural-reads.Learnt,
-  capped-reads.Asked,
-  capped-reads.Learnt,
-  entry-reads.Asked,
-  entry-reads.Learnt,
-  last-round-reads.Asked,
-  last-round-reads.Learnt,
-  largest-below t,
-  largest.Post,
-  scaled-reads.Asked,
-  scaled-reads.Learnt,
-) (largest-at t) largest.Post
-largest-shared-slice-read-kind t c = search needs
-
-largest-shared-slice-copy-out-natural : (t : ℕ) → largest-lts.Need-shared-slice-copy-out-natural (
-  natural-reads.Asked,
-  natural-reads.Learnt,
-  capped-reads.Asked,
-  capped-reads.Learnt,
-  entry-reads.Asked,
-  entry-reads.Learnt,
-  last-round-reads.Asked,
-  last-round-reads.Learnt,
-  largest-below t,
-  largest.Post,
-  scaled-reads.Asked,
-  scaled-reads.Learnt,
-) (largest-at t) largest.Post
-largest-shared-slice-copy-out-natural t c = search needs
-
-largest-natural-requires : (t : ℕ) → largest-lts.Need-natural-requires (
-  natural-reads.Asked,
-  natural-reads.Learnt,
-  capped-reads.Asked,
-  capped-reads.Learnt,
-  entry-reads.Asked,
-  entry-reads.Learnt,
-  last-round-reads.Asked,
-  last-round-reads.Learnt,
-  largest-below t,
-  largest.Post,
-  scaled-reads.Asked,
-  scaled-reads.Learnt,
-) (largest-at t) largest.Post
-largest-natural-requires t c κs = search needs
-
-largest-capped-requires : (t : ℕ) → largest-lts.Need-capped-requires (
-  natural-reads.Asked,
-  natural-reads.Learnt,
-  capped-reads.Asked,
-  capped-reads.Learnt,
-  entry-reads.Asked,
-  entry-reads.Learnt,
-  last-round-reads.Asked,
-  last-round-reads.Learnt,
-  largest-below t,
-  largest.Post,
-  scaled-reads.Asked,
-  scaled-reads.Learnt,
-) (largest-at t) largest.Post
-largest-capped-requires t c κs = search needs
-
-largest-returns-2 : (t : ℕ) → largest-lts.Need-returns-2 (
-  natural-reads.Asked,
-  natural-reads.Learnt,
-  capped-reads.Asked,
-  capped-reads.Learnt,
-  entry-reads.Asked,
-  entry-reads.Learnt,
-  last-round-reads.Asked,
-  last-round-reads.Learnt,
-  largest-below t,
-  largest.Post,
-  scaled-reads.Asked,
-  scaled-reads.Learnt,
-) (largest-at t) largest.Post
-largest-returns-2 t c =
-    let a = c .before .before .before .before .before .before .before .before .args in
-    let natural = c .before .before .natural in (
-      (omega arith, c .capped .ensures .1),
-      offsets.literal (a .kinds .now) (a .numbers .now) (counterBound (a .counters .now)) (c .capped .result)
-          (natural .result) (c .before .if2 .taken)
-          (natural-of (getD (a .numbers .now) 0 (pos 0)) (record { sfits = c .before .before .before .natural-arg .given }) (natural .ensures .0))
-          (c .capped .ensures .0),
-    )
-
-largest-entry-requires : (t : ℕ) → largest-lts.Need-entry-requires (
-  natural-reads.Asked,
-  natural-reads.Learnt,
-  capped-reads.Asked,
-  capped-reads.Learnt,
-  entry-reads.Asked,
-  entry-reads.Learnt,
-  last-round-reads.Asked,
-  last-round-reads.Learnt,
-  largest-below t,
-  largest.Post,
-  scaled-reads.Asked,
-  scaled-reads.Learnt,
-) (largest-at t) largest.Post
-largest-entry-requires t c κs = search needs
-
-largest-last-round-requires : (t : ℕ) → largest-lts.Need-last-round-requires (
-  natural-reads.Asked,
-  natural-reads.Learnt,
-  capped-reads.Asked,
-  capped-reads.Learnt,
-  entry-reads.Asked,
-  entry-reads.Learnt,
-  last-round-reads.Asked,
-  last-round-reads.Learnt,
-  largest-below t,
-  largest.Post,
-  scaled-reads.Asked,
-  scaled-reads.Learnt,
-) (largest-at t) largest.Post
-largest-last-round-requires t c κs = search needs
-
-largest-capped-requires-2 : (t : ℕ) → largest-lts.Need-capped-requires-2 (
-  natural-reads.Asked,
-  natural-reads.Learnt,
-  capped-reads.Asked,
-  capped-reads.Learnt,
-  entry-reads.Asked,
-  entry-reads.Learnt,
-  last-round-reads.Asked,
-  last-round-reads.Learnt,
-  largest-below t,
-  largest.Post,
-  scaled-reads.Asked,
-  scaled-reads.Learnt,
-) (largest-at t) largest.Post
-largest-capped-requires-2 t c κs = search needs
-
-largest-returns-3 : (t : ℕ) → largest-lts.Need-returns-3 (
-  natural-reads.Asked,
-  natural-reads.Learnt,
-  capped-reads.Asked,
-  capped-reads.Learnt,
-  entry-reads.Asked,
-  entry-reads.Learnt,
-  last-round-reads.Asked,
-  last-round-reads.Learnt,
-  largest-below t,
-  largest.Post,
-  scaled-reads.Asked,
-  scaled-reads.Learnt,
-) (largest-at t) largest.Post
-largest-returns-3 t c =
-    let a = c .before .before .before .before .before .before .before .before .before .before .before .args in
-    let natural = c .before .before .before .before .before .natural in (
-      (omega arith, c .capped2 .ensures .1),
-      offsets.counter (a .kinds .now) (a .numbers .now) (counterBound (a .counters .now)) (c .capped2 .result)
-          (natural .result) (c .before .last-round .result) (c .before .before .before .if3 .taken)
-          (natural-of (getD (a .numbers .now) 0 (pos 0)) (record { sfits = c .before .before .before .before .before .before .natural-arg .given }) (natural .ensures .0))
-          (c .before .last-round .ensures ∙ ap (λ (j : ℕ). j - 1) (c .before .before .entry .ensures))
-          (c .capped2 .ensures .0),
-    )
-
-largest-sub-largest : (t : ℕ) → largest-lts.Need-sub-largest (
-  natural-reads.Asked,
-  natural-reads.Learnt,
-  capped-reads.Asked,
-  capped-reads.Learnt,
-  entry-reads.Asked,
-  entry-reads.Learnt,
-  last-round-reads.Asked,
-  last-round-reads.Learnt,
-  largest-below t,
-  largest.Post,
-  scaled-reads.Asked,
-  scaled-reads.Learnt,
-) (largest-at t) largest.Post
-largest-sub-largest t c = search needs
-
-largest-part-largest-start : (t : ℕ) → largest-lts.Need-part-largest-start (
-  natural-reads.Asked,
-  natural-reads.Learnt,
-  capped-reads.Asked,
-  capped-reads.Learnt,
-  entry-reads.Asked,
-  entry-reads.Learnt,
-  last-round-reads.Asked,
-  last-round-reads.Learnt,
-  largest-below t,
-  largest.Post,
-  scaled-reads.Asked,
-  scaled-reads.Learnt,
-) (largest-at t) largest.Post
-largest-part-largest-start t c = search needs
-
-largest-part-largest-end : (t : ℕ) → largest-lts.Need-part-largest-end (
-  natural-reads.Asked,
-  natural-reads.Learnt,
-  capped-reads.Asked,
-  capped-reads.Learnt,
-  entry-reads.Asked,
-  entry-reads.Learnt,
-  last-round-reads.Asked,
-  last-round-reads.Learnt,
-  largest-below t,
-  largest.Post,
-  scaled-reads.Asked,
-  scaled-reads.Learnt,
-) (largest-at t) largest.Post
-largest-part-largest-end t c = search needs
-
-largest-sub-largest-2 : (t : ℕ) → largest-lts.Need-sub-largest-2 (
-  natural-reads.Asked,
-  natural-reads.Learnt,
-  capped-reads.Asked,
-  capped-reads.Learnt,
-  entry-reads.Asked,
-  entry-reads.Learnt,
-  last-round-reads.Asked,
-  last-round-reads.Learnt,
-  largest-below t,
-  largest.Post,
-  scaled-reads.Asked,
-  scaled-reads.Learnt,
-) (largest-at t) largest.Post
-largest-sub-largest-2 t c = search needs
-
-largest-part-largest-start-2 : (t : ℕ) → largest-lts.Need-part-largest-start-2 (
-  natural-reads.Asked,
-  natural-reads.Learnt,
-  capped-reads.Asked,
-  capped-reads.Learnt,
-  entry-reads.Asked,
-  entry-reads.Learnt,
-  last-round-reads.Asked,
-  last-round-reads.Learnt,
-  largest-below t,
-  largest.Post,
-  scaled-reads.Asked,
-  scaled-reads.Learnt,
-) (largest-at t) largest.Post
-largest-part-largest-start-2 t c = search needs
-
-largest-part-largest-end-2 : (t : ℕ) → largest-lts.Need-part-largest-end-2 (
-  natural-reads.Asked,
-  natural-reads.Learnt,
-  capped-reads.Asked,
-  capped-reads.Learnt,
-  entry-reads.Asked,
-  entry-reads.Learnt,
-  last-round-reads.Asked,
-  last-round-reads.Learnt,
-  largest-below t,
-  largest.Post,
-  scaled-reads.Asked,
-  scaled-reads.Learnt,
-) (largest-at t) largest.Post
-largest-part-largest-end-2 t c = search needs
-
-largest-largest-requires : (t : ℕ) → largest-lts.Need-largest-requires (
-  natural-reads.Asked,
-  natural-reads.Learnt,
-  capped-reads.Asked,
-  capped-reads.Learnt,
-  entry-reads.Asked,
-  entry-reads.Learnt,
-  last-round-reads.Asked,
-  last-round-reads.Learnt,
-  largest-below t,
-  largest.Post,
-  scaled-reads.Asked,
-  scaled-reads.Learnt,
-) (largest-at t) largest.Post
-largest-largest-requires t c κs = search needs
-
-largest-add-from : (t : ℕ) → largest-lts.Need-add-from (
-  natural-reads.Asked,
-  natural-reads.Learnt,
-  capped-reads.Asked,
-  capped-reads.Learnt,
-  entry-reads.Asked,
-  entry-reads.Learnt,
-  last-round-reads.Asked,
-  last-round-reads.Learnt,
-  largest-below t,
-  largest.Post,
-  scaled-reads.Asked,
-  scaled-reads.Learnt,
-) (largest-at t) largest.Post
-largest-add-from t c = search needs
-
-largest-sub-largest-3 : (t : ℕ) → largest-lts.Need-sub-largest-3 (
-  natural-reads.Asked,
-  natural-reads.Learnt,
-  capped-reads.Asked,
-  capped-reads.Learnt,
-  entry-reads.Asked,
-  entry-reads.Learnt,
-  last-round-reads.Asked,
-  last-round-reads.Learnt,
-  largest-below t,
-  largest.Post,
-  scaled-reads.Asked,
-  scaled-reads.Learnt,
-) (largest-at t) largest.Post
-largest-sub-largest-3 t c = search needs
-
-largest-part-largest-start-3 : (t : ℕ) → largest-lts.Need-part-largest-start-3 (
-  natural-reads.Asked,
-  natural-reads.Learnt,
-  capped-reads.Asked,
-  capped-reads.Learnt,
-  entry-reads.Asked,
-  entry-reads.Learnt,
-  last-round-reads.Asked,
-  last-round-reads.Learnt,
-  largest-below t,
-  largest.Post,
-  scaled-reads.Asked,
-  scaled-reads.Learnt,
-) (largest-at t) largest.Post
-largest-part-largest-start-3 t c = search needs
-
-largest-part-largest-end-3 : (t : ℕ) → largest-lts.Need-part-largest-end-3 (
-  natural-reads.Asked,
-  natural-reads.Learnt,
-  capped-reads.Asked,
-  capped-reads.Learnt,
-  entry-reads.Asked,
-  entry-reads.Learnt,
-  last-round-reads.Asked,
-  last-round-reads.Learnt,
-  largest-below t,
-  largest.Post,
-  scaled-reads.Asked,
-  scaled-reads.Learnt,
-) (largest-at t) largest.Post
-largest-part-largest-end-3 t c = search needs
-
-largest-mul-largest : (t : ℕ) → largest-lts.Need-mul-largest (
-  natural-reads.Asked,
-  natural-reads.Learnt,
-  capped-reads.Asked,
-  capped-reads.Learnt,
-  entry-reads.Asked,
-  entry-reads.Learnt,
-  last-round-reads.Asked,
-  last-round-reads.Learnt,
-  largest-below t,
-  largest.Post,
-  scaled-reads.Asked,
-  scaled-reads.Learnt,
-) (largest-at t) largest.Post
-largest-mul-largest t c = search needs
-
-largest-sub-largest-4 : (t : ℕ) → largest-lts.Need-sub-largest-4 (
-  natural-reads.Asked,
-  natural-reads.Learnt,
-  capped-reads.Asked,
-  capped-reads.Learnt,
-  entry-reads.Asked,
-  entry-reads.Learnt,
-  last-round-reads.Asked,
-  last-round-reads.Learnt,
-  largest-below t,
-  largest.Post,
-  scaled-reads.Asked,
-  scaled-reads.Learnt,
-) (largest-at t) largest.Post
-largest-sub-largest-4 t c = search needs
-
-largest-part-largest-start-4 : (t : ℕ) → largest-lts.Need-part-largest-start-4 (
-  natural-reads.Asked,
-  natural-reads.Learnt,
-  capped-reads.Asked,
-  capped-reads.Learnt,
-  entry-reads.Asked,
-  entry-reads.Learnt,
-  last-round-reads.Asked,
-  last-round-reads.Learnt,
-  largest-below t,
-  largest.Post,
-  scaled-reads.Asked,
-  scaled-reads.Learnt,
-) (largest-at t) largest.Post
-largest-part-largest-start-4 t c = search needs
-
-largest-part-largest-end-4 : (t : ℕ) → largest-lts.Need-part-largest-end-4 (
-  natural-reads.Asked,
-  natural-reads.Learnt,
-  capped-reads.Asked,
-  capped-reads.Learnt,
-  entry-reads.Asked,
-  entry-reads.Learnt,
-  last-round-reads.Asked,
-  last-round-reads.Learnt,
-  largest-below t,
-  largest.Post,
-  scaled-reads.Asked,
-  scaled-reads.Learnt,
-) (largest-at t) largest.Post
-largest-part-largest-end-4 t c = search needs
-
-largest-largest-requires-2 : (t : ℕ) → largest-lts.Need-largest-requires-2 (
-  natural-reads.Asked,
-  natural-reads.Learnt,
-  capped-reads.Asked,
-  capped-reads.Learnt,
-  entry-reads.Asked,
-  entry-reads.Learnt,
-  last-round-reads.Asked,
-  last-round-reads.Learnt,
-  largest-below t,
-  largest.Post,
-  scaled-reads.Asked,
-  scaled-reads.Learnt,
-) (largest-at t) largest.Post
-largest-largest-requires-2 t c κs = search needs
-
-largest-add-capped : (t : ℕ) → largest-lts.Need-add-capped (
-  natural-reads.Asked,
-  natural-reads.Learnt,
-  capped-reads.Asked,
-  capped-reads.Learnt,
-  entry-reads.Asked,
-  entry-reads.Learnt,
-  last-round-reads.Asked,
-  last-round-reads.Learnt,
-  largest-below t,
-  largest.Post,
-  scaled-reads.Asked,
-  scaled-reads.Learnt,
-) (largest-at t) largest.Post
-largest-add-capped t c = search needs
-
-largest-capped-requires-3 : (t : ℕ) → largest-lts.Need-capped-requires-3 (
-  natural-reads.Asked,
-  natural-reads.Learnt,
-  capped-reads.Asked,
-  capped-reads.Learnt,
-  entry-reads.Asked,
-  entry-reads.Learnt,
-  last-round-reads.Asked,
-  last-round-reads.Learnt,
-  largest-below t,
-  largest.Post,
-  scaled-reads.Asked,
-  scaled-reads.Learnt,
-) (largest-at t) largest.Post
-largest-capped-requires-3 t c κs = search needs
-
-largest-add-t30 : (t : ℕ) → largest-lts.Need-add-t30 (
-  natural-reads.Asked,
-  natural-reads.Learnt,
-  capped-reads.Asked,
-  capped-reads.Learnt,
-  entry-reads.Asked,
-  entry-reads.Learnt,
-  last-round-reads.Asked,
-  last-round-reads.Learnt,
-  largest-below t,
-  largest.Post,
-  scaled-reads.Asked,
-  scaled-reads.Learnt,
-) (largest-at t) largest.Post
-largest-add-t30 t c = search needs
-
-largest-returns-4 : (t : ℕ) → largest-lts.Need-returns-4 (
-  natural-reads.Asked,
-  natural-reads.Learnt,
-  capped-reads.Asked,
-  capped-reads.Learnt,
-  entry-reads.Asked,
-  entry-reads.Learnt,
-  last-round-reads.Asked,
-  last-round-reads.Learnt,
-  largest-below t,
-  largest.Post,
-  scaled-reads.Asked,
-  scaled-reads.Learnt,
-) (largest-at t) largest.Post
-largest-returns-4 t c =
-    let a = c .before .before .before .before .before .before .before .before .before .before .before .before .before .before .before .before .before .before .before .before .args in
-    let largest = c .before .before .before .before .before .before .before .before .before .largest in
-    let largest2 = c .before .before .before .before .largest2 in
-    let capped3 = c .before .capped3 in (
-      (
-        omega (arith, largest .ensures .0 .0, largest2 .ensures .0 .0, c .before .before .before .before .before .before .before .before .before .before .before .before .before .before .before .before .before .if1 .left, table.part-length 1 (a .kinds .now), table.part-length (1 + largest .result .rows) (a .kinds .now)),
-        capped3 .ensures .1,
-      ),
-      offsets.sum (a .kinds .now) (a .numbers .now) (counterBound (a .counters .now)) (capped3 .result)
-          (largest .result .value) (largest .result .rows) (largest2 .result .value) (largest2 .result .rows)
-          (c .before .before .before .before .before .before .before .if4 .taken) (largest .ensures .1)
-          (largest2 .ensures .1) (capped3 .ensures .0),
-    )
-
-largest-returns-5 : (t : ℕ) → largest-lts.Need-returns-5 (
-  natural-reads.Asked,
-  natural-reads.Learnt,
-  capped-reads.Asked,
-  capped-reads.Learnt,
-  entry-reads.Asked,
-  entry-reads.Learnt,
-  last-round-reads.Asked,
-  last-round-reads.Learnt,
-  largest-below t,
-  largest.Post,
-  scaled-reads.Asked,
-  scaled-reads.Learnt,
-) (largest-at t) largest.Post
-largest-returns-5 t c =
-    let a = c .before .before .before .before .before .before .before .before .before .before .before .before .before .before .before .args in
-    let largest = c .before .before .before .before .largest in (
-      (omega arith, omega arith),
-      offsets.large (a .kinds .now) (a .numbers .now) (counterBound (a .counters .now)) _ (largest .result .value)
-          (largest .result .rows) refl (c .before .before .before .before .before .before .before .before .if2 .left)
-          (c .before .before .before .before .before .before .before .if3 .left) (c .before .before .if4 .left)
-          (largest .ensures .1) (omega (arith, c .if5 .taken)),
-    )
-
-largest-scaled-requires : (t : ℕ) → largest-lts.Need-scaled-requires (
-  natural-reads.Asked,
-  natural-reads.Learnt,
-  capped-reads.Asked,
-  capped-reads.Learnt,
-  entry-reads.Asked,
-  entry-reads.Learnt,
-  last-round-reads.Asked,
-  last-round-reads.Learnt,
-  largest-below t,
-  largest.Post,
-  scaled-reads.Asked,
-  scaled-reads.Learnt,
-) (largest-at t) largest.Post
-largest-scaled-requires t c κs = search needs
-
-largest-capped-requires-4 : (t : ℕ) → largest-lts.Need-capped-requires-4 (
-  natural-reads.Asked,
-  natural-reads.Learnt,
-  capped-reads.Asked,
-  capped-reads.Learnt,
-  entry-reads.Asked,
-  entry-reads.Learnt,
-  last-round-reads.Asked,
-  last-round-reads.Learnt,
-  largest-below t,
-  largest.Post,
-  scaled-reads.Asked,
-  scaled-reads.Learnt,
-) (largest-at t) largest.Post
-largest-capped-requires-4 t c κs = search needs
-
-largest-returns-6 : (t : ℕ) → largest-lts.Need-returns-6 (
-  natural-reads.Asked,
-  natural-reads.Learnt,
-  capped-reads.Asked,
-  capped-reads.Learnt,
-  entry-reads.Asked,
-  entry-reads.Learnt,
-  last-round-reads.Asked,
-  last-round-reads.Learnt,
-  largest-below t,
-  largest.Post,
-  scaled-reads.Asked,
-  scaled-reads.Learnt,
-) (largest-at t) largest.Post
-largest-returns-6 t c =
-    let a = c .before .before .before .before .before .before .before .before .before .before .before .before .before .before .before .before .before .args in
-    let natural = c .before .before .before .before .before .before .before .before .before .before .before .natural in
-    let largest = c .before .before .before .before .before .before .largest in
-    let scaled = c .before .scaled in (
-      (omega arith, c .capped4 .ensures .1),
-      offsets.small (a .kinds .now) (a .numbers .now) (counterBound (a .counters .now)) _ (largest .result .value)
-          (largest .result .rows) refl
-          (c .before .before .before .before .before .before .before .before .before .before .if2 .left)
-          (c .before .before .before .before .before .before .before .before .before .if3 .left)
-          (c .before .before .before .before .if4 .left) (largest .ensures .1) (c .capped4 .result) (scaled .result)
-          (natural .result) (omega (arith, c .before .before .if5 .left))
-          (natural-of (getD (a .numbers .now) 0 (pos 0)) (record { sfits = c .before .before .before .before .before .before .before .before .before .before .before .before .natural-arg .given }) (natural .ensures .0))
-          (scaled .ensures .0) (scaled .ensures .1 .0) (scaled .ensures .1 .1) (c .capped4 .ensures .0),
-    )
-
-pub +largest-spec : {M : Type 1} → statement M
-+largest-spec = close μ-largest λ t. largest-lts.spec (
+-- what the callees of `largest` ask, and what they promise
+abbrev largest-calls : ℕ → largest-lts.Claims
+largest-calls t = (
   natural-reads.Asked,
   natural-reads.Learnt,
   capped-reads.Asked,
@@ -647,6 +48,189 @@ pub +largest-spec : {M : Type 1} → statement M
   scaled-reads.Asked,
   scaled-reads.Learnt,
 )
+
+largest-returns : (t : ℕ) → largest-lts.Need-returns (largest-calls t) (largest-at t) largest.Post
+largest-returns t c =
+    let a = c .before .before .before .args in (
+      (omega arith, omega arith),
+      offsets.offset-none (a .kinds .now) (a .numbers .now) (counterBound (a .counters .now)) 0 0 (c .if1 .taken),
+    )
+
+largest-shared-slice-read-kind : (t : ℕ) → largest-lts.Need-shared-slice-read-kind (largest-calls t) (largest-at t) largest.Post
+largest-shared-slice-read-kind t c = search needs
+
+largest-shared-slice-copy-out-natural :
+    (t : ℕ) → largest-lts.Need-shared-slice-copy-out-natural (largest-calls t) (largest-at t) largest.Post
+largest-shared-slice-copy-out-natural t c = search needs
+
+largest-natural-requires : (t : ℕ) → largest-lts.Need-natural-requires (largest-calls t) (largest-at t) largest.Post
+largest-natural-requires t c κs = search needs
+
+largest-capped-requires : (t : ℕ) → largest-lts.Need-capped-requires (largest-calls t) (largest-at t) largest.Post
+largest-capped-requires t c κs = search needs
+
+largest-returns-2 : (t : ℕ) → largest-lts.Need-returns-2 (largest-calls t) (largest-at t) largest.Post
+largest-returns-2 t c =
+    let a = c .before .before .before .before .before .before .before .before .args in
+    let natural = c .before .before .natural in (
+      (omega arith, c .capped .ensures .1),
+      offsets.literal (a .kinds .now) (a .numbers .now)
+          (counterBound (a .counters .now)) (c .capped .result) (natural .result) (c .before .if2 .taken) (natural-of
+          (getD (a .numbers .now) 0 (pos 0)) (record { sfits = c .before .before .before .natural-arg .given })
+          (natural .ensures .0)) (c .capped .ensures .0),
+    )
+
+largest-entry-requires : (t : ℕ) → largest-lts.Need-entry-requires (largest-calls t) (largest-at t) largest.Post
+largest-entry-requires t c κs = search needs
+
+largest-last-round-requires : (t : ℕ) → largest-lts.Need-last-round-requires (largest-calls t) (largest-at t) largest.Post
+largest-last-round-requires t c κs = search needs
+
+largest-capped-requires-2 : (t : ℕ) → largest-lts.Need-capped-requires-2 (largest-calls t) (largest-at t) largest.Post
+largest-capped-requires-2 t c κs = search needs
+
+largest-returns-3 : (t : ℕ) → largest-lts.Need-returns-3 (largest-calls t) (largest-at t) largest.Post
+largest-returns-3 t c =
+    let a = c .before .before .before .before .before .before .before .before .before .before .before .args in
+    let natural = c .before .before .before .before .before .natural in (
+      (omega arith, c .capped2 .ensures .1),
+      offsets.counter (a .kinds .now) (a .numbers .now)
+          (counterBound (a .counters .now)) (c .capped2 .result) (natural .result) (c .before .last-round .result)
+          (c .before .before .before .if3 .taken) (natural-of (getD (a .numbers .now) 0 (pos 0)) (record {
+            sfits =
+                c .before .before .before .before .before .before .natural-arg .given;
+          }) (natural .ensures .0))
+          (c .before .last-round .ensures ∙ ap (λ (j : ℕ). j - 1) (c .before .before .entry .ensures))
+          (c .capped2 .ensures .0),
+    )
+
+largest-sub-largest : (t : ℕ) → largest-lts.Need-sub-largest (largest-calls t) (largest-at t) largest.Post
+largest-sub-largest t c = search needs
+
+largest-part-largest-start : (t : ℕ) → largest-lts.Need-part-largest-start (largest-calls t) (largest-at t) largest.Post
+largest-part-largest-start t c = search needs
+
+largest-part-largest-end : (t : ℕ) → largest-lts.Need-part-largest-end (largest-calls t) (largest-at t) largest.Post
+largest-part-largest-end t c = search needs
+
+largest-sub-largest-2 : (t : ℕ) → largest-lts.Need-sub-largest-2 (largest-calls t) (largest-at t) largest.Post
+largest-sub-largest-2 t c = search needs
+
+largest-part-largest-start-2 : (t : ℕ) → largest-lts.Need-part-largest-start-2 (largest-calls t) (largest-at t) largest.Post
+largest-part-largest-start-2 t c = search needs
+
+largest-part-largest-end-2 : (t : ℕ) → largest-lts.Need-part-largest-end-2 (largest-calls t) (largest-at t) largest.Post
+largest-part-largest-end-2 t c = search needs
+
+largest-largest-requires : (t : ℕ) → largest-lts.Need-largest-requires (largest-calls t) (largest-at t) largest.Post
+largest-largest-requires t c κs = search needs
+
+largest-add-from : (t : ℕ) → largest-lts.Need-add-from (largest-calls t) (largest-at t) largest.Post
+largest-add-from t c = search needs
+
+largest-sub-largest-3 : (t : ℕ) → largest-lts.Need-sub-largest-3 (largest-calls t) (largest-at t) largest.Post
+largest-sub-largest-3 t c = search needs
+
+largest-part-largest-start-3 : (t : ℕ) → largest-lts.Need-part-largest-start-3 (largest-calls t) (largest-at t) largest.Post
+largest-part-largest-start-3 t c = search needs
+
+largest-part-largest-end-3 : (t : ℕ) → largest-lts.Need-part-largest-end-3 (largest-calls t) (largest-at t) largest.Post
+largest-part-largest-end-3 t c = search needs
+
+largest-mul-largest : (t : ℕ) → largest-lts.Need-mul-largest (largest-calls t) (largest-at t) largest.Post
+largest-mul-largest t c = search needs
+
+largest-sub-largest-4 : (t : ℕ) → largest-lts.Need-sub-largest-4 (largest-calls t) (largest-at t) largest.Post
+largest-sub-largest-4 t c = search needs
+
+largest-part-largest-start-4 : (t : ℕ) → largest-lts.Need-part-largest-start-4 (largest-calls t) (largest-at t) largest.Post
+largest-part-largest-start-4 t c = search needs
+
+largest-part-largest-end-4 : (t : ℕ) → largest-lts.Need-part-largest-end-4 (largest-calls t) (largest-at t) largest.Post
+largest-part-largest-end-4 t c = search needs
+
+largest-largest-requires-2 : (t : ℕ) → largest-lts.Need-largest-requires-2 (largest-calls t) (largest-at t) largest.Post
+largest-largest-requires-2 t c κs = search needs
+
+largest-add-capped : (t : ℕ) → largest-lts.Need-add-capped (largest-calls t) (largest-at t) largest.Post
+largest-add-capped t c = search needs
+
+largest-capped-requires-3 : (t : ℕ) → largest-lts.Need-capped-requires-3 (largest-calls t) (largest-at t) largest.Post
+largest-capped-requires-3 t c κs = search needs
+
+largest-add-t30 : (t : ℕ) → largest-lts.Need-add-t30 (largest-calls t) (largest-at t) largest.Post
+largest-add-t30 t c = search needs
+
+largest-returns-4 : (t : ℕ) → largest-lts.Need-returns-4 (largest-calls t) (largest-at t) largest.Post
+largest-returns-4 t c =
+    let a = c .before .before .before .before .before .before .before .before .before .before .before
+    .before .before .before .before .before .before .before .before .before .args in
+    let largest = c .before .before .before .before .before .before .before .before .before .largest in
+    let largest2 = c .before .before .before .before .largest2 in
+    let capped3 = c .before .capped3 in (
+      (
+        omega (
+          arith,
+          largest .ensures .0 .0,
+          largest2 .ensures .0 .0,
+          c .before .before .before .before .before .before .before .before .before .before .before
+              .before .before .before .before .before .before .if1 .left,
+          table.part-length 1 (a .kinds .now),
+          table.part-length (1 + largest .result .rows) (a .kinds .now),
+        ),
+        capped3 .ensures .1,
+      ),
+      offsets.sum
+          (a .kinds .now) (a .numbers .now) (counterBound (a .counters .now)) (capped3 .result)
+          (largest .result .value) (largest .result .rows) (largest2 .result .value) (largest2 .result .rows)
+          (c .before .before .before .before .before .before .before .if4 .taken) (largest .ensures .1)
+          (largest2 .ensures .1) (capped3 .ensures .0),
+    )
+
+largest-returns-5 : (t : ℕ) → largest-lts.Need-returns-5 (largest-calls t) (largest-at t) largest.Post
+largest-returns-5 t c =
+    let a = c .before .before .before .before .before .before .before .before .before .before .before
+    .before .before .before .before .args in
+    let largest = c .before .before .before .before .largest in (
+      (omega arith, omega arith),
+      offsets.large (a .kinds .now) (a .numbers .now) (counterBound (a .counters .now)) _
+          (largest .result .value) (largest .result .rows) refl
+          (c .before .before .before .before .before .before .before .before .if2 .left)
+          (c .before .before .before .before .before .before .before .if3 .left) (c .before .before .if4 .left)
+          (largest .ensures .1) (omega (arith, c .if5 .taken)),
+    )
+
+largest-scaled-requires : (t : ℕ) → largest-lts.Need-scaled-requires (largest-calls t) (largest-at t) largest.Post
+largest-scaled-requires t c κs = search needs
+
+largest-capped-requires-4 : (t : ℕ) → largest-lts.Need-capped-requires-4 (largest-calls t) (largest-at t) largest.Post
+largest-capped-requires-4 t c κs = search needs
+
+largest-returns-6 : (t : ℕ) → largest-lts.Need-returns-6 (largest-calls t) (largest-at t) largest.Post
+largest-returns-6 t c =
+    let a = c .before .before .before .before .before .before .before .before .before .before .before
+    .before .before .before .before .before .before .args in
+    let natural = c .before .before .before .before .before .before .before .before .before .before .before .natural
+    in
+    let largest = c .before .before .before .before .before .before .largest in
+    let scaled = c .before .scaled in (
+      (omega arith, c .capped4 .ensures .1),
+      offsets.small (a .kinds .now) (a .numbers .now)
+          (counterBound (a .counters .now)) _ (largest .result .value) (largest .result .rows) refl
+          (c .before .before .before .before .before .before .before .before .before .before .if2 .left)
+          (c .before .before .before .before .before .before .before .before .before .if3 .left)
+          (c .before .before .before .before .if4 .left) (largest .ensures .1) (c .capped4 .result) (scaled .result)
+          (natural .result) (omega (arith, c .before .before .if5 .left)) (natural-of
+          (getD (a .numbers .now) 0 (pos 0)) (record {
+            sfits =
+                c .before .before .before .before .before .before .before .before .before .before .before
+                .before .natural-arg .given;
+          }) (natural .ensures .0)) (scaled .ensures .0) (scaled .ensures .1 .0)
+          (scaled .ensures .1 .1) (c .capped4 .ensures .0),
+    )
+
+pub +largest-spec : {M : Type 1} → statement M
++largest-spec = close μ-largest λ t. largest-lts.spec (largest-calls t)
     (largest-at t)
     largest.Post
     (largest-returns t)

@@ -17,13 +17,27 @@ enum-told : tie.Need-enum-told
 enum-told c = search needs
 
 returns : tie.Need-returns
-returns c = length-none (c .before .before .before .before .args .types .now) (c .before .before .before .before .args .place) (told-no-array (c .before .before .before .before .args .types .now) (c .before .before .before .before .args .place) (c .enum-told .given .1) (c .before .before .as-array .ensures))
+returns c =
+    let entry = c .before .before .before .before in
+    length-none (entry .args .types .now) (entry .args .place) (told-no-array (entry .args .types .now)
+    (entry .args .place) (c .enum-told .given .1) (c .before .before .as-array .ensures))
 
 cast-result : tie.Need-cast-result
-cast-result c = omega (arith, few-elements (c .before .before .before .before .before .args .types .now) (c .before .before .before .before .before .args .place) _ _ (sound-here (c .before .before .before .before .before .args .types .now) (c .before .before .before .before .before .args .place) (c .before .before .before .before .before .pre .0) (c .before .before .before .before .before .pre .1)) (told-array (c .before .before .before .before .before .args .types .now) (c .before .before .before .before .before .args .place) (c .before .array .given .1) (c .before .before .before .as-array .ensures) .0))
+cast-result c =
+    let entry = c .before .before .before .before .before in
+    omega (
+      arith,
+      few-elements (entry .args .types .now) (entry .args .place) _ _ (sound-here
+          (entry .args .types .now) (entry .args .place) (entry .pre .0) (entry .pre .1)) (told-array
+          (entry .args .types .now) (entry .args .place) (c .before .array .given .1)
+          (c .before .before .before .as-array .ensures) .0),
+    )
 
 returns-2 : tie.Need-returns-2
-returns-2 c = length-some (c .before .before .before .before .before .args .types .now) (c .before .before .before .before .before .args .place) _ _ (told-array (c .before .before .before .before .before .args .types .now) (c .before .before .before .before .before .args .place) (c .before .array .given .1) (c .before .before .before .as-array .ensures) .0)
+returns-2 c =
+    let entry = c .before .before .before .before .before in
+    length-some (entry .args .types .now) (entry .args .place) _ _ (told-array (entry .args .types .now)
+    (entry .args .place) (c .before .array .given .1) (c .before .before .before .as-array .ensures) .0)
 
 pub array-length-spec : {M : Type 1} → statement M
 array-length-spec =

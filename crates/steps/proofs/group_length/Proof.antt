@@ -16,13 +16,30 @@ enum-told : tie.Need-enum-told
 enum-told c = search needs
 
 returns : tie.Need-returns
-returns c = group-none (c .before .before .before .before .args .types .now) (c .before .before .before .before .args .place) (told-no-array (c .before .before .before .before .args .types .now) (c .before .before .before .before .args .place) (c .enum-told .given .1) (c .before .before .as-array .ensures))
+returns c =
+    let entry = c .before .before .before .before in
+    group-none (entry .args .types .now) (entry .args .place) (told-no-array (entry .args .types .now)
+    (entry .args .place) (c .enum-told .given .1) (c .before .before .as-array .ensures))
 
 array-length-requires : tie.Need-array-length-requires
-array-length-requires c κs = (c .before .before .before .before .before .pre .0, omega (arith, told-array (c .before .before .before .before .before .args .types .now) (c .before .before .before .before .before .args .place) (c .before .array .given .1) (c .before .before .before .as-array .ensures) .1, c .before .before .before .before .before .pre .1))
+array-length-requires c κs =
+    let entry = c .before .before .before .before .before in (
+      entry .pre .0,
+      omega (
+        arith,
+        told-array (entry .args .types .now) (entry .args .place)
+            (c .before .array .given .1) (c .before .before .before .as-array .ensures) .1,
+        entry .pre .1,
+      ),
+    )
 
 returns-2 : tie.Need-returns-2
-returns-2 c = group-some (c .before .before .before .before .before .before .args .types .now) (c .before .before .before .before .before .before .args .place) _ _ _ (told-array (c .before .before .before .before .before .before .args .types .now) (c .before .before .before .before .before .before .args .place) (c .before .before .array .given .1) (c .before .before .before .before .as-array .ensures) .0) (c .array-length .ensures)
+returns-2 c =
+    let entry = c .before .before .before .before .before .before in
+    let at-as-array = c .before .before .before .before .as-array in
+    group-some (entry .args .types .now) (entry .args .place) _ _ _ (told-array (entry .args .types .now)
+    (entry .args .place) (c .before .before .array .given .1) (at-as-array .ensures) .0)
+    (c .array-length .ensures)
 
 pub group-length-spec : {M : Type 1} → statement M
 group-length-spec =

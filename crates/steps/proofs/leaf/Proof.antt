@@ -16,13 +16,23 @@ mul-t11 : tie.Need-mul-t11
 mul-t11 c = omega (arith, c .before .before .before .pre .7)
 
 array-read-t14 : tie.Need-array-read-t14
-array-read-t14 c = omega (arith, c .before .before .before .pre .6 (c .before .before .if1 .taken), c .before .before .before .pre .7, c .before .before .before .pre .8)
+array-read-t14 c =
+    let entry = c .before .before .before in
+    omega (arith, entry .pre .6 (c .before .before .if1 .taken), entry .pre .7, entry .pre .8)
 
 cast-t15 : tie.Need-cast-t15
 cast-t15 c = search needs
 
 returns : tie.Need-returns
-returns c = leaf-variable _ _ _ _ _ _ _ _ (c .before .before .if1 .taken) record { rows = refl; value = refl; regions = refl; len = refl; to = refl; same = refl }
+returns c = leaf-variable _ _ _ _ _ _ _ _ (c .before .before .if1 .taken) record {
+  rows = refl;
+  value = refl;
+  regions
+      = refl;
+  len = refl;
+  to = refl;
+  same = refl;
+}
 
 cast-push-stored : tie.Need-cast-push-stored
 cast-push-stored c = omega (arith, c .before .before .before .pre .5 (c .before .if2 .taken))
@@ -46,7 +56,10 @@ node-used-requires-2 : tie.Need-node-used-requires-2
 node-used-requires-2 c κs = search needs
 
 returns-3 : tie.Need-returns-3
-returns-3 c = leaf-literal _ _ _ _ _ _ _ _ (c .before .before .before .before .if1 .left) (c .before .before .before .if2 .left) (c .before .push-stored2 .ensures) (c .node-used2 .ensures)
+returns-3 c =
+    let at-if1 = c .before .before .before .before .if1 in
+    leaf-literal _ _ _ _ _ _ _ _ (at-if1 .left) (c .before .before .before .if2 .left)
+    (c .before .push-stored2 .ensures) (c .node-used2 .ensures)
 
 pub leaf-spec : {M : Type 1} → statement M
 leaf-spec =

@@ -9,13 +9,19 @@ group-length-requires : tie.Need-group-length-requires
 group-length-requires c κs = search needs
 
 returns : tie.Need-returns
-returns c = number-join (c .before .before .before .args .kind) (c .before .before .before .args .number) _ (typeAt (c .before .before .before .args .types .now) (c .before .before .before .args .place)) (c .before .if1 .taken) (c .group-length .ensures)
+returns c =
+    let entry = c .before .before .before in
+    number-join (entry .args .kind) (entry .args .number) _ (typeAt (entry .args .types .now) (entry .args .place))
+    (c .before .if1 .taken) (c .group-length .ensures)
 
 cast-result : tie.Need-cast-result
 cast-result c = search needs
 
 returns-2 : tie.Need-returns-2
-returns-2 c = number-else (c .before .before .args .kind) (c .before .before .args .number) (typeAt (c .before .before .args .types .now) (c .before .before .args .place)) (c .if1 .left)
+returns-2 c =
+    let entry = c .before .before in
+    number-else (entry .args .kind) (entry .args .number) (typeAt (entry .args .types .now) (entry .args .place))
+    (c .if1 .left)
 
 pub node-number-spec : {M : Type 1} → statement M
 node-number-spec = tie.close (tie.spec group-length-requires returns cast-result returns-2)

@@ -7,10 +7,19 @@ use Rattle.steps.proofs.put_region.Statement.{statement}
 use Rattle.steps.proofs.put_region.Tie as tie
 
 cells-requires : tie.Need-cells-requires
-cells-requires c κs = sound-here (c .before .before .before .args .types .now) (c .before .before .before .args .place) (c .before .before .before .pre .0) (c .before .before .before .pre .1)
+cells-requires c κs =
+    let entry = c .before .before .before in
+    sound-here (entry .args .types .now) (entry .args .place) (entry .pre .0) (entry .pre .1)
 
 cast-put-count : tie.Need-cast-put-count
-cast-put-count c = omega (arith, c .cells .ensures, few-cells (c .before .before .before .before .args .types .now) (c .before .before .before .before .args .place) (c .before .before .before .before .pre .0) (c .before .before .before .before .pre .1))
+cast-put-count c =
+    let entry = c .before .before .before .before in
+    omega (
+      arith,
+      c .cells .ensures,
+      few-cells (entry .args .types .now) (entry .args .place) (entry .pre .0)
+          (entry .pre .1),
+    )
 
 put-count-requires : tie.Need-put-count-requires
 put-count-requires c κs = search needs
@@ -19,7 +28,11 @@ put-count-requires-2 : tie.Need-put-count-requires-2
 put-count-requires-2 c κs = search needs
 
 returns : tie.Need-returns
-returns c = region-put (typeAt (c .before .before .before .before .before .before .before .before .args .types .now) (c .before .before .before .before .before .before .before .before .args .place)) _ _ _ _ (c .before .before .before .before .cells .ensures) (c .before .before .before .put-count .ensures) (c .put-count2 .ensures)
+returns c =
+    let entry = c .before .before .before .before .before .before .before .before in
+    let at-cells = c .before .before .before .before .cells in
+    region-put (typeAt (entry .args .types .now) (entry .args .place)) _ _ _ _ (at-cells .ensures)
+    (c .before .before .before .put-count .ensures) (c .put-count2 .ensures)
 
 pub put-region-spec : {M : Type 1} → statement M
 put-region-spec =

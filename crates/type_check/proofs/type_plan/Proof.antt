@@ -11,126 +11,188 @@ use Rattle.type_check.proofs.type_plan.Lts as lts
 use Rattle.type_check.proofs.inputs.type_inputs.Reads as type-inputs-reads
 use Rattle.type_check.proofs.terms.type_of.Reads as type-of-reads
 
--- src/plan.rt:52:52
 slice-aggregate-type-inputs : tie.Need-slice-aggregate-type-inputs
 slice-aggregate-type-inputs c = search needs
 
--- src/plan.rt:52:9
 type-inputs-requires : tie.Need-type-inputs-requires
 type-inputs-requires c κs =
     let pre′ = c .before .before .before .before .before .pre in
     (pre′ .sizes, pre′ .few, pre′ .nodes, refl, (pre′ .plan, pre′ .stands))
 
--- src/plan.rt:55:15
 enum-known-asked : tie.Need-enum-known-asked
 enum-known-asked c = search needs
 
--- src/plan.rt:60:13
 enum-told : tie.Need-enum-told
 enum-told c = search needs
 
--- src/plan.rt:59:9
 same-length : tie.Need-same-length
 same-length c = search needs
 
--- src/plan.rt:59:9
 returns : tie.Need-returns
 returns c =
-    let args′ = c .before .before .before .before .before .before .before .before .before .before .before .args in
-    let pre′ = c .before .before .before .before .before .before .before .before .before .before .before .pre in
+    let entry = c .before .before .before .before .before .before .before .before .before .before .before in
+    let args′ = entry .args in
+    let pre′ = entry .pre in
     let type-inputs′ = c .before .before .before .before .before .type-inputs in
     let enum-told′ = c .enum-told in
-    laws.inputs-no (args′ .kinds .now) (args′ .numbers .now) (args′ .nodes .now) (args′ .types .now) pre′ (type-inputs′ .last .1 .1 .0) (type-inputs′ .last .1 .1 .1 .0) (type-inputs′ .result) (type-inputs′ .ensures) _ (type-inputs′ .last .1 .1 .0) (args′ .types .now) 0 (enum-told′ .given .1)
+    laws.inputs-no (args′ .kinds .now) (args′ .numbers .now) (args′ .nodes .now) (args′ .types .now) pre′
+    (type-inputs′ .last .1 .1 .0) (type-inputs′ .last .1 .1 .1 .0) (type-inputs′ .result) (type-inputs′ .ensures) _
+    (type-inputs′ .last .1 .1 .0) (args′ .types .now) 0 (enum-told′ .given .1)
 
--- src/plan.rt:71:9
 sub-type-of : tie.Need-sub-type-of
 sub-type-of c =
-    let args′ = c .before .before .before .before .before .before .before .before .before .before .before .before .args in
-    let pre′ = c .before .before .before .before .before .before .before .before .before .before .before .before .pre in
+    let entry = c .before .before .before .before .before .before .before .before .before .before .before .before in
+    let args′ = entry .args in
+    let pre′ = entry .pre in
     let type-inputs′ = c .before .before .before .before .before .before .type-inputs in
     let asked′ = c .before .asked in
-    laws.row-within (args′ .kinds .now) (args′ .numbers .now) (args′ .nodes .now) (args′ .types .now) pre′ (type-inputs′ .last .1 .1 .0) (type-inputs′ .last .1 .1 .1 .0) (type-inputs′ .result) (type-inputs′ .ensures) (asked′ .given .0 .0) (asked′ .given .0 .1 .0) (asked′ .given .0 .1 .1 .0) (asked′ .given .1) (pre′ .plan) (pre′ .stands)
+    laws.row-within (args′ .kinds .now) (args′ .numbers .now) (args′ .nodes .now) (args′ .types .now) pre′
+    (type-inputs′ .last .1 .1 .0) (type-inputs′ .last .1 .1 .1 .0) (type-inputs′ .result) (type-inputs′ .ensures)
+    (asked′ .given .0 .0) (asked′ .given .0 .1 .0) (asked′ .given .0 .1 .1 .0) (asked′ .given .1) (pre′ .plan)
+    (pre′ .stands)
 
--- src/plan.rt:71:9
 part-type-of-start : tie.Need-part-type-of-start
 part-type-of-start c =
-    let args′ = c .before .before .before .before .before .before .before .before .before .before .before .before .args in
-    let pre′ = c .before .before .before .before .before .before .before .before .before .before .before .before .pre in
+    let entry = c .before .before .before .before .before .before .before .before .before .before .before .before in
+    let args′ = entry .args in
+    let pre′ = entry .pre in
     let type-inputs′ = c .before .before .before .before .before .before .type-inputs in
     let asked′ = c .before .asked in
-    laws.row-within (args′ .kinds .now) (args′ .numbers .now) (args′ .nodes .now) (args′ .types .now) pre′ (type-inputs′ .last .1 .1 .0) (type-inputs′ .last .1 .1 .1 .0) (type-inputs′ .result) (type-inputs′ .ensures) (asked′ .given .0 .0) (asked′ .given .0 .1 .0) (asked′ .given .0 .1 .1 .0) (asked′ .given .1) (pre′ .plan) (pre′ .stands)
+    laws.row-within (args′ .kinds .now) (args′ .numbers .now) (args′ .nodes .now) (args′ .types .now) pre′
+    (type-inputs′ .last .1 .1 .0) (type-inputs′ .last .1 .1 .1 .0) (type-inputs′ .result) (type-inputs′ .ensures)
+    (asked′ .given .0 .0) (asked′ .given .0 .1 .0) (asked′ .given .0 .1 .1 .0) (asked′ .given .1) (pre′ .plan)
+    (pre′ .stands)
 
--- src/plan.rt:71:9
 part-type-of-end : tie.Need-part-type-of-end
 part-type-of-end c =
-    let args′ = c .before .before .before .before .before .before .before .before .before .before .before .before .args in
-    let pre′ = c .before .before .before .before .before .before .before .before .before .before .before .before .pre in
+    let entry = c .before .before .before .before .before .before .before .before .before .before .before .before in
+    let args′ = entry .args in
+    let pre′ = entry .pre in
     let type-inputs′ = c .before .before .before .before .before .before .type-inputs in
     let asked′ = c .before .asked in
-    omega (arith, laws.row-within (args′ .kinds .now) (args′ .numbers .now) (args′ .nodes .now) (args′ .types .now) pre′ (type-inputs′ .last .1 .1 .0) (type-inputs′ .last .1 .1 .1 .0) (type-inputs′ .result) (type-inputs′ .ensures) (asked′ .given .0 .0) (asked′ .given .0 .1 .0) (asked′ .given .0 .1 .1 .0) (asked′ .given .1) (pre′ .plan) (pre′ .stands))
+    omega (
+      arith,
+      laws.row-within (args′ .kinds .now) (args′ .numbers .now) (args′ .nodes .now) (args′ .types .now)
+          pre′ (type-inputs′ .last .1 .1 .0) (type-inputs′ .last .1 .1 .1 .0) (type-inputs′ .result)
+          (type-inputs′ .ensures) (asked′ .given .0 .0) (asked′ .given .0 .1 .0) (asked′ .given .0 .1 .1 .0)
+          (asked′ .given .1) (pre′ .plan) (pre′ .stands),
+    )
 
--- src/plan.rt:72:9
 mul-type-of : tie.Need-mul-type-of
 mul-type-of c =
-    let args′ = c .before .before .before .before .before .before .before .before .before .before .before .before .before .args in
-    let pre′ = c .before .before .before .before .before .before .before .before .before .before .before .before .before .pre in
+    let entry = c .before .before .before .before .before .before .before .before .before .before .before
+    .before .before in
+    let args′ = entry .args in
+    let pre′ = entry .pre in
     let type-inputs′ = c .before .before .before .before .before .before .before .type-inputs in
     let asked′ = c .before .before .asked in
-    record { fits = omega (arith, laws.row-within (args′ .kinds .now) (args′ .numbers .now) (args′ .nodes .now) (args′ .types .now) pre′ (type-inputs′ .last .1 .1 .0) (type-inputs′ .last .1 .1 .1 .0) (type-inputs′ .result) (type-inputs′ .ensures) (asked′ .given .0 .0) (asked′ .given .0 .1 .0) (asked′ .given .0 .1 .1 .0) (asked′ .given .1) (pre′ .plan) (pre′ .stands), pre′ .few) }
+    record {
+      fits = omega (
+        arith,
+        laws.row-within (args′ .kinds .now) (args′ .numbers .now) (args′ .nodes .now)
+            (args′ .types .now) pre′ (type-inputs′ .last .1 .1 .0) (type-inputs′ .last .1 .1 .1 .0)
+            (type-inputs′ .result) (type-inputs′ .ensures) (asked′ .given .0 .0) (asked′ .given .0 .1 .0)
+            (asked′ .given .0 .1 .1 .0) (asked′ .given .1) (pre′ .plan) (pre′ .stands),
+        pre′ .few,
+      );
+    }
 
--- src/plan.rt:72:9
 sub-type-of-2 : tie.Need-sub-type-of-2
 sub-type-of-2 c =
-    let args′ = c .before .before .before .before .before .before .before .before .before .before .before .before .before .args in
-    let pre′ = c .before .before .before .before .before .before .before .before .before .before .before .before .before .pre in
+    let entry = c .before .before .before .before .before .before .before .before .before .before .before
+    .before .before in
+    let args′ = entry .args in
+    let pre′ = entry .pre in
     let type-inputs′ = c .before .before .before .before .before .before .before .type-inputs in
     let asked′ = c .before .before .asked in
-    omega (arith, laws.row-within (args′ .kinds .now) (args′ .numbers .now) (args′ .nodes .now) (args′ .types .now) pre′ (type-inputs′ .last .1 .1 .0) (type-inputs′ .last .1 .1 .1 .0) (type-inputs′ .result) (type-inputs′ .ensures) (asked′ .given .0 .0) (asked′ .given .0 .1 .0) (asked′ .given .0 .1 .1 .0) (asked′ .given .1) (pre′ .plan) (pre′ .stands), pre′ .sizes)
+    omega (
+      arith,
+      laws.row-within (args′ .kinds .now) (args′ .numbers .now) (args′ .nodes .now) (args′ .types .now)
+          pre′ (type-inputs′ .last .1 .1 .0) (type-inputs′ .last .1 .1 .1 .0) (type-inputs′ .result)
+          (type-inputs′ .ensures) (asked′ .given .0 .0) (asked′ .given .0 .1 .0) (asked′ .given .0 .1 .1 .0)
+          (asked′ .given .1) (pre′ .plan) (pre′ .stands),
+      pre′ .sizes,
+    )
 
--- src/plan.rt:72:9
 part-type-of-start-2 : tie.Need-part-type-of-start-2
 part-type-of-start-2 c =
-    let args′ = c .before .before .before .before .before .before .before .before .before .before .before .before .before .args in
-    let pre′ = c .before .before .before .before .before .before .before .before .before .before .before .before .before .pre in
+    let entry = c .before .before .before .before .before .before .before .before .before .before .before
+    .before .before in
+    let args′ = entry .args in
+    let pre′ = entry .pre in
     let type-inputs′ = c .before .before .before .before .before .before .before .type-inputs in
     let asked′ = c .before .before .asked in
-    omega (arith, laws.row-within (args′ .kinds .now) (args′ .numbers .now) (args′ .nodes .now) (args′ .types .now) pre′ (type-inputs′ .last .1 .1 .0) (type-inputs′ .last .1 .1 .1 .0) (type-inputs′ .result) (type-inputs′ .ensures) (asked′ .given .0 .0) (asked′ .given .0 .1 .0) (asked′ .given .0 .1 .1 .0) (asked′ .given .1) (pre′ .plan) (pre′ .stands), pre′ .sizes)
+    omega (
+      arith,
+      laws.row-within (args′ .kinds .now) (args′ .numbers .now) (args′ .nodes .now) (args′ .types .now)
+          pre′ (type-inputs′ .last .1 .1 .0) (type-inputs′ .last .1 .1 .1 .0) (type-inputs′ .result)
+          (type-inputs′ .ensures) (asked′ .given .0 .0) (asked′ .given .0 .1 .0) (asked′ .given .0 .1 .1 .0)
+          (asked′ .given .1) (pre′ .plan) (pre′ .stands),
+      pre′ .sizes,
+    )
 
--- src/plan.rt:72:9
 part-type-of-end-2 : tie.Need-part-type-of-end-2
 part-type-of-end-2 c =
-    let args′ = c .before .before .before .before .before .before .before .before .before .before .before .before .before .args in
-    let pre′ = c .before .before .before .before .before .before .before .before .before .before .before .before .before .pre in
+    let entry = c .before .before .before .before .before .before .before .before .before .before .before
+    .before .before in
+    let args′ = entry .args in
+    let pre′ = entry .pre in
     let type-inputs′ = c .before .before .before .before .before .before .before .type-inputs in
     let asked′ = c .before .before .asked in
-    omega (arith, laws.row-within (args′ .kinds .now) (args′ .numbers .now) (args′ .nodes .now) (args′ .types .now) pre′ (type-inputs′ .last .1 .1 .0) (type-inputs′ .last .1 .1 .1 .0) (type-inputs′ .result) (type-inputs′ .ensures) (asked′ .given .0 .0) (asked′ .given .0 .1 .0) (asked′ .given .0 .1 .1 .0) (asked′ .given .1) (pre′ .plan) (pre′ .stands), pre′ .sizes)
+    omega (
+      arith,
+      laws.row-within (args′ .kinds .now) (args′ .numbers .now) (args′ .nodes .now) (args′ .types .now)
+          pre′ (type-inputs′ .last .1 .1 .0) (type-inputs′ .last .1 .1 .1 .0) (type-inputs′ .result)
+          (type-inputs′ .ensures) (asked′ .given .0 .0) (asked′ .given .0 .1 .0) (asked′ .given .0 .1 .1 .0)
+          (asked′ .given .1) (pre′ .plan) (pre′ .stands),
+      pre′ .sizes,
+    )
 
--- src/plan.rt:70:9
 type-of-requires : tie.Need-type-of-requires
 type-of-requires c κs =
-    let args′ = c .before .before .before .before .before .before .before .before .before .before .before .before .before .before .before .before .args in
-    let pre′ = c .before .before .before .before .before .before .before .before .before .before .before .before .before .before .before .before .pre in
-    let type-inputs′ = c .before .before .before .before .before .before .before .before .before .before .type-inputs in
-    let asked′ = c .before .before .before .before .before .asked in
-    (laws.term-place (args′ .kinds .now) (args′ .numbers .now) (args′ .nodes .now) (args′ .types .now) pre′ (type-inputs′ .last .1 .1 .0) (type-inputs′ .last .1 .1 .1 .0) (type-inputs′ .result) (type-inputs′ .ensures) (asked′ .given .0 .0) (asked′ .given .0 .1 .0) (asked′ .given .0 .1 .1 .0) (asked′ .given .1), (pre′ .plan .inputs, [], pre′ .plan .term, laws.term-stands (args′ .kinds .now) (args′ .numbers .now) (args′ .nodes .now) (args′ .types .now) pre′ (type-inputs′ .last .1 .1 .0) (type-inputs′ .last .1 .1 .1 .0) (type-inputs′ .result) (type-inputs′ .ensures) (asked′ .given .0 .0) (asked′ .given .0 .1 .0) (asked′ .given .0 .1 .1 .0) (asked′ .given .1) (pre′ .plan) (pre′ .stands) _ refl))
+    let entry = c .before .before .before .before .before .before .before .before .before .before .before
+    .before .before .before .before .before in
+    let args′ = entry .args in
+    let pre′ = entry .pre in
+    let type-inputs′ = c .before .before .before .before .before .before .before .before .before .before
+    .type-inputs in
+    let asked′ = c .before .before .before .before .before .asked in (
+      laws.term-place (args′ .kinds .now) (args′ .numbers .now) (args′ .nodes .now) (args′ .types .now) pre′
+          (type-inputs′ .last .1 .1 .0) (type-inputs′ .last .1 .1 .1 .0) (type-inputs′ .result)
+          (type-inputs′ .ensures) (asked′ .given .0 .0) (asked′ .given .0 .1 .0) (asked′ .given .0 .1 .1 .0)
+          (asked′ .given .1),
+      (
+        pre′ .plan .inputs,
+        [],
+        pre′ .plan .term,
+        laws.term-stands (args′ .kinds .now)
+            (args′ .numbers .now) (args′ .nodes .now) (args′ .types .now) pre′ (type-inputs′ .last .1 .1 .0)
+            (type-inputs′ .last .1 .1 .1 .0) (type-inputs′ .result) (type-inputs′ .ensures) (asked′ .given .0 .0)
+            (asked′ .given .0 .1 .0) (asked′ .given .0 .1 .1 .0) (asked′ .given .1) (pre′ .plan) (pre′ .stands) _
+            refl,
+      ),
+    )
 
--- src/plan.rt:47:1
 same-length-2 : tie.Need-same-length-2
 same-length-2 c = search needs
 
--- src/plan.rt:47:1
 same-length-3 : tie.Need-same-length-3
 same-length-3 c = search needs
 
--- src/plan.rt:47:1
 returns-2 : tie.Need-returns-2
 returns-2 c =
-    let args′ = c .before .before .before .before .before .before .before .before .before .before .before .before .before .before .before .before .before .before .before .before .before .args in
-    let pre′ = c .before .before .before .before .before .before .before .before .before .before .before .before .before .before .before .before .before .before .before .before .before .pre in
-    let type-inputs′ = c .before .before .before .before .before .before .before .before .before .before .before .before .before .before .before .type-inputs in
+    let entry = c .before .before .before .before .before .before .before .before .before .before .before
+    .before .before .before .before .before .before .before .before .before .before in
+    let args′ = entry .args in
+    let pre′ = entry .pre in
+    let type-inputs′ = c .before .before .before .before .before .before .before .before .before .before .before
+    .before .before .before .before .type-inputs in
     let asked′ = c .before .before .before .before .before .before .before .before .before .before .asked in
     let type-of′ = c .before .before .before .before .type-of in
-    laws.term-answered (args′ .kinds .now) (args′ .numbers .now) (args′ .nodes .now) (args′ .types .now) pre′ (type-inputs′ .last .1 .1 .0) (type-inputs′ .last .1 .1 .1 .0) (type-inputs′ .result) (type-inputs′ .ensures) (asked′ .given .0 .0) (asked′ .given .0 .1 .0) (asked′ .given .0 .1 .1 .0) (asked′ .given .1) _ refl (type-of′ .last .1 .1 .1 .1 .0) (type-of′ .last .1 .1 .1 .1 .1 .1 .0) (type-of′ .result) (type-of′ .ensures)
+    laws.term-answered (args′ .kinds .now) (args′ .numbers .now) (args′ .nodes .now) (args′ .types .now) pre′
+    (type-inputs′ .last .1 .1 .0) (type-inputs′ .last .1 .1 .1 .0) (type-inputs′ .result) (type-inputs′ .ensures)
+    (asked′ .given .0 .0) (asked′ .given .0 .1 .0) (asked′ .given .0 .1 .1 .0) (asked′ .given .1) _ refl
+    (type-of′ .last .1 .1 .1 .1 .0) (type-of′ .last .1 .1 .1 .1 .1 .1 .0) (type-of′ .result) (type-of′ .ensures)
 
 pub type-plan-spec : {M : Type 1} → statement M
 type-plan-spec =

@@ -26,284 +26,9 @@ same-at t = and 1 same-kinds.ps (is 1 same-kinds.ps μ-same t) same.Pre
 abbrev same-below : ℕ → In 1 same-kinds.ps
 same-below t = and 1 same-kinds.ps (falls 1 same-kinds.ps _<_ μ-same t) same.Pre
 
-same-as-array-requires : (t : ℕ) → same-lts.Need-as-array-requires (
-  as-array-reads.Asked,
-  as-array-reads.Learnt,
-  same-below t,
-  same.Post,
-  as-pair-reads.Asked,
-  as-pair-reads.Learnt,
-  is-number-reads.Asked,
-  is-number-reads.Learnt,
-) (same-at t) same.Post
-same-as-array-requires t c κs = c .before .pre .1 .0
-
-same-enum-known-arrays : (t : ℕ) → same-lts.Need-enum-known-arrays (
-  as-array-reads.Asked,
-  as-array-reads.Learnt,
-  same-below t,
-  same.Post,
-  as-pair-reads.Asked,
-  as-pair-reads.Learnt,
-  is-number-reads.Asked,
-  is-number-reads.Learnt,
-) (same-at t) same.Post
-same-enum-known-arrays t c = search needs
-
-same-as-array-requires-2 : (t : ℕ) → same-lts.Need-as-array-requires-2 (
-  as-array-reads.Asked,
-  as-array-reads.Learnt,
-  same-below t,
-  same.Post,
-  as-pair-reads.Asked,
-  as-pair-reads.Learnt,
-  is-number-reads.Asked,
-  is-number-reads.Learnt,
-) (same-at t) same.Post
-same-as-array-requires-2 t c κs = c .before .before .before .before .before .pre .1 .1
-
-same-enum-known-other : (t : ℕ) → same-lts.Need-enum-known-other (
-  as-array-reads.Asked,
-  as-array-reads.Learnt,
-  same-below t,
-  same.Post,
-  as-pair-reads.Asked,
-  as-pair-reads.Learnt,
-  is-number-reads.Asked,
-  is-number-reads.Learnt,
-) (same-at t) same.Post
-same-enum-known-other t c = search needs
-
-same-enum-told : (t : ℕ) → same-lts.Need-enum-told (
-  as-array-reads.Asked,
-  as-array-reads.Learnt,
-  same-below t,
-  same.Post,
-  as-pair-reads.Asked,
-  as-pair-reads.Learnt,
-  is-number-reads.Asked,
-  is-number-reads.Learnt,
-) (same-at t) same.Post
-same-enum-told t c = search needs
-
-same-returns : (t : ℕ) → same-lts.Need-returns (
-  as-array-reads.Asked,
-  as-array-reads.Learnt,
-  same-below t,
-  same.Post,
-  as-pair-reads.Asked,
-  as-pair-reads.Learnt,
-  is-number-reads.Asked,
-  is-number-reads.Learnt,
-) (same-at t) same.Post
-same-returns t c = answer-no (λ e. told-no-array (c .before .before .before .before .before .before .before .before .args .nodes .now) (c .before .before .before .before .before .before .before .before .args .b) (c .enum-told .given .1) (c .before .before .as-array2 .ensures) _ _ (sym e ∙ told-array (c .before .before .before .before .before .before .before .before .args .nodes .now) (c .before .before .before .before .before .before .before .before .args .a) (c .before .before .before .before .arrays .given .1) (c .before .before .before .before .before .before .as-array .ensures) .0))
-
-same-returns-2 : (t : ℕ) → same-lts.Need-returns-2 (
-  as-array-reads.Asked,
-  as-array-reads.Learnt,
-  same-below t,
-  same.Post,
-  as-pair-reads.Asked,
-  as-pair-reads.Learnt,
-  is-number-reads.Asked,
-  is-number-reads.Learnt,
-) (same-at t) same.Post
-same-returns-2 t c = answer-no (arrays-differ (told-array (c .before .before .before .before .before .before .before .before .before .before .args .nodes .now) (c .before .before .before .before .before .before .before .before .before .before .args .a) (c .before .before .before .before .before .before .arrays .given .1) (c .before .before .before .before .before .before .before .before .as-array .ensures) .0) (told-array (c .before .before .before .before .before .before .before .before .before .before .args .nodes .now) (c .before .before .before .before .before .before .before .before .before .before .args .b) (c .before .before .other .given .1) (c .before .before .before .before .as-array2 .ensures) .0) (c .if1 .taken))
-
-same-same-requires : (t : ℕ) → same-lts.Need-same-requires (
-  as-array-reads.Asked,
-  as-array-reads.Learnt,
-  same-below t,
-  same.Post,
-  as-pair-reads.Asked,
-  as-pair-reads.Learnt,
-  is-number-reads.Asked,
-  is-number-reads.Learnt,
-) (same-at t) same.Post
-same-same-requires t c κs = (omega (arith, c .before .before .before .before .before .before .before .before .before .before .pre .0, told-array (c .before .before .before .before .before .before .before .before .before .before .args .nodes .now) (c .before .before .before .before .before .before .before .before .before .before .args .a) (c .before .before .before .before .before .before .arrays .given .1) (c .before .before .before .before .before .before .before .before .as-array .ensures) .1), (sound-below (c .before .before .before .before .before .before .before .before .before .before .pre .1 .0) (omega (arith, told-array (c .before .before .before .before .before .before .before .before .before .before .args .nodes .now) (c .before .before .before .before .before .before .before .before .before .before .args .a) (c .before .before .before .before .before .before .arrays .given .1) (c .before .before .before .before .before .before .before .before .as-array .ensures) .1)), sound-below (c .before .before .before .before .before .before .before .before .before .before .pre .1 .1) (omega (arith, told-array (c .before .before .before .before .before .before .before .before .before .before .args .nodes .now) (c .before .before .before .before .before .before .before .before .before .before .args .b) (c .before .before .other .given .1) (c .before .before .before .before .as-array2 .ensures) .1))))
-
-same-returns-3 : (t : ℕ) → same-lts.Need-returns-3 (
-  as-array-reads.Asked,
-  as-array-reads.Learnt,
-  same-below t,
-  same.Post,
-  as-pair-reads.Asked,
-  as-pair-reads.Learnt,
-  is-number-reads.Asked,
-  is-number-reads.Learnt,
-) (same-at t) same.Post
-same-returns-3 t c = arrays-same (c .same .result) (told-array (c .before .before .before .before .before .before .before .before .before .before .before .args .nodes .now) (c .before .before .before .before .before .before .before .before .before .before .before .args .a) (c .before .before .before .before .before .before .before .arrays .given .1) (c .before .before .before .before .before .before .before .before .before .as-array .ensures) .0) (told-array (c .before .before .before .before .before .before .before .before .before .before .before .args .nodes .now) (c .before .before .before .before .before .before .before .before .before .before .before .args .b) (c .before .before .before .other .given .1) (c .before .before .before .before .before .as-array2 .ensures) .0) (c .before .if1 .left) (c .same .ensures)
-
-same-enum-told-2 : (t : ℕ) → same-lts.Need-enum-told-2 (
-  as-array-reads.Asked,
-  as-array-reads.Learnt,
-  same-below t,
-  same.Post,
-  as-pair-reads.Asked,
-  as-pair-reads.Learnt,
-  is-number-reads.Asked,
-  is-number-reads.Learnt,
-) (same-at t) same.Post
-same-enum-told-2 t c = search needs
-
-same-as-pair-requires : (t : ℕ) → same-lts.Need-as-pair-requires (
-  as-array-reads.Asked,
-  as-array-reads.Learnt,
-  same-below t,
-  same.Post,
-  as-pair-reads.Asked,
-  as-pair-reads.Learnt,
-  is-number-reads.Asked,
-  is-number-reads.Learnt,
-) (same-at t) same.Post
-same-as-pair-requires t c κs = c .before .before .before .before .pre .1 .0
-
-same-enum-known-pairs : (t : ℕ) → same-lts.Need-enum-known-pairs (
-  as-array-reads.Asked,
-  as-array-reads.Learnt,
-  same-below t,
-  same.Post,
-  as-pair-reads.Asked,
-  as-pair-reads.Learnt,
-  is-number-reads.Asked,
-  is-number-reads.Learnt,
-) (same-at t) same.Post
-same-enum-known-pairs t c = search needs
-
-same-as-pair-requires-2 : (t : ℕ) → same-lts.Need-as-pair-requires-2 (
-  as-array-reads.Asked,
-  as-array-reads.Learnt,
-  same-below t,
-  same.Post,
-  as-pair-reads.Asked,
-  as-pair-reads.Learnt,
-  is-number-reads.Asked,
-  is-number-reads.Learnt,
-) (same-at t) same.Post
-same-as-pair-requires-2 t c κs = c .before .before .before .before .before .before .before .before .pre .1 .1
-
-same-enum-known-other-2 : (t : ℕ) → same-lts.Need-enum-known-other-2 (
-  as-array-reads.Asked,
-  as-array-reads.Learnt,
-  same-below t,
-  same.Post,
-  as-pair-reads.Asked,
-  as-pair-reads.Learnt,
-  is-number-reads.Asked,
-  is-number-reads.Learnt,
-) (same-at t) same.Post
-same-enum-known-other-2 t c = search needs
-
-same-enum-told-3 : (t : ℕ) → same-lts.Need-enum-told-3 (
-  as-array-reads.Asked,
-  as-array-reads.Learnt,
-  same-below t,
-  same.Post,
-  as-pair-reads.Asked,
-  as-pair-reads.Learnt,
-  is-number-reads.Asked,
-  is-number-reads.Learnt,
-) (same-at t) same.Post
-same-enum-told-3 t c = search needs
-
-same-returns-4 : (t : ℕ) → same-lts.Need-returns-4 (
-  as-array-reads.Asked,
-  as-array-reads.Learnt,
-  same-below t,
-  same.Post,
-  as-pair-reads.Asked,
-  as-pair-reads.Learnt,
-  is-number-reads.Asked,
-  is-number-reads.Learnt,
-) (same-at t) same.Post
-same-returns-4 t c = answer-no (λ e. told-no-pair (c .before .before .before .before .before .before .before .before .before .before .before .args .nodes .now) (c .before .before .before .before .before .before .before .before .before .before .before .args .b) (c .enum-told3 .given .1) (c .before .before .as-pair2 .ensures) _ _ (sym e ∙ told-pair (c .before .before .before .before .before .before .before .before .before .before .before .args .nodes .now) (c .before .before .before .before .before .before .before .before .before .before .before .args .a) (c .before .before .before .before .pairs .given .1) (c .before .before .before .before .before .before .as-pair .ensures) .0))
-
-same-same-requires-2 : (t : ℕ) → same-lts.Need-same-requires-2 (
-  as-array-reads.Asked,
-  as-array-reads.Learnt,
-  same-below t,
-  same.Post,
-  as-pair-reads.Asked,
-  as-pair-reads.Learnt,
-  is-number-reads.Asked,
-  is-number-reads.Learnt,
-) (same-at t) same.Post
-same-same-requires-2 t c κs = (omega (arith, c .before .before .before .before .before .before .before .before .before .before .before .before .pre .0, told-pair (c .before .before .before .before .before .before .before .before .before .before .before .before .args .nodes .now) (c .before .before .before .before .before .before .before .before .before .before .before .before .args .a) (c .before .before .before .before .before .pairs .given .1) (c .before .before .before .before .before .before .before .as-pair .ensures) .1), (sound-below (c .before .before .before .before .before .before .before .before .before .before .before .before .pre .1 .0) (omega (arith, told-pair (c .before .before .before .before .before .before .before .before .before .before .before .before .args .nodes .now) (c .before .before .before .before .before .before .before .before .before .before .before .before .args .a) (c .before .before .before .before .before .pairs .given .1) (c .before .before .before .before .before .before .before .as-pair .ensures) .1)), sound-below (c .before .before .before .before .before .before .before .before .before .before .before .before .pre .1 .1) (omega (arith, told-pair (c .before .before .before .before .before .before .before .before .before .before .before .before .args .nodes .now) (c .before .before .before .before .before .before .before .before .before .before .before .before .args .b) (c .before .other2 .given .1) (c .before .before .before .as-pair2 .ensures) .1))))
-
-same-returns-5 : (t : ℕ) → same-lts.Need-returns-5 (
-  as-array-reads.Asked,
-  as-array-reads.Learnt,
-  same-below t,
-  same.Post,
-  as-pair-reads.Asked,
-  as-pair-reads.Learnt,
-  is-number-reads.Asked,
-  is-number-reads.Learnt,
-) (same-at t) same.Post
-same-returns-5 t c = answer-no (firsts-differ (told-pair (c .before .before .before .before .before .before .before .before .before .before .before .before .before .before .args .nodes .now) (c .before .before .before .before .before .before .before .before .before .before .before .before .before .before .args .a) (c .before .before .before .before .before .before .before .pairs .given .1) (c .before .before .before .before .before .before .before .before .before .as-pair .ensures) .0) (told-pair (c .before .before .before .before .before .before .before .before .before .before .before .before .before .before .args .nodes .now) (c .before .before .before .before .before .before .before .before .before .before .before .before .before .before .args .b) (c .before .before .before .other2 .given .1) (c .before .before .before .before .before .as-pair2 .ensures) .0) (c .before .same2 .ensures .1 (not-true _ (c .if2 .taken))))
-
-same-same-requires-3 : (t : ℕ) → same-lts.Need-same-requires-3 (
-  as-array-reads.Asked,
-  as-array-reads.Learnt,
-  same-below t,
-  same.Post,
-  as-pair-reads.Asked,
-  as-pair-reads.Learnt,
-  is-number-reads.Asked,
-  is-number-reads.Learnt,
-) (same-at t) same.Post
-same-same-requires-3 t c κs = (omega (arith, c .before .before .before .before .before .before .before .before .before .before .before .before .before .before .pre .0, told-pair (c .before .before .before .before .before .before .before .before .before .before .before .before .before .before .args .nodes .now) (c .before .before .before .before .before .before .before .before .before .before .before .before .before .before .args .a) (c .before .before .before .before .before .before .before .pairs .given .1) (c .before .before .before .before .before .before .before .before .before .as-pair .ensures) .2), (sound-below (c .before .before .before .before .before .before .before .before .before .before .before .before .before .before .pre .1 .0) (omega (arith, told-pair (c .before .before .before .before .before .before .before .before .before .before .before .before .before .before .args .nodes .now) (c .before .before .before .before .before .before .before .before .before .before .before .before .before .before .args .a) (c .before .before .before .before .before .before .before .pairs .given .1) (c .before .before .before .before .before .before .before .before .before .as-pair .ensures) .2)), sound-below (c .before .before .before .before .before .before .before .before .before .before .before .before .before .before .pre .1 .1) (omega (arith, told-pair (c .before .before .before .before .before .before .before .before .before .before .before .before .before .before .args .nodes .now) (c .before .before .before .before .before .before .before .before .before .before .before .before .before .before .args .b) (c .before .before .before .other2 .given .1) (c .before .before .before .before .before .as-pair2 .ensures) .2))))
-
-same-returns-6 : (t : ℕ) → same-lts.Need-returns-6 (
-  as-array-reads.Asked,
-  as-array-reads.Learnt,
-  same-below t,
-  same.Post,
-  as-pair-reads.Asked,
-  as-pair-reads.Learnt,
-  is-number-reads.Asked,
-  is-number-reads.Learnt,
-) (same-at t) same.Post
-same-returns-6 t c = pairs-same (c .same3 .result) (told-pair (c .before .before .before .before .before .before .before .before .before .before .before .before .before .before .before .args .nodes .now) (c .before .before .before .before .before .before .before .before .before .before .before .before .before .before .before .args .a) (c .before .before .before .before .before .before .before .before .pairs .given .1) (c .before .before .before .before .before .before .before .before .before .before .as-pair .ensures) .0) (told-pair (c .before .before .before .before .before .before .before .before .before .before .before .before .before .before .before .args .nodes .now) (c .before .before .before .before .before .before .before .before .before .before .before .before .before .before .before .args .b) (c .before .before .before .before .other2 .given .1) (c .before .before .before .before .before .before .as-pair2 .ensures) .0) (c .before .before .same2 .ensures .0 (not-false _ (c .before .if2 .left))) (c .same3 .ensures)
-
-same-enum-told-4 : (t : ℕ) → same-lts.Need-enum-told-4 (
-  as-array-reads.Asked,
-  as-array-reads.Learnt,
-  same-below t,
-  same.Post,
-  as-pair-reads.Asked,
-  as-pair-reads.Learnt,
-  is-number-reads.Asked,
-  is-number-reads.Learnt,
-) (same-at t) same.Post
-same-enum-told-4 t c = search needs
-
-same-is-number-requires : (t : ℕ) → same-lts.Need-is-number-requires (
-  as-array-reads.Asked,
-  as-array-reads.Learnt,
-  same-below t,
-  same.Post,
-  as-pair-reads.Asked,
-  as-pair-reads.Learnt,
-  is-number-reads.Asked,
-  is-number-reads.Learnt,
-) (same-at t) same.Post
-same-is-number-requires t c κs = c .before .before .before .before .before .before .before .pre .1 .1
-
-same-returns-7 : (t : ℕ) → same-lts.Need-returns-7 (
-  as-array-reads.Asked,
-  as-array-reads.Learnt,
-  same-below t,
-  same.Post,
-  as-pair-reads.Asked,
-  as-pair-reads.Learnt,
-  is-number-reads.Asked,
-  is-number-reads.Learnt,
-) (same-at t) same.Post
-same-returns-7 t c = numbers-same (c .is-number .result) (neither _ (told-no-array (c .before .before .before .before .before .before .before .before .args .nodes .now) (c .before .before .before .before .before .before .before .before .args .a) (c .before .before .before .before .enum-told2 .given .1) (c .before .before .before .before .before .before .as-array .ensures)) (told-no-pair (c .before .before .before .before .before .before .before .before .args .nodes .now) (c .before .before .before .before .before .before .before .before .args .a) (c .before .enum-told4 .given .1) (c .before .before .before .as-pair .ensures))) (c .is-number .ensures)
-
-pub +same-spec : {M : Type 1} → statement M
-+same-spec = close μ-same λ t. same-lts.spec (
+-- what the callees of `same` ask, and what they promise
+abbrev same-calls : ℕ → same-lts.Claims
+same-calls t = (
   as-array-reads.Asked,
   as-array-reads.Learnt,
   same-below t,
@@ -313,6 +38,199 @@ pub +same-spec : {M : Type 1} → statement M
   is-number-reads.Asked,
   is-number-reads.Learnt,
 )
+
+same-as-array-requires : (t : ℕ) → same-lts.Need-as-array-requires (same-calls t) (same-at t) same.Post
+same-as-array-requires t c κs = c .before .pre .1 .0
+
+same-enum-known-arrays : (t : ℕ) → same-lts.Need-enum-known-arrays (same-calls t) (same-at t) same.Post
+same-enum-known-arrays t c = search needs
+
+same-as-array-requires-2 : (t : ℕ) → same-lts.Need-as-array-requires-2 (same-calls t) (same-at t) same.Post
+same-as-array-requires-2 t c κs = c .before .before .before .before .before .pre .1 .1
+
+same-enum-known-other : (t : ℕ) → same-lts.Need-enum-known-other (same-calls t) (same-at t) same.Post
+same-enum-known-other t c = search needs
+
+same-enum-told : (t : ℕ) → same-lts.Need-enum-told (same-calls t) (same-at t) same.Post
+same-enum-told t c = search needs
+
+same-returns : (t : ℕ) → same-lts.Need-returns (same-calls t) (same-at t) same.Post
+same-returns t c =
+    let entry = c .before .before .before .before .before .before .before .before in
+    let at-as-array = c .before .before .before .before .before .before .as-array in
+    let at-arrays = c .before .before .before .before .arrays in
+    answer-no (λ e. told-no-array (entry .args .nodes .now) (entry .args .b) (c .enum-told .given .1)
+    (c .before .before .as-array2 .ensures) _ _ (sym e ∙ told-array (entry .args .nodes .now) (entry .args .a)
+    (at-arrays .given .1) (at-as-array .ensures) .0))
+
+same-returns-2 : (t : ℕ) → same-lts.Need-returns-2 (same-calls t) (same-at t) same.Post
+same-returns-2 t c =
+    let entry = c .before .before .before .before .before .before .before .before .before .before in
+    let at-as-array = c .before .before .before .before .before .before .before .before .as-array in
+    let at-arrays = c .before .before .before .before .before .before .arrays in
+    let at-as-array2 = c .before .before .before .before .as-array2 in
+    answer-no (arrays-differ (told-array (entry .args .nodes .now) (entry .args .a) (at-arrays .given .1)
+    (at-as-array .ensures) .0) (told-array (entry .args .nodes .now) (entry .args .b)
+    (c .before .before .other .given .1) (at-as-array2 .ensures) .0) (c .if1 .taken))
+
+same-same-requires : (t : ℕ) → same-lts.Need-same-requires (same-calls t) (same-at t) same.Post
+same-same-requires t c κs =
+    let entry = c .before .before .before .before .before .before .before .before .before .before in
+    let at-as-array = c .before .before .before .before .before .before .before .before .as-array in
+    let at-arrays = c .before .before .before .before .before .before .arrays in (
+      omega (
+        arith,
+        entry .pre .0,
+        told-array (entry .args .nodes .now) (entry .args .a) (at-arrays .given .1)
+            (at-as-array .ensures) .1,
+      ),
+      (
+        sound-below (entry .pre .1 .0) (omega (
+          arith,
+          told-array
+              (entry .args .nodes .now) (entry .args .a) (at-arrays .given .1) (at-as-array .ensures) .1,
+        )),
+        sound-below (entry .pre .1 .1) (omega (
+          arith,
+          told-array (entry .args .nodes .now) (entry .args .b)
+              (c .before .before .other .given .1) (c .before .before .before .before .as-array2 .ensures) .1,
+        )),
+      ),
+    )
+
+same-returns-3 : (t : ℕ) → same-lts.Need-returns-3 (same-calls t) (same-at t) same.Post
+same-returns-3 t c =
+    let entry = c .before .before .before .before .before .before .before .before .before .before .before in
+    let at-as-array = c .before .before .before .before .before .before .before .before .before .as-array in
+    let at-arrays = c .before .before .before .before .before .before .before .arrays in
+    let at-as-array2 = c .before .before .before .before .before .as-array2 in
+    arrays-same (c .same .result) (told-array (entry .args .nodes .now) (entry .args .a) (at-arrays .given .1)
+    (at-as-array .ensures) .0) (told-array (entry .args .nodes .now) (entry .args .b)
+    (c .before .before .before .other .given .1) (at-as-array2 .ensures) .0) (c .before .if1 .left)
+    (c .same .ensures)
+
+same-enum-told-2 : (t : ℕ) → same-lts.Need-enum-told-2 (same-calls t) (same-at t) same.Post
+same-enum-told-2 t c = search needs
+
+same-as-pair-requires : (t : ℕ) → same-lts.Need-as-pair-requires (same-calls t) (same-at t) same.Post
+same-as-pair-requires t c κs = c .before .before .before .before .pre .1 .0
+
+same-enum-known-pairs : (t : ℕ) → same-lts.Need-enum-known-pairs (same-calls t) (same-at t) same.Post
+same-enum-known-pairs t c = search needs
+
+same-as-pair-requires-2 : (t : ℕ) → same-lts.Need-as-pair-requires-2 (same-calls t) (same-at t) same.Post
+same-as-pair-requires-2 t c κs = c .before .before .before .before .before .before .before .before .pre .1 .1
+
+same-enum-known-other-2 : (t : ℕ) → same-lts.Need-enum-known-other-2 (same-calls t) (same-at t) same.Post
+same-enum-known-other-2 t c = search needs
+
+same-enum-told-3 : (t : ℕ) → same-lts.Need-enum-told-3 (same-calls t) (same-at t) same.Post
+same-enum-told-3 t c = search needs
+
+same-returns-4 : (t : ℕ) → same-lts.Need-returns-4 (same-calls t) (same-at t) same.Post
+same-returns-4 t c =
+    let entry = c .before .before .before .before .before .before .before .before .before .before .before in
+    let at-as-pair = c .before .before .before .before .before .before .as-pair in
+    let at-pairs = c .before .before .before .before .pairs in
+    answer-no (λ e. told-no-pair (entry .args .nodes .now) (entry .args .b) (c .enum-told3 .given .1)
+    (c .before .before .as-pair2 .ensures) _ _ (sym e ∙ told-pair (entry .args .nodes .now) (entry .args .a)
+    (at-pairs .given .1) (at-as-pair .ensures) .0))
+
+same-same-requires-2 : (t : ℕ) → same-lts.Need-same-requires-2 (same-calls t) (same-at t) same.Post
+same-same-requires-2 t c κs =
+    let entry = c .before .before .before .before .before .before .before .before .before .before .before .before in
+    let at-as-pair = c .before .before .before .before .before .before .before .as-pair in
+    let at-pairs = c .before .before .before .before .before .pairs in (
+      omega (
+        arith,
+        entry .pre .0,
+        told-pair (entry .args .nodes .now) (entry .args .a) (at-pairs .given .1)
+            (at-as-pair .ensures) .1,
+      ),
+      (
+        sound-below (entry .pre .1 .0) (omega (
+          arith,
+          told-pair
+              (entry .args .nodes .now) (entry .args .a) (at-pairs .given .1) (at-as-pair .ensures) .1,
+        )),
+        sound-below (entry .pre .1 .1) (omega (
+          arith,
+          told-pair (entry .args .nodes .now) (entry .args .b)
+              (c .before .other2 .given .1) (c .before .before .before .as-pair2 .ensures) .1,
+        )),
+      ),
+    )
+
+same-returns-5 : (t : ℕ) → same-lts.Need-returns-5 (same-calls t) (same-at t) same.Post
+same-returns-5 t c =
+    let entry = c .before .before .before .before .before .before .before .before .before .before .before
+    .before .before .before in
+    let at-as-pair = c .before .before .before .before .before .before .before .before .before .as-pair in
+    let at-pairs = c .before .before .before .before .before .before .before .pairs in
+    let at-as-pair2 = c .before .before .before .before .before .as-pair2 in
+    answer-no (firsts-differ (told-pair (entry .args .nodes .now) (entry .args .a) (at-pairs .given .1)
+    (at-as-pair .ensures) .0) (told-pair (entry .args .nodes .now) (entry .args .b)
+    (c .before .before .before .other2 .given .1) (at-as-pair2 .ensures) .0)
+    (c .before .same2 .ensures .1 (not-true _ (c .if2 .taken))))
+
+same-same-requires-3 : (t : ℕ) → same-lts.Need-same-requires-3 (same-calls t) (same-at t) same.Post
+same-same-requires-3 t c κs =
+    let entry = c .before .before .before .before .before .before .before .before .before .before .before
+    .before .before .before in
+    let at-as-pair = c .before .before .before .before .before .before .before .before .before .as-pair in
+    let at-pairs = c .before .before .before .before .before .before .before .pairs in (
+      omega (
+        arith,
+        entry .pre .0,
+        told-pair (entry .args .nodes .now) (entry .args .a) (at-pairs .given .1)
+            (at-as-pair .ensures) .2,
+      ),
+      (
+        sound-below (entry .pre .1 .0) (omega (
+          arith,
+          told-pair
+              (entry .args .nodes .now) (entry .args .a) (at-pairs .given .1) (at-as-pair .ensures) .2,
+        )),
+        sound-below (entry .pre .1 .1) (omega (
+          arith,
+          told-pair (entry .args .nodes .now) (entry .args .b)
+              (c .before .before .before .other2 .given .1)
+              (c .before .before .before .before .before .as-pair2 .ensures) .2,
+        )),
+      ),
+    )
+
+same-returns-6 : (t : ℕ) → same-lts.Need-returns-6 (same-calls t) (same-at t) same.Post
+same-returns-6 t c =
+    let entry = c .before .before .before .before .before .before .before .before .before .before .before
+    .before .before .before .before in
+    let at-as-pair = c .before .before .before .before .before .before .before .before .before .before .as-pair in
+    let at-pairs = c .before .before .before .before .before .before .before .before .pairs in
+    let at-as-pair2 = c .before .before .before .before .before .before .as-pair2 in
+    let at-other2 = c .before .before .before .before .other2 in
+    pairs-same (c .same3 .result) (told-pair (entry .args .nodes .now) (entry .args .a) (at-pairs .given .1)
+    (at-as-pair .ensures) .0) (told-pair (entry .args .nodes .now) (entry .args .b) (at-other2 .given .1)
+    (at-as-pair2 .ensures) .0) (c .before .before .same2 .ensures .0 (not-false _ (c .before .if2 .left)))
+    (c .same3 .ensures)
+
+same-enum-told-4 : (t : ℕ) → same-lts.Need-enum-told-4 (same-calls t) (same-at t) same.Post
+same-enum-told-4 t c = search needs
+
+same-is-number-requires : (t : ℕ) → same-lts.Need-is-number-requires (same-calls t) (same-at t) same.Post
+same-is-number-requires t c κs = c .before .before .before .before .before .before .before .pre .1 .1
+
+same-returns-7 : (t : ℕ) → same-lts.Need-returns-7 (same-calls t) (same-at t) same.Post
+same-returns-7 t c =
+    let entry = c .before .before .before .before .before .before .before .before in
+    let at-as-array = c .before .before .before .before .before .before .as-array in
+    let at-enum-told2 = c .before .before .before .before .enum-told2 in
+    numbers-same (c .is-number .result) (neither _ (told-no-array (entry .args .nodes .now) (entry .args .a)
+    (at-enum-told2 .given .1) (at-as-array .ensures)) (told-no-pair (entry .args .nodes .now)
+    (entry .args .a) (c .before .enum-told4 .given .1) (c .before .before .before .as-pair .ensures)))
+    (c .is-number .ensures)
+
+pub +same-spec : {M : Type 1} → statement M
++same-spec = close μ-same λ t. same-lts.spec (same-calls t)
     (same-at t)
     same.Post
     (same-as-array-requires t)

@@ -15,7 +15,10 @@ kind-in-requires : tie.Need-kind-in-requires
 kind-in-requires c κs = search needs
 
 returns : tie.Need-returns
-returns c = no-pair (c .before .before .before .before .args .nodes .now) (c .before .before .before .before .args .place) (c .before .before .before .before .pre) (omega (arith, c .before .kind-in .ensures, c .if1 .taken))
+returns c =
+    let entry = c .before .before .before .before in
+    no-pair (entry .args .nodes .now) (entry .args .place) (entry .pre)
+    (omega (arith, c .before .kind-in .ensures, c .if1 .taken))
 
 left-in-requires : tie.Need-left-in-requires
 left-in-requires c κs = search needs
@@ -24,7 +27,10 @@ right-in-requires : tie.Need-right-in-requires
 right-in-requires c κs = search needs
 
 returns-2 : tie.Need-returns-2
-returns-2 c = rw (c .before .left-in .ensures, c .right-in .ensures) (its-pair (c .before .before .before .before .before .before .args .nodes .now) (c .before .before .before .before .before .before .args .place) (c .before .before .before .before .before .before .pre) (omega (arith, c .before .before .before .kind-in .ensures, c .before .before .if1 .left)))
+returns-2 c =
+    let entry = c .before .before .before .before .before .before in
+    rw (c .before .left-in .ensures, c .right-in .ensures) (its-pair (entry .args .nodes .now) (entry .args .place)
+    (entry .pre) (omega (arith, c .before .before .before .kind-in .ensures, c .before .before .if1 .left)))
 
 pub as-pair-spec : {M : Type 1} → statement M
 as-pair-spec =

@@ -16,7 +16,13 @@ kind-in-requires : tie.Need-kind-in-requires
 kind-in-requires c κs = search needs
 
 returns : tie.Need-returns
-returns c = ((λ e. its-number (c .before .before .before .args .nodes .now) (c .before .before .before .args .place) (c .before .before .before .pre) (sym (c .kind-in .ensures) ∙ eqb-true _ _ e)), (λ e. no-number (c .before .before .before .args .nodes .now) (c .before .before .before .args .place) (c .before .before .before .pre) (λ k. eqb-false _ _ e (c .kind-in .ensures ∙ k))))
+returns c =
+    let entry = c .before .before .before in (
+      (λ e. its-number (entry .args .nodes .now) (entry .args .place) (entry .pre)
+          (sym (c .kind-in .ensures) ∙ eqb-true _ _ e)),
+      (λ e. no-number (entry .args .nodes .now)
+          (entry .args .place) (entry .pre) (λ k. eqb-false _ _ e (c .kind-in .ensures ∙ k))),
+    )
 
 pub is-number-spec : {M : Type 1} → statement M
 is-number-spec =

@@ -22,7 +22,21 @@ array-cells-requires : tie.Need-array-cells-requires
 array-cells-requires c κs = rw (c .cells .ensures) (c .before .before .before .before .before .pre .5)
 
 node-requires : tie.Need-node-requires
-node-requires c κs = (search needs, omega (arith, c .before .before .before .levels .ensures), rw (c .array-cells .ensures, c .before .cells .ensures) (omega (arith, c .before .before .before .before .before .before .pre .5)), omega (arith, c .before .before .before .before .before .before .pre .5, length-within (c .before .before .before .before .before .before .args .count) (typeAt (c .before .before .before .before .before .before .args .nodes .now) (c .before .before .before .before .before .before .args .element)) (c .before .before .before .before .before .before .pre .0 .each (c .before .before .before .before .before .before .args .element) (c .before .before .before .before .before .before .pre .3) .within .0)), omega (arith, (c .before .before .before .before .before .before .pre)))
+node-requires c κs =
+    let entry = c .before .before .before .before .before .before in (
+      search needs,
+      omega (arith, c .before .before .before .levels .ensures),
+      rw
+          (c .array-cells .ensures, c .before .cells .ensures) (omega (arith, entry .pre .5)),
+      omega (
+        arith,
+        entry .pre .5,
+        length-within (entry .args .count)
+            (typeAt (entry .args .nodes .now) (entry .args .element)) (entry .pre .0 .each (entry .args .element)
+            (entry .pre .3) .within .0),
+      ),
+      omega (arith, (entry .pre)),
+    )
 
 mul-nodes : tie.Need-mul-nodes
 mul-nodes c = search needs
@@ -34,7 +48,13 @@ same-length : tie.Need-same-length
 same-length c = search needs
 
 returns : tie.Need-returns
-returns c = rw (c .node .ensures) (array-put (c .before .before .before .before .before .before .before .args .nodes .now) (c .before .before .before .before .before .before .before .args .len) (c .before .before .before .before .before .before .before .pre .0) (c .before .before .before .before .before .before .before .pre .1) (c .before .before .before .before .before .before .before .pre .2) (c .before .before .before .before .before .before .before .args .count) (c .before .before .before .before .before .before .before .args .element) _ _ (c .before .before .before .before .before .before .before .pre .3) (c .before .before .before .before .before .before .before .pre .4) (c .before .before .before .before .before .before .before .pre .5) (c .before .before .before .before .before .before .before .pre .6) (ap (λ (n : ℕ). 1 + n) (c .before .before .before .before .levels .ensures)) (c .before .array-cells .ensures ∙ ap (λ (n : ℕ). c .before .before .before .before .before .before .before .args .count * n) (c .before .before .cells .ensures)))
+returns c =
+    let entry = c .before .before .before .before .before .before .before in
+    rw (c .node .ensures) (array-put (entry .args .nodes .now) (entry .args .len) (entry .pre .0) (entry .pre .1)
+    (entry .pre .2) (entry .args .count) (entry .args .element) _ _ (entry .pre .3) (entry .pre .4)
+    (entry .pre .5) (entry .pre .6) (ap (λ (n : ℕ). 1 + n) (c .before .before .before .before .levels .ensures))
+    (c .before .array-cells .ensures ∙ ap (λ (n : ℕ). entry .args .count * n)
+    (c .before .before .cells .ensures)))
 
 pub put-array-spec : {M : Type 1} → statement M
 put-array-spec =

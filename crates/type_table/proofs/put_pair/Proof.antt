@@ -18,7 +18,13 @@ greater-requires : tie.Need-greater-requires
 greater-requires c κs = search needs
 
 add-levels : tie.Need-add-levels
-add-levels c = omega (arith, c .greater .ensures, c .before .before .before .levels .ensures, c .before .levels2 .ensures, c .before .before .before .before .before .before .pre .6)
+add-levels c = omega (
+  arith,
+  c .greater .ensures,
+  c .before .before .before .levels .ensures,
+  c .before .levels2 .ensures,
+  c .before .before .before .before .before .before .pre .6,
+)
 
 cells-requires : tie.Need-cells-requires
 cells-requires c κs = sound-below (c .before .before .before .before .before .before .before .pre .0) (omega arith)
@@ -27,10 +33,33 @@ cells-requires-2 : tie.Need-cells-requires-2
 cells-requires-2 c κs = sound-below (c .before .before .before .before .before .before .before .before .before .pre .0) (omega arith)
 
 add-cells : tie.Need-add-cells
-add-cells c = omega (arith, c .before .before .cells .ensures, c .cells2 .ensures, c .before .before .before .before .before .before .before .before .before .before .pre .5)
+add-cells c = omega (
+  arith,
+  c .before .before .cells .ensures,
+  c .cells2 .ensures,
+  c .before .before .before .before .before .before .before .before .before .before .pre .5,
+)
 
 node-requires : tie.Need-node-requires
-node-requires c κs = (search needs, omega (arith, c .before .before .before .before .greater .ensures, c .before .before .before .before .before .before .before .levels .ensures, c .before .before .before .before .before .levels2 .ensures, c .before .before .before .before .before .before .before .before .before .before .pre .6), omega (arith, c .before .before .cells .ensures, c .cells2 .ensures, c .before .before .before .before .before .before .before .before .before .before .pre .5), omega (arith, (c .before .before .before .before .before .before .before .before .before .before .pre)), omega (arith, (c .before .before .before .before .before .before .before .before .before .before .pre)))
+node-requires c κs =
+    let entry = c .before .before .before .before .before .before .before .before .before .before in (
+      search needs,
+      omega (
+        arith,
+        c .before .before .before .before .greater .ensures,
+        c .before .before .before .before .before .before .before .levels .ensures,
+        c .before .before .before .before .before .levels2 .ensures,
+        entry .pre .6,
+      ),
+      omega (
+        arith,
+        c .before .before .cells .ensures,
+        c .cells2 .ensures,
+        entry .pre .5,
+      ),
+      omega (arith, (entry .pre)),
+      omega (arith, (entry .pre)),
+    )
 
 mul-nodes : tie.Need-mul-nodes
 mul-nodes c = search needs
@@ -42,7 +71,15 @@ same-length : tie.Need-same-length
 same-length c = search needs
 
 returns : tie.Need-returns
-returns c = rw (c .node .ensures) (pair-put (c .before .before .before .before .before .before .before .before .before .before .before .args .nodes .now) (c .before .before .before .before .before .before .before .before .before .before .before .args .len) (c .before .before .before .before .before .before .before .before .before .before .before .pre .0) (c .before .before .before .before .before .before .before .before .before .before .before .pre .1) (c .before .before .before .before .before .before .before .before .before .before .before .pre .2) (c .before .before .before .before .before .before .before .before .before .before .before .args .first) (c .before .before .before .before .before .before .before .before .before .before .before .args .second) _ _ (c .before .before .before .before .before .before .before .before .before .before .before .pre .3) (c .before .before .before .before .before .before .before .before .before .before .before .pre .4) (c .before .before .before .before .before .before .before .before .before .before .before .pre .5) (c .before .before .before .before .before .before .before .before .before .before .before .pre .6) (ap (λ (n : ℕ). 1 + n) (c .before .before .before .before .before .greater .ensures ∙ ap₂ max (c .before .before .before .before .before .before .before .before .levels .ensures) (c .before .before .before .before .before .before .levels2 .ensures))) (ap₂ (λ (m n : ℕ). m + n) (c .before .before .before .cells .ensures) (c .before .cells2 .ensures)))
+returns c =
+    let entry = c .before .before .before .before .before .before .before .before .before .before .before in
+    rw (c .node .ensures) (pair-put (entry .args .nodes .now) (entry .args .len) (entry .pre .0) (entry .pre .1)
+    (entry .pre .2) (entry .args .first) (entry .args .second) _ _ (entry .pre .3) (entry .pre .4)
+    (entry .pre .5) (entry .pre .6) (ap (λ (n : ℕ). 1 + n)
+    (c .before .before .before .before .before .greater .ensures ∙ ap₂ max
+    (c .before .before .before .before .before .before .before .before .levels .ensures)
+    (c .before .before .before .before .before .before .levels2 .ensures))) (ap₂ (λ (m n : ℕ). m + n)
+    (c .before .before .before .cells .ensures) (c .before .cells2 .ensures)))
 
 pub put-pair-spec : {M : Type 1} → statement M
 put-pair-spec =

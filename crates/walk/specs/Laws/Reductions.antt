@@ -131,7 +131,8 @@ module _ (Y : List ℕ) (N : List ℤ) (I Γ : List DataType) (Δ : List Express
   reduction-body a ea h =
       stands-round ks ns C Y N T s I Γ Δ e S (reduction .count) a ea (array .rows) (A .passed) totalUsed (Expression.index arrayUsed (Offset.counter (s .counters))) X s₂
       (variables-two Y N T X s s₂ Δ (S .variables) inside (omega (arith, A .more, G .len, B .more, H .round .len)) (start .len + 1) (start .len)
-      (Expression.index arrayUsed (Offset.counter (s .counters))) totalUsed h (omega (arith, H .round .len)) (omega (arith, H .round .len)) its-element its-total (H .round .variables) (H .round .count))
+      (Expression.index arrayUsed (Offset.counter (s .counters))) totalUsed h (omega (arith, H .round .len))
+      (omega (arith, H .round .len)) its-element its-total (H .round .variables) (H .round .count))
 
   module _ (Z Q K₂ K₃ K₄ : List ℕ) (M₂ M₃ M₄ : List ℤ) (a n m : ℕ) (body r : Walked) where
     pub used-reduce : a ≡ length (termRows (firstOperand e)) → n ≡ arrayLength (typeAt Y (getD C (1 + a) 0)) → m ≡ 1 + a + array .rows

@@ -49,14 +49,17 @@ enum-told c = search needs
 
 returns-2 : tie.Need-returns-2
 returns-2 c =
-    let a = c .before .before .before .before .before .before .before .before .before .before .before .args in
-    let natural = c .before .before .before .before .natural in
+    let at-args = c .before .before .before .before .before .before .before .before .before .before .before .args in
+    let at-natural-arg = c .before .before .before .before .before .natural-arg in
+    let at-natural = c .before .before .before .before .natural in
+    let a = at-args in
+    let natural = at-natural in
     let place-cells = c .before .before .before .place-cells in
     let reading = c .before .before .reading in (
       reading .ensures .0,
       sets.place-fails (a .kinds .now) (a .numbers .now) (a .counters .now) (a .regions .now)
-          (cellsOf (a .inputs .now)) (a .output) (a .line) _ (natural .result) (place-cells .result) refl
-          (natural-of (getD (a .numbers .now) 0 (pos 0)) (record { sfits = c .before .before .before .before .before .natural-arg .given }) (natural .ensures .0))
+          (cellsOf (a .inputs .now)) (a .output) (a .line) _ (natural .result) (place-cells .result) refl (natural-of
+          (getD (a .numbers .now) 0 (pos 0)) (record { sfits = at-natural-arg .given }) (natural .ensures .0))
           (place-cells .ensures .0) (place-cells .ensures .1) (reading .result) (reading .ensures .1) _
           (c .enum-told .given .1),
     )
@@ -80,12 +83,16 @@ part-value-end c = search needs
 
 mul-value : tie.Need-mul-value
 mul-value c =
-    let h : c .before .before .placed .given .0 .0 ≤ length
-    (c .before .before .before .before .before .before .before .before .before .before .before .before .before .args .kinds .now)
-    = omega
-    (arith, ap passed (c .before .before .placed .given .1), c .before .before .before .before .reading .ensures .0) in
-    record
-    { fits = omega (arith, c .before .before .before .before .before .before .before .before .before .before .before .before .before .good .1 .0 .1, c .before .before .before .before .before .before .before .before .before .before .before .before .before .pre .0) }
+    let entry = c .before .before .before .before .before .before .before .before .before .before .before
+    .before .before in
+    let at-placed = c .before .before .placed in
+    let h : at-placed .given .0 .0 ≤ length (entry .args .kinds .now) = omega (
+      arith,
+      ap passed
+          (at-placed .given .1),
+      c .before .before .before .before .reading .ensures .0,
+    ) in
+    record { fits = omega (arith, entry .good .1 .0 .1, entry .pre .0) }
 
 sub-value-2 : tie.Need-sub-value-2
 sub-value-2 c =
@@ -119,16 +126,31 @@ add-value c =
 
 value-requires : tie.Need-value-requires
 value-requires c κs =
-    let a = c .before .before .before .before .before .before .before .before .before .before .before .before .before .before .args in
-    let pre = c .before .before .before .before .before .before .before .before .before .before .before .before .before .before .pre in
-    let placed = c .before .before .before .placed in
-    let h : c .before .before .before .placed .given .0 .0 ≤ length
-    (c .before .before .before .before .before .before .before .before .before .before .before .before .before .before .args .kinds .now)
-    = omega (arith, ap passed (placed .given .1), c .before .before .before .before .before .reading .ensures .0) in (
-      omega
-          (arith, pre .0, table.part-length (placed .given .0 .0) (a .kinds .now), table.part-length (placed .given .0 .0) (a .numbers .now)),
-      omega
-          (arith, pre .1, table.part-length (placed .given .0 .0) (a .kinds .now), table.part-length (placed .given .0 .0) (a .numbers .now)),
+    let entry = c .before .before .before .before .before .before .before .before .before .before .before
+    .before .before .before in
+    let at-placed = c .before .before .before .placed in
+    let a = entry .args in
+    let pre = entry .pre in
+    let placed = at-placed in
+    let h : at-placed .given .0 .0 ≤ length (entry .args .kinds .now) = omega (
+      arith,
+      ap passed (placed .given .1),
+      c .before .before .before .before .before .reading .ensures .0,
+    ) in (
+      omega (
+        arith,
+        pre .0,
+        table.part-length (placed .given .0 .0) (a .kinds .now),
+        table.part-length
+            (placed .given .0 .0) (a .numbers .now),
+      ),
+      omega (
+        arith,
+        pre .1,
+        table.part-length (placed .given .0 .0)
+            (a .kinds .now),
+        table.part-length (placed .given .0 .0) (a .numbers .now),
+      ),
     )
 
 enum-known-valued : tie.Need-enum-known-valued
@@ -139,50 +161,86 @@ enum-told-2 c = search needs
 
 returns-3 : tie.Need-returns-3
 returns-3 c =
-    let a = c .before .before .before .before .before .before .before .before .before .before .before .before .before .before .before .before .before .args in
+    let a = c .before .before .before .before .before .before .before .before .before .before .before
+    .before .before .before .before .before .before .args in
     let natural = c .before .before .before .before .before .before .before .before .before .before .natural in
     let place-cells = c .before .before .before .before .before .before .before .before .before .place-cells in
     let reading = c .before .before .before .before .before .before .before .before .reading in
     let placed = c .before .before .before .before .before .before .placed in
     let value = c .before .before .value in (
-      omega
-          (arith, value .ensures .0, table.part-length (placed .given .0 .0) (a .kinds .now), table.part-length (placed .given .0 .0) (a .numbers .now)),
-      sets.value-fails (a .kinds .now) (a .numbers .now) (a .counters .now) (a .regions .now)
-          (cellsOf (a .inputs .now)) (a .output) (a .line) _ (natural .result) (place-cells .result) refl
-          (natural-of (getD (a .numbers .now) 0 (pos 0)) (record { sfits = c .before .before .before .before .before .before .before .before .before .before .before .natural-arg .given }) (natural .ensures .0))
-          (place-cells .ensures .0) (place-cells .ensures .1) (reading .result) (reading .ensures .1) (placed .given .0 .0)
-          (placed .given .1) (value .result) (value .ensures .1) _ (c .enum-told2 .given .1),
+      omega (
+        arith,
+        value .ensures .0,
+        table.part-length (placed .given .0 .0) (a .kinds .now),
+        table.part-length
+            (placed .given .0 .0) (a .numbers .now),
+      ),
+      sets.value-fails (a .kinds .now) (a .numbers .now)
+          (a .counters .now) (a .regions .now) (cellsOf (a .inputs .now)) (a .output) (a .line) _ (natural .result)
+          (place-cells .result) refl (natural-of (getD (a .numbers .now) 0 (pos 0)) (record {
+            sfits =
+                c .before .before .before .before .before .before .before .before .before .before .before
+                .natural-arg .given;
+          }) (natural .ensures .0)) (place-cells .ensures .0) (place-cells .ensures .1)
+          (reading .result) (reading .ensures .1) (placed .given .0 .0) (placed .given .1) (value .result)
+          (value .ensures .1) _ (c .enum-told2 .given .1),
     )
 
 add-t14 : tie.Need-add-t14
 add-t14 c =
-    let a = c .before .before .before .before .before .before .before .before .before .before .before .before .before .before .before .before .before .before .args in
-    let placed = c .before .before .before .before .before .before .before .placed in
-    let h : c .before .before .before .before .before .before .before .placed .given .0 .0 ≤ length
-    (c .before .before .before .before .before .before .before .before .before .before .before .before .before .before .before .before .before .before .args .kinds .now)
-    = omega
-    (arith, ap passed (placed .given .1), c .before .before .before .before .before .before .before .before .before .reading .ensures .0)
-    in
-    record
-    { fits = omega (arith, ap passed (c .before .valued .given .1), c .before .before .before .value .ensures .0, table.part-length (placed .given .0 .0) (a .kinds .now), table.part-length (placed .given .0 .0) (a .numbers .now), c .before .before .before .before .before .before .before .before .before .before .before .before .before .before .before .before .before .before .pre .1) }
+    let entry = c .before .before .before .before .before .before .before .before .before .before .before
+    .before .before .before .before .before .before .before in
+    let at-placed = c .before .before .before .before .before .before .before .placed in
+    let a = entry .args in
+    let placed = at-placed in
+    let h : at-placed .given .0 .0 ≤ length (entry .args .kinds .now) = omega (
+      arith,
+      ap passed (placed .given .1),
+      c .before .before .before .before .before .before .before .before .before .reading .ensures .0,
+    ) in
+    record {
+      fits = omega (
+        arith,
+        ap passed (c .before .valued .given .1),
+        c .before .before .before .value .ensures .0,
+        table.part-length (placed .given .0 .0) (a .kinds .now),
+        table.part-length (placed .given .0 .0) (a .numbers .now),
+        entry .pre .1,
+      );
+    }
 
 returns-4 : tie.Need-returns-4
 returns-4 c =
-    let a = c .before .before .before .before .before .before .before .before .before .before .before .before .before .before .before .before .before .before .args in
-    let natural = c .before .before .before .before .before .before .before .before .before .before .before .natural in
-    let place-cells = c .before .before .before .before .before .before .before .before .before .before .place-cells in
+    let a = c .before .before .before .before .before .before .before .before .before .before .before
+    .before .before .before .before .before .before .before .args in
+    let natural = c .before .before .before .before .before .before .before .before .before .before .before .natural
+    in
+    let place-cells = c .before .before .before .before .before .before .before .before .before .before .place-cells
+    in
     let reading = c .before .before .before .before .before .before .before .before .before .reading in
     let placed = c .before .before .before .before .before .before .before .placed in
     let value = c .before .before .before .value in
     let valued = c .before .valued in (
       let h : placed .given .0 .0 ≤ length (a .kinds .now) = omega
-          (arith, ap passed (placed .given .1), reading .ensures .0) in omega
-          (arith, ap passed (valued .given .1), value .ensures .0, table.part-length (placed .given .0 .0) (a .kinds .now), table.part-length (placed .given .0 .0) (a .numbers .now)),
-      sets.set-both (a .kinds .now) (a .numbers .now) (a .counters .now) (a .regions .now)
-          (cellsOf (a .inputs .now)) (a .output) (a .line) _ (natural .result) (place-cells .result) refl
-          (natural-of (getD (a .numbers .now) 0 (pos 0)) (record { sfits = c .before .before .before .before .before .before .before .before .before .before .before .before .natural-arg .given }) (natural .ensures .0))
-          (place-cells .ensures .0) (place-cells .ensures .1) (reading .result) (reading .ensures .1) (placed .given .0 .0)
-          (placed .given .1) (value .result) (value .ensures .1) (valued .given .0 .0) (valued .given .1),
+          (arith, ap passed (placed .given .1), reading .ensures .0) in
+          omega (
+            arith,
+            ap passed (valued .given .1),
+            value .ensures .0,
+            table.part-length (placed .given .0 .0)
+                (a .kinds .now),
+            table.part-length (placed .given .0 .0) (a .numbers .now),
+          ),
+      sets.set-both
+          (a .kinds .now) (a .numbers .now) (a .counters .now) (a .regions .now) (cellsOf (a .inputs .now))
+          (a .output) (a .line) _ (natural .result) (place-cells .result) refl (natural-of
+          (getD (a .numbers .now) 0 (pos 0)) (record {
+            sfits =
+                c .before .before .before .before .before .before .before .before .before .before .before
+                .before .natural-arg .given;
+          }) (natural .ensures .0)) (place-cells .ensures .0) (place-cells .ensures .1)
+          (reading .result) (reading .ensures .1) (placed .given .0 .0) (placed .given .1) (value .result)
+          (value .ensures .1) (valued .given .0 .0) (valued .given .1),
     )
 
 pub assignment-spec : {M : Type 1} → statement M

@@ -50,13 +50,13 @@ add-t8 c = search needs
 
 returns-3 : tie.Need-returns-3
 returns-3 c =
-    let a = c .before .before .before .before .before .before .before .before .before .before .args in
+    let entry = c .before .before .before .before .before .before .before .before .before .before in
+    let a = entry .args in
     let largest = c .before .before .before .before .before .largest in (
-      omega
-          (arith, largest .ensures .0 .0, table.part-length 1 (a .kinds .now), c .before .before .before .before .before .before .before .before .before .before .pre .1),
-      readings.within-yes (a .kinds .now) (a .numbers .now) (a .counters .now) (a .cells) (a .line)
-          (largest .result .value) (largest .result .rows) (largest .ensures .1) (c .before .before .before .if1 .left)
-          (c .before .if2 .left),
+      omega (arith, largest .ensures .0 .0, table.part-length 1 (a .kinds .now), entry .pre .1),
+      readings.within-yes
+          (a .kinds .now) (a .numbers .now) (a .counters .now) (a .cells) (a .line) (largest .result .value)
+          (largest .result .rows) (largest .ensures .1) (c .before .before .before .if1 .left) (c .before .if2 .left),
     )
 
 pub reading-spec : {M : Type 1} → statement M

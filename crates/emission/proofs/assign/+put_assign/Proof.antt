@@ -4,7 +4,8 @@ use borrow.Author.Needs.{needs}
 use Prim.Native.Nat.{ℕ, _<_, _+_}
 use borrow.Fn.Kinds.{In}
 use borrow.Fn.PlainCycle.{Measures, is, falls, and}
-use Rattle.emission.specs.Laws.Assign.{both-grown, array-levels, pair-levels, few-elements, assign-number, assign-array, assign-pair, pair-grown}
+use Rattle.emission.specs.Laws.Assign.{both-grown, array-levels, pair-levels, few-elements, assign-number, assign-array, assign-pair}
+use Rattle.emission.specs.Laws.Assign.{pair-grown}
 use Rattle.emission.specs.Laws.Offsets.{is-number}
 use Rattle.emission.specs.Laws.Growth.{grown-none, grown-more}
 use Rattle.emission.specs.Laws.Table.{put-none-past}
@@ -31,440 +32,9 @@ abbrev put-assign-below : ℕ → In 5 put-assign-kinds.ps
 put-assign-below t =
     and 5 put-assign-kinds.ps (falls 5 put-assign-kinds.ps _<_ μ-put-assign t) put-assign.Pre
 
-put-assign-returns : (t : ℕ) → put-assign-lts.Need-returns (
-  as-array-reads.Asked,
-  as-array-reads.Learnt,
-  put-count-reads.Asked,
-  put-count-reads.Learnt,
-  push-both-reads.Asked,
-  push-both-reads.Learnt,
-  put-assign-below t,
-  put-assign.Post,
-  as-pair-reads.Asked,
-  as-pair-reads.Learnt,
-  put-set-reads.Asked,
-  put-set-reads.Learnt,
-) (put-assign-at t) put-assign.Post
-put-assign-returns t c = (put-none-past _ _ _ _ (omega arith), grown-none _ _ (c .before .before .pre .1 .6))
-
-put-assign-as-array-requires : (t : ℕ) → put-assign-lts.Need-as-array-requires (
-  as-array-reads.Asked,
-  as-array-reads.Learnt,
-  put-count-reads.Asked,
-  put-count-reads.Learnt,
-  push-both-reads.Asked,
-  push-both-reads.Learnt,
-  put-assign-below t,
-  put-assign.Post,
-  as-pair-reads.Asked,
-  as-pair-reads.Learnt,
-  put-set-reads.Asked,
-  put-set-reads.Learnt,
-) (put-assign-at t) put-assign.Post
-put-assign-as-array-requires t c κs = sound-below (c .before .before .pre .1 .0) (omega (arith, c .before .before .pre .1 .1))
-
-put-assign-enum-known-array : (t : ℕ) → put-assign-lts.Need-enum-known-array (
-  as-array-reads.Asked,
-  as-array-reads.Learnt,
-  put-count-reads.Asked,
-  put-count-reads.Learnt,
-  push-both-reads.Asked,
-  push-both-reads.Learnt,
-  put-assign-below t,
-  put-assign.Post,
-  as-pair-reads.Asked,
-  as-pair-reads.Learnt,
-  put-set-reads.Asked,
-  put-set-reads.Learnt,
-) (put-assign-at t) put-assign.Post
-put-assign-enum-known-array t c = search needs
-
-put-assign-cast-put-count : (t : ℕ) → put-assign-lts.Need-cast-put-count (
-  as-array-reads.Asked,
-  as-array-reads.Learnt,
-  put-count-reads.Asked,
-  put-count-reads.Learnt,
-  push-both-reads.Asked,
-  push-both-reads.Learnt,
-  put-assign-below t,
-  put-assign.Post,
-  as-pair-reads.Asked,
-  as-pair-reads.Learnt,
-  put-set-reads.Asked,
-  put-set-reads.Learnt,
-) (put-assign-at t) put-assign.Post
-put-assign-cast-put-count t c = let told = told-array (c .before .before .before .before .before .before .before .before .args .types .now) (c .before .before .before .before .before .before .before .before .args .place) (c .before .before .before .array .given .1) (c .before .before .before .before .before .as-array .ensures) in omega (arith, few-elements (c .before .before .before .before .before .before .before .before .args .types .now) (c .before .before .before .before .before .before .before .before .args .place) _ _ (sound-below (c .before .before .before .before .before .before .before .before .pre .1 .0) (omega (arith, c .before .before .before .before .before .before .before .before .pre .1 .1))) (told .0))
-
-put-assign-put-count-requires : (t : ℕ) → put-assign-lts.Need-put-count-requires (
-  as-array-reads.Asked,
-  as-array-reads.Learnt,
-  put-count-reads.Asked,
-  put-count-reads.Learnt,
-  push-both-reads.Asked,
-  push-both-reads.Learnt,
-  put-assign-below t,
-  put-assign.Post,
-  as-pair-reads.Asked,
-  as-pair-reads.Learnt,
-  put-set-reads.Asked,
-  put-set-reads.Learnt,
-) (put-assign-at t) put-assign.Post
-put-assign-put-count-requires t c κs = search needs
-
-put-assign-push-both-requires : (t : ℕ) → put-assign-lts.Need-push-both-requires (
-  as-array-reads.Asked,
-  as-array-reads.Learnt,
-  put-count-reads.Asked,
-  put-count-reads.Learnt,
-  push-both-reads.Asked,
-  push-both-reads.Learnt,
-  put-assign-below t,
-  put-assign.Post,
-  as-pair-reads.Asked,
-  as-pair-reads.Learnt,
-  put-set-reads.Asked,
-  put-set-reads.Learnt,
-) (put-assign-at t) put-assign.Post
-put-assign-push-both-requires t c κs = let told = told-array (c .before .before .before .before .before .before .before .before .before .before .args .types .now) (c .before .before .before .before .before .before .before .before .before .before .args .place) (c .before .before .before .before .before .array .given .1) (c .before .before .before .before .before .before .before .as-array .ensures) in let l = array-levels _ _ _ (told .0) in (omega (arith, l, c .before .before .before .before .before .before .before .before .before .before .pre .1 .4), c .before .before .before .before .before .before .before .before .before .before .pre .1 .2, c .before .before .before .before .before .before .before .before .before .before .pre .1 .3, c .before .before .before .before .before .before .before .before .before .before .pre .1 .6)
-
-put-assign-add-put-assign : (t : ℕ) → put-assign-lts.Need-add-put-assign (
-  as-array-reads.Asked,
-  as-array-reads.Learnt,
-  put-count-reads.Asked,
-  put-count-reads.Learnt,
-  push-both-reads.Asked,
-  push-both-reads.Learnt,
-  put-assign-below t,
-  put-assign.Post,
-  as-pair-reads.Asked,
-  as-pair-reads.Learnt,
-  put-set-reads.Asked,
-  put-set-reads.Learnt,
-) (put-assign-at t) put-assign.Post
-put-assign-add-put-assign t c = let told = told-array (c .before .before .before .before .before .before .before .before .before .before .before .before .before .before .args .types .now) (c .before .before .before .before .before .before .before .before .before .before .before .before .before .before .args .place) (c .before .before .before .before .before .before .before .before .before .array .given .1) (c .before .before .before .before .before .before .before .before .before .before .before .as-array .ensures) in let l = array-levels _ _ _ (told .0) in omega (arith, l, c .before .before .before .before .before .before .before .before .before .before .before .before .before .before .pre .1 .4, c .before .before .before .before .before .before .before .before .before .before .before .before .before .before .pre .1 .5)
-
-put-assign-add-put-assign-2 : (t : ℕ) → put-assign-lts.Need-add-put-assign-2 (
-  as-array-reads.Asked,
-  as-array-reads.Learnt,
-  put-count-reads.Asked,
-  put-count-reads.Learnt,
-  push-both-reads.Asked,
-  push-both-reads.Learnt,
-  put-assign-below t,
-  put-assign.Post,
-  as-pair-reads.Asked,
-  as-pair-reads.Learnt,
-  put-set-reads.Asked,
-  put-set-reads.Learnt,
-) (put-assign-at t) put-assign.Post
-put-assign-add-put-assign-2 t c = let told = told-array (c .before .before .before .before .before .before .before .before .before .before .before .before .before .before .args .types .now) (c .before .before .before .before .before .before .before .before .before .before .before .before .before .before .args .place) (c .before .before .before .before .before .before .before .before .before .array .given .1) (c .before .before .before .before .before .before .before .before .before .before .before .as-array .ensures) in let l = array-levels _ _ _ (told .0) in omega (arith, l, c .before .before .before .before .before .before .before .before .before .before .before .before .before .before .pre .1 .4, c .before .before .before .before .before .before .before .before .before .before .before .before .before .before .pre .1 .5)
-
-put-assign-add-put-assign-3 : (t : ℕ) → put-assign-lts.Need-add-put-assign-3 (
-  as-array-reads.Asked,
-  as-array-reads.Learnt,
-  put-count-reads.Asked,
-  put-count-reads.Learnt,
-  push-both-reads.Asked,
-  push-both-reads.Learnt,
-  put-assign-below t,
-  put-assign.Post,
-  as-pair-reads.Asked,
-  as-pair-reads.Learnt,
-  put-set-reads.Asked,
-  put-set-reads.Learnt,
-) (put-assign-at t) put-assign.Post
-put-assign-add-put-assign-3 t c = let told = told-array (c .before .before .before .before .before .before .before .before .before .before .before .before .before .before .args .types .now) (c .before .before .before .before .before .before .before .before .before .before .before .before .before .before .args .place) (c .before .before .before .before .before .before .before .before .before .array .given .1) (c .before .before .before .before .before .before .before .before .before .before .before .as-array .ensures) in let l = array-levels _ _ _ (told .0) in omega (arith, l, c .before .before .before .before .before .before .before .before .before .before .before .before .before .before .pre .1 .4, c .before .before .before .before .before .before .before .before .before .before .before .before .before .before .pre .1 .5)
-
-put-assign-put-assign-requires : (t : ℕ) → put-assign-lts.Need-put-assign-requires (
-  as-array-reads.Asked,
-  as-array-reads.Learnt,
-  put-count-reads.Asked,
-  put-count-reads.Learnt,
-  push-both-reads.Asked,
-  push-both-reads.Learnt,
-  put-assign-below t,
-  put-assign.Post,
-  as-pair-reads.Asked,
-  as-pair-reads.Learnt,
-  put-set-reads.Asked,
-  put-set-reads.Learnt,
-) (put-assign-at t) put-assign.Post
-put-assign-put-assign-requires t c κs = let told = told-array (c .before .before .before .before .before .before .before .before .before .before .before .before .before .before .args .types .now) (c .before .before .before .before .before .before .before .before .before .before .before .before .before .before .args .place) (c .before .before .before .before .before .before .before .before .before .array .given .1) (c .before .before .before .before .before .before .before .before .before .before .before .as-array .ensures) in let l = array-levels _ _ _ (told .0) in (omega (arith, told .1, c .before .before .before .before .before .before .before .before .before .before .before .before .before .before .pre .0), (c .before .before .before .before .before .before .before .before .before .before .before .before .before .before .pre .1 .0, omega (arith, told .1, c .before .before .before .before .before .before .before .before .before .before .before .before .before .before .pre .1 .1), omega arith, omega arith, omega (arith, l, c .before .before .before .before .before .before .before .before .before .before .before .before .before .before .pre .1 .4), omega (arith, l, c .before .before .before .before .before .before .before .before .before .before .before .before .before .before .pre .1 .5), both-grown _ _ _ _ _ _ _ (c .before .before .before .push-both .ensures) .size))
-
-put-assign-returns-2 : (t : ℕ) → put-assign-lts.Need-returns-2 (
-  as-array-reads.Asked,
-  as-array-reads.Learnt,
-  put-count-reads.Asked,
-  put-count-reads.Learnt,
-  push-both-reads.Asked,
-  push-both-reads.Learnt,
-  put-assign-below t,
-  put-assign.Post,
-  as-pair-reads.Asked,
-  as-pair-reads.Learnt,
-  put-set-reads.Asked,
-  put-set-reads.Learnt,
-) (put-assign-at t) put-assign.Post
-put-assign-returns-2 t c = let told = told-array (c .before .before .before .before .before .before .before .before .before .before .before .before .before .before .before .args .types .now) (c .before .before .before .before .before .before .before .before .before .before .before .before .before .before .before .args .place) (c .before .before .before .before .before .before .before .before .before .before .array .given .1) (c .before .before .before .before .before .before .before .before .before .before .before .before .as-array .ensures) in let l = array-levels _ _ _ (told .0) in (assign-array (c .before .before .before .before .before .before .before .before .before .before .before .before .before .before .before .args .types .now) (c .before .before .before .before .before .before .before .before .before .before .before .before .before .before .before .args .plan .now) (c .before .before .before .before .before .before .before .before .before .before .before .before .before .before .before .args .references .now) (c .before .before .before .before .before .before .before .before .before .before .before .before .before .before .before .args .place) (c .before .before .before .before .before .before .before .before .before .before .before .before .before .before .before .args .value) (c .before .before .before .before .before .before .before .before .before .before .before .before .before .before .before .args .target) (c .before .before .before .before .before .before .before .before .before .before .before .before .before .before .before .args .counters) (c .before .before .before .before .before .before .before .before .before .before .before .before .before .before .before .args .regions) _ _ (c .before .before .before .before .before .before .before .before .before .before .before .before .before .before .before .args .len) (omega (arith, l, c .before .before .before .before .before .before .before .before .before .before .before .before .before .before .before .pre .1 .4)) (c .before .before .before .before .before .before .before .before .before .before .before .before .before .before .before .pre .1 .2) (c .before .before .before .before .before .before .before .before .before .before .before .before .before .before .before .pre .1 .3) _ _ _ _ (omega (arith, c .before .before .before .before .before .before .before .before .before .before .before .before .before .before .before .pre .1 .5)) (told .0) (c .before .before .before .before .before .before .put-count .ensures) (c .before .before .before .before .push-both .ensures) (c .put-assign .ensures .0), grown-more _ _ _ (c .before .before .before .before .before .before .before .before .before .before .before .before .before .before .before .args .len) ((c .before .before .before .before .before .before .before .before .before .before .before .before .before .before .before .args .len) + 2) (omega arith) (both-grown _ _ _ _ _ _ _ (c .before .before .before .before .push-both .ensures)) (c .put-assign .ensures .1))
-
-put-assign-enum-told : (t : ℕ) → put-assign-lts.Need-enum-told (
-  as-array-reads.Asked,
-  as-array-reads.Learnt,
-  put-count-reads.Asked,
-  put-count-reads.Learnt,
-  push-both-reads.Asked,
-  push-both-reads.Learnt,
-  put-assign-below t,
-  put-assign.Post,
-  as-pair-reads.Asked,
-  as-pair-reads.Learnt,
-  put-set-reads.Asked,
-  put-set-reads.Learnt,
-) (put-assign-at t) put-assign.Post
-put-assign-enum-told t c = search needs
-
-put-assign-as-pair-requires : (t : ℕ) → put-assign-lts.Need-as-pair-requires (
-  as-array-reads.Asked,
-  as-array-reads.Learnt,
-  put-count-reads.Asked,
-  put-count-reads.Learnt,
-  push-both-reads.Asked,
-  push-both-reads.Learnt,
-  put-assign-below t,
-  put-assign.Post,
-  as-pair-reads.Asked,
-  as-pair-reads.Learnt,
-  put-set-reads.Asked,
-  put-set-reads.Learnt,
-) (put-assign-at t) put-assign.Post
-put-assign-as-pair-requires t c κs = sound-below (c .before .before .before .before .before .pre .1 .0) (omega (arith, c .before .before .before .before .before .pre .1 .1))
-
-put-assign-enum-known-pair : (t : ℕ) → put-assign-lts.Need-enum-known-pair (
-  as-array-reads.Asked,
-  as-array-reads.Learnt,
-  put-count-reads.Asked,
-  put-count-reads.Learnt,
-  push-both-reads.Asked,
-  push-both-reads.Learnt,
-  put-assign-below t,
-  put-assign.Post,
-  as-pair-reads.Asked,
-  as-pair-reads.Learnt,
-  put-set-reads.Asked,
-  put-set-reads.Learnt,
-) (put-assign-at t) put-assign.Post
-put-assign-enum-known-pair t c = search needs
-
-put-assign-enum-told-2 : (t : ℕ) → put-assign-lts.Need-enum-told-2 (
-  as-array-reads.Asked,
-  as-array-reads.Learnt,
-  put-count-reads.Asked,
-  put-count-reads.Learnt,
-  push-both-reads.Asked,
-  push-both-reads.Learnt,
-  put-assign-below t,
-  put-assign.Post,
-  as-pair-reads.Asked,
-  as-pair-reads.Learnt,
-  put-set-reads.Asked,
-  put-set-reads.Learnt,
-) (put-assign-at t) put-assign.Post
-put-assign-enum-told-2 t c = search needs
-
-put-assign-put-set-requires : (t : ℕ) → put-assign-lts.Need-put-set-requires (
-  as-array-reads.Asked,
-  as-array-reads.Learnt,
-  put-count-reads.Asked,
-  put-count-reads.Learnt,
-  push-both-reads.Asked,
-  push-both-reads.Learnt,
-  put-assign-below t,
-  put-assign.Post,
-  as-pair-reads.Asked,
-  as-pair-reads.Learnt,
-  put-set-reads.Asked,
-  put-set-reads.Learnt,
-) (put-assign-at t) put-assign.Post
-put-assign-put-set-requires t c κs = (c .before .before .before .before .before .before .before .before .before .before .before .pre .1 .0, omega (arith, c .before .before .before .before .before .before .before .before .before .before .before .pre .1 .2, c .before .before .before .before .before .before .before .before .before .before .before .pre .1 .4), omega (arith, c .before .before .before .before .before .before .before .before .before .before .before .pre .1 .3, c .before .before .before .before .before .before .before .before .before .before .before .pre .1 .4))
-
-put-assign-returns-3 : (t : ℕ) → put-assign-lts.Need-returns-3 (
-  as-array-reads.Asked,
-  as-array-reads.Learnt,
-  put-count-reads.Asked,
-  put-count-reads.Learnt,
-  push-both-reads.Asked,
-  push-both-reads.Learnt,
-  put-assign-below t,
-  put-assign.Post,
-  as-pair-reads.Asked,
-  as-pair-reads.Learnt,
-  put-set-reads.Asked,
-  put-set-reads.Learnt,
-) (put-assign-at t) put-assign.Post
-put-assign-returns-3 t c = (assign-number (c .before .before .before .before .before .before .before .before .before .before .before .before .args .types .now) (c .before .before .before .before .before .before .before .before .before .before .before .before .args .plan .now) (c .before .before .before .before .before .before .before .before .before .before .before .before .args .references .now) (c .before .before .before .before .before .before .before .before .before .before .before .before .args .place) (c .before .before .before .before .before .before .before .before .before .before .before .before .args .value) (c .before .before .before .before .before .before .before .before .before .before .before .before .args .target) (c .before .before .before .before .before .before .before .before .before .before .before .before .args .counters) (c .before .before .before .before .before .before .before .before .before .before .before .before .args .regions) _ _ (is-number _ (told-no-array (c .before .before .before .before .before .before .before .before .before .before .before .before .args .types .now) (c .before .before .before .before .before .before .before .before .before .before .before .before .args .place) (c .before .before .before .before .before .before .before .enum-told .given .1) (c .before .before .before .before .before .before .before .before .before .as-array .ensures)) (told-no-pair (c .before .before .before .before .before .before .before .before .before .before .before .before .args .types .now) (c .before .before .before .before .before .before .before .before .before .before .before .before .args .place) (c .before .before .before .before .enum-told2 .given .1) (c .before .before .before .before .before .before .as-pair .ensures))) (c .put-set .ensures), grown-none _ _ (c .before .before .before .before .before .before .before .before .before .before .before .before .pre .1 .6))
-
-put-assign-put-count-requires-2 : (t : ℕ) → put-assign-lts.Need-put-count-requires-2 (
-  as-array-reads.Asked,
-  as-array-reads.Learnt,
-  put-count-reads.Asked,
-  put-count-reads.Learnt,
-  push-both-reads.Asked,
-  push-both-reads.Learnt,
-  put-assign-below t,
-  put-assign.Post,
-  as-pair-reads.Asked,
-  as-pair-reads.Learnt,
-  put-set-reads.Asked,
-  put-set-reads.Learnt,
-) (put-assign-at t) put-assign.Post
-put-assign-put-count-requires-2 t c κs = search needs
-
-put-assign-push-both-requires-2 : (t : ℕ) → put-assign-lts.Need-push-both-requires-2 (
-  as-array-reads.Asked,
-  as-array-reads.Learnt,
-  put-count-reads.Asked,
-  put-count-reads.Learnt,
-  push-both-reads.Asked,
-  push-both-reads.Learnt,
-  put-assign-below t,
-  put-assign.Post,
-  as-pair-reads.Asked,
-  as-pair-reads.Learnt,
-  put-set-reads.Asked,
-  put-set-reads.Learnt,
-) (put-assign-at t) put-assign.Post
-put-assign-push-both-requires-2 t c κs = let told = told-pair (c .before .before .before .before .before .before .before .before .before .before .before .before .before .args .types .now) (c .before .before .before .before .before .before .before .before .before .before .before .before .before .args .place) (c .before .before .before .before .before .pair .given .1) (c .before .before .before .before .before .before .before .as-pair .ensures) in let l = pair-levels _ _ _ (told .0) in (omega (arith, l, c .before .before .before .before .before .before .before .before .before .before .before .before .before .pre .1 .4), c .before .before .before .before .before .before .before .before .before .before .before .before .before .pre .1 .2, c .before .before .before .before .before .before .before .before .before .before .before .before .before .pre .1 .3, c .before .before .before .before .before .before .before .before .before .before .before .before .before .pre .1 .6)
-
-put-assign-add-put-assign-4 : (t : ℕ) → put-assign-lts.Need-add-put-assign-4 (
-  as-array-reads.Asked,
-  as-array-reads.Learnt,
-  put-count-reads.Asked,
-  put-count-reads.Learnt,
-  push-both-reads.Asked,
-  push-both-reads.Learnt,
-  put-assign-below t,
-  put-assign.Post,
-  as-pair-reads.Asked,
-  as-pair-reads.Learnt,
-  put-set-reads.Asked,
-  put-set-reads.Learnt,
-) (put-assign-at t) put-assign.Post
-put-assign-add-put-assign-4 t c = let told = told-pair (c .before .before .before .before .before .before .before .before .before .before .before .before .before .before .before .before .before .args .types .now) (c .before .before .before .before .before .before .before .before .before .before .before .before .before .before .before .before .before .args .place) (c .before .before .before .before .before .before .before .before .before .pair .given .1) (c .before .before .before .before .before .before .before .before .before .before .before .as-pair .ensures) in let l = pair-levels _ _ _ (told .0) in omega (arith, l, c .before .before .before .before .before .before .before .before .before .before .before .before .before .before .before .before .before .pre .1 .4)
-
-put-assign-add-put-assign-5 : (t : ℕ) → put-assign-lts.Need-add-put-assign-5 (
-  as-array-reads.Asked,
-  as-array-reads.Learnt,
-  put-count-reads.Asked,
-  put-count-reads.Learnt,
-  push-both-reads.Asked,
-  push-both-reads.Learnt,
-  put-assign-below t,
-  put-assign.Post,
-  as-pair-reads.Asked,
-  as-pair-reads.Learnt,
-  put-set-reads.Asked,
-  put-set-reads.Learnt,
-) (put-assign-at t) put-assign.Post
-put-assign-add-put-assign-5 t c = let told = told-pair (c .before .before .before .before .before .before .before .before .before .before .before .before .before .before .before .before .before .args .types .now) (c .before .before .before .before .before .before .before .before .before .before .before .before .before .before .before .before .before .args .place) (c .before .before .before .before .before .before .before .before .before .pair .given .1) (c .before .before .before .before .before .before .before .before .before .before .before .as-pair .ensures) in let l = pair-levels _ _ _ (told .0) in omega (arith, l, c .before .before .before .before .before .before .before .before .before .before .before .before .before .before .before .before .before .pre .1 .4)
-
-put-assign-put-assign-requires-2 : (t : ℕ) → put-assign-lts.Need-put-assign-requires-2 (
-  as-array-reads.Asked,
-  as-array-reads.Learnt,
-  put-count-reads.Asked,
-  put-count-reads.Learnt,
-  push-both-reads.Asked,
-  push-both-reads.Learnt,
-  put-assign-below t,
-  put-assign.Post,
-  as-pair-reads.Asked,
-  as-pair-reads.Learnt,
-  put-set-reads.Asked,
-  put-set-reads.Learnt,
-) (put-assign-at t) put-assign.Post
-put-assign-put-assign-requires-2 t c κs = let told = told-pair (c .before .before .before .before .before .before .before .before .before .before .before .before .before .before .before .before .before .args .types .now) (c .before .before .before .before .before .before .before .before .before .before .before .before .before .before .before .before .before .args .place) (c .before .before .before .before .before .before .before .before .before .pair .given .1) (c .before .before .before .before .before .before .before .before .before .before .before .as-pair .ensures) in let l = pair-levels _ _ _ (told .0) in (omega (arith, told .1, c .before .before .before .before .before .before .before .before .before .before .before .before .before .before .before .before .before .pre .0), (c .before .before .before .before .before .before .before .before .before .before .before .before .before .before .before .before .before .pre .1 .0, omega (arith, told .1, c .before .before .before .before .before .before .before .before .before .before .before .before .before .before .before .before .before .pre .1 .1), omega arith, omega arith, omega (arith, l, c .before .before .before .before .before .before .before .before .before .before .before .before .before .before .before .before .before .pre .1 .4), omega (arith, l, c .before .before .before .before .before .before .before .before .before .before .before .before .before .before .before .before .before .pre .1 .5), both-grown _ _ _ _ _ _ _ (c .before .before .before .push-both2 .ensures) .size))
-
-put-assign-push-both-requires-3 : (t : ℕ) → put-assign-lts.Need-push-both-requires-3 (
-  as-array-reads.Asked,
-  as-array-reads.Learnt,
-  put-count-reads.Asked,
-  put-count-reads.Learnt,
-  push-both-reads.Asked,
-  push-both-reads.Learnt,
-  put-assign-below t,
-  put-assign.Post,
-  as-pair-reads.Asked,
-  as-pair-reads.Learnt,
-  put-set-reads.Asked,
-  put-set-reads.Learnt,
-) (put-assign-at t) put-assign.Post
-put-assign-push-both-requires-3 t c κs = let told = told-pair (c .before .before .before .before .before .before .before .before .before .before .before .before .before .before .before .before .before .before .before .args .types .now) (c .before .before .before .before .before .before .before .before .before .before .before .before .before .before .before .before .before .before .before .args .place) (c .before .before .before .before .before .before .before .before .before .before .before .pair .given .1) (c .before .before .before .before .before .before .before .before .before .before .before .before .before .as-pair .ensures) in let l = pair-levels _ _ _ (told .0) in (omega (arith, l, c .before .before .before .before .before .before .before .before .before .before .before .before .before .before .before .before .before .before .before .pre .1 .4), c .before .before .before .before .before .before .before .before .before .before .before .before .before .before .before .before .before .before .before .pre .1 .2, c .before .before .before .before .before .before .before .before .before .before .before .before .before .before .before .before .before .before .before .pre .1 .3, c .before .put-assign2 .ensures .1 .size)
-
-put-assign-add-put-assign-6 : (t : ℕ) → put-assign-lts.Need-add-put-assign-6 (
-  as-array-reads.Asked,
-  as-array-reads.Learnt,
-  put-count-reads.Asked,
-  put-count-reads.Learnt,
-  push-both-reads.Asked,
-  push-both-reads.Learnt,
-  put-assign-below t,
-  put-assign.Post,
-  as-pair-reads.Asked,
-  as-pair-reads.Learnt,
-  put-set-reads.Asked,
-  put-set-reads.Learnt,
-) (put-assign-at t) put-assign.Post
-put-assign-add-put-assign-6 t c = let told = told-pair (c .before .before .before .before .before .before .before .before .before .before .before .before .before .before .before .before .before .before .before .before .before .before .before .args .types .now) (c .before .before .before .before .before .before .before .before .before .before .before .before .before .before .before .before .before .before .before .before .before .before .before .args .place) (c .before .before .before .before .before .before .before .before .before .before .before .before .before .before .before .pair .given .1) (c .before .before .before .before .before .before .before .before .before .before .before .before .before .before .before .before .before .as-pair .ensures) in let l = pair-levels _ _ _ (told .0) in omega (arith, l, c .before .before .before .before .before .before .before .before .before .before .before .before .before .before .before .before .before .before .before .before .before .before .before .pre .1 .4)
-
-put-assign-add-put-assign-7 : (t : ℕ) → put-assign-lts.Need-add-put-assign-7 (
-  as-array-reads.Asked,
-  as-array-reads.Learnt,
-  put-count-reads.Asked,
-  put-count-reads.Learnt,
-  push-both-reads.Asked,
-  push-both-reads.Learnt,
-  put-assign-below t,
-  put-assign.Post,
-  as-pair-reads.Asked,
-  as-pair-reads.Learnt,
-  put-set-reads.Asked,
-  put-set-reads.Learnt,
-) (put-assign-at t) put-assign.Post
-put-assign-add-put-assign-7 t c = let told = told-pair (c .before .before .before .before .before .before .before .before .before .before .before .before .before .before .before .before .before .before .before .before .before .before .before .args .types .now) (c .before .before .before .before .before .before .before .before .before .before .before .before .before .before .before .before .before .before .before .before .before .before .before .args .place) (c .before .before .before .before .before .before .before .before .before .before .before .before .before .before .before .pair .given .1) (c .before .before .before .before .before .before .before .before .before .before .before .before .before .before .before .before .before .as-pair .ensures) in let l = pair-levels _ _ _ (told .0) in omega (arith, l, c .before .before .before .before .before .before .before .before .before .before .before .before .before .before .before .before .before .before .before .before .before .before .before .pre .1 .4)
-
-put-assign-put-assign-requires-3 : (t : ℕ) → put-assign-lts.Need-put-assign-requires-3 (
-  as-array-reads.Asked,
-  as-array-reads.Learnt,
-  put-count-reads.Asked,
-  put-count-reads.Learnt,
-  push-both-reads.Asked,
-  push-both-reads.Learnt,
-  put-assign-below t,
-  put-assign.Post,
-  as-pair-reads.Asked,
-  as-pair-reads.Learnt,
-  put-set-reads.Asked,
-  put-set-reads.Learnt,
-) (put-assign-at t) put-assign.Post
-put-assign-put-assign-requires-3 t c κs = let told = told-pair (c .before .before .before .before .before .before .before .before .before .before .before .before .before .before .before .before .before .before .before .before .before .before .before .args .types .now) (c .before .before .before .before .before .before .before .before .before .before .before .before .before .before .before .before .before .before .before .before .before .before .before .args .place) (c .before .before .before .before .before .before .before .before .before .before .before .before .before .before .before .pair .given .1) (c .before .before .before .before .before .before .before .before .before .before .before .before .before .before .before .before .before .as-pair .ensures) in let l = pair-levels _ _ _ (told .0) in (omega (arith, told .2, c .before .before .before .before .before .before .before .before .before .before .before .before .before .before .before .before .before .before .before .before .before .before .before .pre .0), (c .before .before .before .before .before .before .before .before .before .before .before .before .before .before .before .before .before .before .before .before .before .before .before .pre .1 .0, omega (arith, told .2, c .before .before .before .before .before .before .before .before .before .before .before .before .before .before .before .before .before .before .before .before .before .before .before .pre .1 .1), omega arith, omega arith, omega (arith, l, c .before .before .before .before .before .before .before .before .before .before .before .before .before .before .before .before .before .before .before .before .before .before .before .pre .1 .4), omega (arith, l, c .before .before .before .before .before .before .before .before .before .before .before .before .before .before .before .before .before .before .before .before .before .before .before .pre .1 .5), both-grown _ _ _ _ _ _ _ (c .before .before .before .push-both3 .ensures) .size))
-
-put-assign-returns-4 : (t : ℕ) → put-assign-lts.Need-returns-4 (
-  as-array-reads.Asked,
-  as-array-reads.Learnt,
-  put-count-reads.Asked,
-  put-count-reads.Learnt,
-  push-both-reads.Asked,
-  push-both-reads.Learnt,
-  put-assign-below t,
-  put-assign.Post,
-  as-pair-reads.Asked,
-  as-pair-reads.Learnt,
-  put-set-reads.Asked,
-  put-set-reads.Learnt,
-) (put-assign-at t) put-assign.Post
-put-assign-returns-4 t c = let told = told-pair (c .before .before .before .before .before .before .before .before .before .before .before .before .before .before .before .before .before .before .before .before .before .before .before .before .args .types .now) (c .before .before .before .before .before .before .before .before .before .before .before .before .before .before .before .before .before .before .before .before .before .before .before .before .args .place) (c .before .before .before .before .before .before .before .before .before .before .before .before .before .before .before .before .pair .given .1) (c .before .before .before .before .before .before .before .before .before .before .before .before .before .before .before .before .before .before .as-pair .ensures) in let l = pair-levels _ _ _ (told .0) in (assign-pair (c .before .before .before .before .before .before .before .before .before .before .before .before .before .before .before .before .before .before .before .before .before .before .before .before .args .types .now) (c .before .before .before .before .before .before .before .before .before .before .before .before .before .before .before .before .before .before .before .before .before .before .before .before .args .plan .now) (c .before .before .before .before .before .before .before .before .before .before .before .before .before .before .before .before .before .before .before .before .before .before .before .before .args .references .now) (c .before .before .before .before .before .before .before .before .before .before .before .before .before .before .before .before .before .before .before .before .before .before .before .before .args .place) (c .before .before .before .before .before .before .before .before .before .before .before .before .before .before .before .before .before .before .before .before .before .before .before .before .args .value) (c .before .before .before .before .before .before .before .before .before .before .before .before .before .before .before .before .before .before .before .before .before .before .before .before .args .target) (c .before .before .before .before .before .before .before .before .before .before .before .before .before .before .before .before .before .before .before .before .before .before .before .before .args .counters) (c .before .before .before .before .before .before .before .before .before .before .before .before .before .before .before .before .before .before .before .before .before .before .before .before .args .regions) _ _ (c .before .before .before .before .before .before .before .before .before .before .before .before .before .before .before .before .before .before .before .before .before .before .before .before .args .len) (omega (arith, l, c .before .before .before .before .before .before .before .before .before .before .before .before .before .before .before .before .before .before .before .before .before .before .before .before .pre .1 .4)) (c .before .before .before .before .before .before .before .before .before .before .before .before .before .before .before .before .before .before .before .before .before .before .before .before .pre .1 .2) (c .before .before .before .before .before .before .before .before .before .before .before .before .before .before .before .before .before .before .before .before .before .before .before .before .pre .1 .3) _ _ _ _ _ _ _ (told .0) (c .before .before .before .before .before .before .before .before .before .before .before .before .put-count2 .ensures) (c .before .before .before .before .before .before .before .before .before .before .push-both2 .ensures) (c .before .before .before .before .before .before .put-assign2 .ensures .0) (c .before .before .before .before .before .before .put-assign2 .ensures .1) (c .before .before .before .before .push-both3 .ensures) (c .put-assign3 .ensures .0), pair-grown _ _ _ _ _ (c .before .before .before .before .before .before .before .before .before .before .before .before .before .before .before .before .before .before .before .before .before .before .before .before .args .len) _ _ (c .before .before .before .before .before .before .before .before .before .before .push-both2 .ensures) (c .before .before .before .before .before .before .put-assign2 .ensures .1) (c .before .before .before .before .push-both3 .ensures) (c .put-assign3 .ensures .1))
-
-pub +put-assign-spec : {M : Type 1} → statement M
-+put-assign-spec = close μ-put-assign λ t. put-assign-lts.spec (
+-- what the callees of `put_assign` ask, and what they promise
+abbrev put-assign-calls : ℕ → put-assign-lts.Claims
+put-assign-calls t = (
   as-array-reads.Asked,
   as-array-reads.Learnt,
   put-count-reads.Asked,
@@ -478,6 +48,288 @@ pub +put-assign-spec : {M : Type 1} → statement M
   put-set-reads.Asked,
   put-set-reads.Learnt,
 )
+
+put-assign-returns : (t : ℕ) → put-assign-lts.Need-returns (put-assign-calls t) (put-assign-at t) put-assign.Post
+put-assign-returns t c = (put-none-past _ _ _ _ (omega arith), grown-none _ _ (c .before .before .pre .1 .6))
+
+put-assign-as-array-requires : (t : ℕ) → put-assign-lts.Need-as-array-requires (put-assign-calls t) (put-assign-at t) put-assign.Post
+put-assign-as-array-requires t c κs = sound-below (c .before .before .pre .1 .0) (omega (arith, c .before .before .pre .1 .1))
+
+put-assign-enum-known-array : (t : ℕ) → put-assign-lts.Need-enum-known-array (put-assign-calls t) (put-assign-at t) put-assign.Post
+put-assign-enum-known-array t c = search needs
+
+put-assign-cast-put-count : (t : ℕ) → put-assign-lts.Need-cast-put-count (put-assign-calls t) (put-assign-at t) put-assign.Post
+put-assign-cast-put-count t c =
+    let entry = c .before .before .before .before .before .before .before .before in
+    let told = told-array (entry .args .types .now) (entry .args .place)
+    (c .before .before .before .array .given .1) (c .before .before .before .before .before .as-array .ensures)
+    in
+    omega (
+      arith,
+      few-elements (entry .args .types .now) (entry .args .place) _ _ (sound-below (entry .pre .1 .0)
+          (omega (arith, entry .pre .1 .1))) (told .0),
+    )
+
+put-assign-put-count-requires : (t : ℕ) → put-assign-lts.Need-put-count-requires (put-assign-calls t) (put-assign-at t) put-assign.Post
+put-assign-put-count-requires t c κs = search needs
+
+put-assign-push-both-requires : (t : ℕ) → put-assign-lts.Need-push-both-requires (put-assign-calls t) (put-assign-at t) put-assign.Post
+put-assign-push-both-requires t c κs =
+    let entry = c .before .before .before .before .before .before .before .before .before .before in
+    let told = told-array (entry .args .types .now) (entry .args .place)
+    (c .before .before .before .before .before .array .given .1) (c .before .before .before .before .before .before .before .as-array .ensures)
+    in
+    let l = array-levels _ _ _ (told .0) in
+    (omega (arith, l, entry .pre .1 .4), entry .pre .1 .2, entry .pre .1 .3, entry .pre .1 .6)
+
+put-assign-add-put-assign : (t : ℕ) → put-assign-lts.Need-add-put-assign (put-assign-calls t) (put-assign-at t) put-assign.Post
+put-assign-add-put-assign t c =
+    let entry = c .before .before .before .before .before .before .before .before .before .before .before
+    .before .before .before in
+    let told = told-array (entry .args .types .now) (entry .args .place) (c .before .before .before .before .before .before .before .before .before .array .given .1)
+    (c .before .before .before .before .before .before .before .before .before .before .before
+    .as-array .ensures) in
+    let l = array-levels _ _ _ (told .0) in
+    omega (arith, l, entry .pre .1 .4, entry .pre .1 .5)
+
+put-assign-add-put-assign-2 : (t : ℕ) → put-assign-lts.Need-add-put-assign-2 (put-assign-calls t) (put-assign-at t) put-assign.Post
+put-assign-add-put-assign-2 t c =
+    let entry = c .before .before .before .before .before .before .before .before .before .before .before
+    .before .before .before in
+    let told = told-array (entry .args .types .now) (entry .args .place) (c .before .before .before .before .before .before .before .before .before .array .given .1)
+    (c .before .before .before .before .before .before .before .before .before .before .before
+    .as-array .ensures) in
+    let l = array-levels _ _ _ (told .0) in
+    omega (arith, l, entry .pre .1 .4, entry .pre .1 .5)
+
+put-assign-add-put-assign-3 : (t : ℕ) → put-assign-lts.Need-add-put-assign-3 (put-assign-calls t) (put-assign-at t) put-assign.Post
+put-assign-add-put-assign-3 t c =
+    let entry = c .before .before .before .before .before .before .before .before .before .before .before
+    .before .before .before in
+    let told = told-array (entry .args .types .now) (entry .args .place) (c .before .before .before .before .before .before .before .before .before .array .given .1)
+    (c .before .before .before .before .before .before .before .before .before .before .before
+    .as-array .ensures) in
+    let l = array-levels _ _ _ (told .0) in
+    omega (arith, l, entry .pre .1 .4, entry .pre .1 .5)
+
+put-assign-put-assign-requires : (t : ℕ) → put-assign-lts.Need-put-assign-requires (put-assign-calls t) (put-assign-at t) put-assign.Post
+put-assign-put-assign-requires t c κs =
+    let entry = c .before .before .before .before .before .before .before .before .before .before .before
+    .before .before .before in
+    let told = told-array (entry .args .types .now) (entry .args .place) (c .before .before .before .before .before .before .before .before .before .array .given .1)
+    (c .before .before .before .before .before .before .before .before .before .before .before
+    .as-array .ensures) in
+    let l = array-levels _ _ _ (told .0) in (
+      omega (arith, told .1, entry .pre .0),
+      (
+        entry .pre .1 .0,
+        omega (arith, told .1, entry .pre .1 .1),
+        omega
+            arith,
+        omega arith,
+        omega (arith, l, entry .pre .1 .4),
+        omega (arith, l, entry .pre .1 .5),
+        both-grown _
+            _ _ _ _ _ _ (c .before .before .before .push-both .ensures) .size,
+      ),
+    )
+
+put-assign-returns-2 : (t : ℕ) → put-assign-lts.Need-returns-2 (put-assign-calls t) (put-assign-at t) put-assign.Post
+put-assign-returns-2 t c =
+    let entry = c .before .before .before .before .before .before .before .before .before .before .before
+    .before .before .before .before in
+    let at-push-both = c .before .before .before .before .push-both in
+    let told = told-array (entry .args .types .now) (entry .args .place) (c .before .before .before .before .before .before .before .before .before .before .array .given .1)
+    (c .before .before .before .before .before .before .before .before .before .before .before
+    .before .as-array .ensures) in
+    let l = array-levels _ _ _ (told .0) in (
+      assign-array (entry .args .types .now) (entry .args .plan .now) (entry .args .references .now)
+          (entry .args .place) (entry .args .value) (entry .args .target) (entry .args .counters)
+          (entry .args .regions) _ _ (entry .args .len) (omega (arith, l, entry .pre .1 .4)) (entry .pre .1 .2)
+          (entry .pre .1 .3) _ _ _ _ (omega (arith, entry .pre .1 .5)) (told .0) (c .before .before .before .before .before .before .put-count .ensures)
+          (at-push-both .ensures) (c .put-assign .ensures .0),
+      grown-more _ _ _ (entry .args .len)
+          ((entry .args .len) + 2) (omega arith) (both-grown _ _ _ _ _ _ _ (at-push-both .ensures))
+          (c .put-assign .ensures .1),
+    )
+
+put-assign-enum-told : (t : ℕ) → put-assign-lts.Need-enum-told (put-assign-calls t) (put-assign-at t) put-assign.Post
+put-assign-enum-told t c = search needs
+
+put-assign-as-pair-requires : (t : ℕ) → put-assign-lts.Need-as-pair-requires (put-assign-calls t) (put-assign-at t) put-assign.Post
+put-assign-as-pair-requires t c κs =
+    let entry = c .before .before .before .before .before in
+    sound-below (entry .pre .1 .0) (omega (arith, entry .pre .1 .1))
+
+put-assign-enum-known-pair : (t : ℕ) → put-assign-lts.Need-enum-known-pair (put-assign-calls t) (put-assign-at t) put-assign.Post
+put-assign-enum-known-pair t c = search needs
+
+put-assign-enum-told-2 : (t : ℕ) → put-assign-lts.Need-enum-told-2 (put-assign-calls t) (put-assign-at t) put-assign.Post
+put-assign-enum-told-2 t c = search needs
+
+put-assign-put-set-requires : (t : ℕ) → put-assign-lts.Need-put-set-requires (put-assign-calls t) (put-assign-at t) put-assign.Post
+put-assign-put-set-requires t c κs =
+    let entry = c .before .before .before .before .before .before .before .before .before .before .before in (
+      entry .pre .1 .0,
+      omega (arith, entry .pre .1 .2, entry .pre .1 .4),
+      omega
+          (arith, entry .pre .1 .3, entry .pre .1 .4),
+    )
+
+put-assign-returns-3 : (t : ℕ) → put-assign-lts.Need-returns-3 (put-assign-calls t) (put-assign-at t) put-assign.Post
+put-assign-returns-3 t c =
+    let entry = c .before .before .before .before .before .before .before .before .before .before .before .before in
+    let at-as-array = c .before .before .before .before .before .before .before .before .before .as-array in
+    let at-enum-told = c .before .before .before .before .before .before .before .enum-told in
+    let at-as-pair = c .before .before .before .before .before .before .as-pair in
+    let at-enum-told2 = c .before .before .before .before .enum-told2 in (
+      assign-number (entry .args .types .now) (entry .args .plan .now) (entry .args .references .now)
+          (entry .args .place) (entry .args .value) (entry .args .target) (entry .args .counters)
+          (entry .args .regions) _ _ (is-number _ (told-no-array (entry .args .types .now) (entry .args .place)
+          (at-enum-told .given .1) (at-as-array .ensures)) (told-no-pair (entry .args .types .now)
+          (entry .args .place) (at-enum-told2 .given .1) (at-as-pair .ensures))) (c .put-set .ensures),
+      grown-none
+          _ _ (entry .pre .1 .6),
+    )
+
+put-assign-put-count-requires-2 : (t : ℕ) → put-assign-lts.Need-put-count-requires-2 (put-assign-calls t) (put-assign-at t) put-assign.Post
+put-assign-put-count-requires-2 t c κs = search needs
+
+put-assign-push-both-requires-2 : (t : ℕ) → put-assign-lts.Need-push-both-requires-2 (put-assign-calls t) (put-assign-at t) put-assign.Post
+put-assign-push-both-requires-2 t c κs =
+    let entry = c .before .before .before .before .before .before .before .before .before .before .before
+    .before .before in
+    let told = told-pair (entry .args .types .now) (entry .args .place)
+    (c .before .before .before .before .before .pair .given .1) (c .before .before .before .before .before .before .before .as-pair .ensures)
+    in
+    let l = pair-levels _ _ _ (told .0) in
+    (omega (arith, l, entry .pre .1 .4), entry .pre .1 .2, entry .pre .1 .3, entry .pre .1 .6)
+
+put-assign-add-put-assign-4 : (t : ℕ) → put-assign-lts.Need-add-put-assign-4 (put-assign-calls t) (put-assign-at t) put-assign.Post
+put-assign-add-put-assign-4 t c =
+    let entry = c .before .before .before .before .before .before .before .before .before .before .before
+    .before .before .before .before .before .before in
+    let told = told-pair (entry .args .types .now) (entry .args .place) (c .before .before .before .before .before .before .before .before .before .pair .given .1)
+    (c .before .before .before .before .before .before .before .before .before .before .before .as-pair .ensures)
+    in
+    let l = pair-levels _ _ _ (told .0) in
+    omega (arith, l, entry .pre .1 .4)
+
+put-assign-add-put-assign-5 : (t : ℕ) → put-assign-lts.Need-add-put-assign-5 (put-assign-calls t) (put-assign-at t) put-assign.Post
+put-assign-add-put-assign-5 t c =
+    let entry = c .before .before .before .before .before .before .before .before .before .before .before
+    .before .before .before .before .before .before in
+    let told = told-pair (entry .args .types .now) (entry .args .place) (c .before .before .before .before .before .before .before .before .before .pair .given .1)
+    (c .before .before .before .before .before .before .before .before .before .before .before .as-pair .ensures)
+    in
+    let l = pair-levels _ _ _ (told .0) in
+    omega (arith, l, entry .pre .1 .4)
+
+put-assign-put-assign-requires-2 :
+    (t : ℕ) → put-assign-lts.Need-put-assign-requires-2 (put-assign-calls t) (put-assign-at t) put-assign.Post
+put-assign-put-assign-requires-2 t c κs =
+    let entry = c .before .before .before .before .before .before .before .before .before .before .before
+    .before .before .before .before .before .before in
+    let told = told-pair (entry .args .types .now) (entry .args .place) (c .before .before .before .before .before .before .before .before .before .pair .given .1)
+    (c .before .before .before .before .before .before .before .before .before .before .before .as-pair .ensures)
+    in
+    let l = pair-levels _ _ _ (told .0) in (
+      omega (arith, told .1, entry .pre .0),
+      (
+        entry .pre .1 .0,
+        omega (arith, told .1, entry .pre .1 .1),
+        omega
+            arith,
+        omega arith,
+        omega (arith, l, entry .pre .1 .4),
+        omega (arith, l, entry .pre .1 .5),
+        both-grown _
+            _ _ _ _ _ _ (c .before .before .before .push-both2 .ensures) .size,
+      ),
+    )
+
+put-assign-push-both-requires-3 : (t : ℕ) → put-assign-lts.Need-push-both-requires-3 (put-assign-calls t) (put-assign-at t) put-assign.Post
+put-assign-push-both-requires-3 t c κs =
+    let entry = c .before .before .before .before .before .before .before .before .before .before .before
+    .before .before .before .before .before .before .before .before in
+    let told = told-pair (entry .args .types .now) (entry .args .place) (c .before .before .before .before .before .before .before .before .before .before .before
+    .pair .given .1) (c .before .before .before .before .before .before .before .before .before .before .before
+    .before .before .as-pair .ensures) in
+    let l = pair-levels _ _ _ (told .0) in (
+      omega (arith, l, entry .pre .1 .4),
+      entry .pre .1 .2,
+      entry .pre .1 .3,
+      c .before .put-assign2 .ensures .1 .size,
+    )
+
+put-assign-add-put-assign-6 : (t : ℕ) → put-assign-lts.Need-add-put-assign-6 (put-assign-calls t) (put-assign-at t) put-assign.Post
+put-assign-add-put-assign-6 t c =
+    let entry = c .before .before .before .before .before .before .before .before .before .before .before
+    .before .before .before .before .before .before .before .before .before .before .before .before in
+    let told = told-pair (entry .args .types .now) (entry .args .place) (c .before .before .before .before .before .before .before .before .before .before .before
+    .before .before .before .before .pair .given .1) (c .before .before .before .before .before .before .before .before .before .before .before
+    .before .before .before .before .before .before .as-pair .ensures) in
+    let l = pair-levels _ _ _ (told .0) in
+    omega (arith, l, entry .pre .1 .4)
+
+put-assign-add-put-assign-7 : (t : ℕ) → put-assign-lts.Need-add-put-assign-7 (put-assign-calls t) (put-assign-at t) put-assign.Post
+put-assign-add-put-assign-7 t c =
+    let entry = c .before .before .before .before .before .before .before .before .before .before .before
+    .before .before .before .before .before .before .before .before .before .before .before .before in
+    let told = told-pair (entry .args .types .now) (entry .args .place) (c .before .before .before .before .before .before .before .before .before .before .before
+    .before .before .before .before .pair .given .1) (c .before .before .before .before .before .before .before .before .before .before .before
+    .before .before .before .before .before .before .as-pair .ensures) in
+    let l = pair-levels _ _ _ (told .0) in
+    omega (arith, l, entry .pre .1 .4)
+
+put-assign-put-assign-requires-3 :
+    (t : ℕ) → put-assign-lts.Need-put-assign-requires-3 (put-assign-calls t) (put-assign-at t) put-assign.Post
+put-assign-put-assign-requires-3 t c κs =
+    let entry = c .before .before .before .before .before .before .before .before .before .before .before
+    .before .before .before .before .before .before .before .before .before .before .before .before in
+    let told = told-pair (entry .args .types .now) (entry .args .place) (c .before .before .before .before .before .before .before .before .before .before .before
+    .before .before .before .before .pair .given .1) (c .before .before .before .before .before .before .before .before .before .before .before
+    .before .before .before .before .before .before .as-pair .ensures) in
+    let l = pair-levels _ _ _ (told .0) in (
+      omega (arith, told .2, entry .pre .0),
+      (
+        entry .pre .1 .0,
+        omega (arith, told .2, entry .pre .1 .1),
+        omega
+            arith,
+        omega arith,
+        omega (arith, l, entry .pre .1 .4),
+        omega (arith, l, entry .pre .1 .5),
+        both-grown _
+            _ _ _ _ _ _ (c .before .before .before .push-both3 .ensures) .size,
+      ),
+    )
+
+put-assign-returns-4 : (t : ℕ) → put-assign-lts.Need-returns-4 (put-assign-calls t) (put-assign-at t) put-assign.Post
+put-assign-returns-4 t c =
+    let entry = c .before .before .before .before .before .before .before .before .before .before .before
+    .before .before .before .before .before .before .before .before .before .before .before .before .before in
+    let at-push-both2 = c .before .before .before .before .before .before .before .before .before .before
+    .push-both2 in
+    let at-put-assign2 = c .before .before .before .before .before .before .put-assign2 in
+    let at-push-both3 = c .before .before .before .before .push-both3 in
+    let told = told-pair (entry .args .types .now) (entry .args .place) (c .before .before .before .before .before .before .before .before .before .before .before
+    .before .before .before .before .before .pair .given .1) (c .before .before .before .before .before .before .before .before .before .before .before
+    .before .before .before .before .before .before .before .as-pair .ensures) in
+    let l = pair-levels _ _ _ (told .0) in (
+      assign-pair (entry .args .types .now) (entry .args .plan .now) (entry .args .references .now)
+          (entry .args .place) (entry .args .value) (entry .args .target) (entry .args .counters)
+          (entry .args .regions) _ _ (entry .args .len) (omega (arith, l, entry .pre .1 .4)) (entry .pre .1 .2)
+          (entry .pre .1 .3) _ _ _ _ _ _ _ (told .0) (c .before .before .before .before .before .before .before .before .before .before .before
+          .before .put-count2 .ensures) (at-push-both2 .ensures) (at-put-assign2 .ensures .0)
+          (at-put-assign2 .ensures .1) (at-push-both3 .ensures) (c .put-assign3 .ensures .0),
+      pair-grown _ _ _ _ _
+          (entry .args .len) _ _ (at-push-both2 .ensures) (at-put-assign2 .ensures .1) (at-push-both3 .ensures)
+          (c .put-assign3 .ensures .1),
+    )
+
+pub +put-assign-spec : {M : Type 1} → statement M
++put-assign-spec = close μ-put-assign λ t. put-assign-lts.spec (put-assign-calls t)
     (put-assign-at t)
     put-assign.Post
     (put-assign-returns t)

@@ -14,7 +14,11 @@ put-value-requires : tie.Need-put-value-requires
 put-value-requires c κs = search needs
 
 returns : tie.Need-returns
-returns c = set-rows _ _ _ _ _ _ _ _ _ _ (no-changes _) (no-changes _) (c .before .before .before .before .before .before .before .before .put-count .ensures) (c .before .before .before .before .put-place .ensures .0) (c .put-value .ensures .0)
+returns c =
+    let at-put-count = c .before .before .before .before .before .before .before .before .put-count in
+    let at-put-place = c .before .before .before .before .put-place in
+    set-rows _ _ _ _ _ _ _ _ _ _ (no-changes _) (no-changes _) (at-put-count .ensures) (at-put-place .ensures .0)
+    (c .put-value .ensures .0)
 
 pub put-set-spec : {M : Type 1} → statement M
 put-set-spec =

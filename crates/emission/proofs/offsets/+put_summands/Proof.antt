@@ -5,7 +5,8 @@ use mathlib.Core.Path.{sym, _∙_}
 use Prim.Native.Nat.{ℕ, _<_}
 use borrow.Fn.Kinds.{In}
 use borrow.Fn.PlainCycle.{Measures, is, falls, and}
-use Rattle.emission.specs.Laws.Offsets.{is-number, summands-number, summands-array, summands-second, summands-first, put-none, put-same, put-index, put-part}
+use Rattle.emission.specs.Laws.Offsets.{is-number, summands-number, summands-array, summands-second, summands-first, put-none}
+use Rattle.emission.specs.Laws.Offsets.{put-same, put-index, put-part}
 use Rattle.type_table.specs.Laws.{sound-below, told-array, told-no-array, told-pair, told-no-pair}
 use Rattle.emission.proofs.offsets.put_summands.Reads as put-summands
 use Rattle.emission.proofs.offsets.put_summands.Kinds as put-summands-kinds
@@ -33,328 +34,9 @@ put-summands-below t =
     (falls 4 put-summands-kinds.ps _<_ μ-put-summands t)
     put-summands.Pre
 
-put-summands-as-array-requires : (t : ℕ) → put-summands-lts.Need-as-array-requires (
-  as-array-reads.Asked,
-  as-array-reads.Learnt,
-  put-cells-reads.Asked,
-  put-cells-reads.Learnt,
-  put-index-reads.Asked,
-  put-index-reads.Learnt,
-  put-summands-below t,
-  put-summands.Post,
-  as-pair-reads.Asked,
-  as-pair-reads.Learnt,
-  is-second-reads.Asked,
-  is-second-reads.Learnt,
-) (put-summands-at t) put-summands.Post
-put-summands-as-array-requires t c κs = c .before .pre .1 .0
-
-put-summands-enum-known-array : (t : ℕ) → put-summands-lts.Need-enum-known-array (
-  as-array-reads.Asked,
-  as-array-reads.Learnt,
-  put-cells-reads.Asked,
-  put-cells-reads.Learnt,
-  put-index-reads.Asked,
-  put-index-reads.Learnt,
-  put-summands-below t,
-  put-summands.Post,
-  as-pair-reads.Asked,
-  as-pair-reads.Learnt,
-  is-second-reads.Asked,
-  is-second-reads.Learnt,
-) (put-summands-at t) put-summands.Post
-put-summands-enum-known-array t c = search needs
-
-put-summands-put-cells-requires : (t : ℕ) → put-summands-lts.Need-put-cells-requires (
-  as-array-reads.Asked,
-  as-array-reads.Learnt,
-  put-cells-reads.Asked,
-  put-cells-reads.Learnt,
-  put-index-reads.Asked,
-  put-index-reads.Learnt,
-  put-summands-below t,
-  put-summands.Post,
-  as-pair-reads.Asked,
-  as-pair-reads.Learnt,
-  is-second-reads.Asked,
-  is-second-reads.Learnt,
-) (put-summands-at t) put-summands.Post
-put-summands-put-cells-requires t c κs = sound-below (c .before .before .before .before .before .before .before .pre .1 .0) (omega (arith, told-array (c .before .before .before .before .before .before .before .args .types .now) (c .before .before .before .before .before .before .before .args .place) (c .before .before .before .array .given .1) (c .before .before .before .before .before .as-array .ensures) .1))
-
-put-summands-put-index-requires : (t : ℕ) → put-summands-lts.Need-put-index-requires (
-  as-array-reads.Asked,
-  as-array-reads.Learnt,
-  put-cells-reads.Asked,
-  put-cells-reads.Learnt,
-  put-index-reads.Asked,
-  put-index-reads.Learnt,
-  put-summands-below t,
-  put-summands.Post,
-  as-pair-reads.Asked,
-  as-pair-reads.Learnt,
-  is-second-reads.Asked,
-  is-second-reads.Learnt,
-) (put-summands-at t) put-summands.Post
-put-summands-put-index-requires t c κs = (c .before .before .before .before .before .before .before .before .before .before .pre .1 .1, omega (arith, c .before .before .before .before .before .before .before .before .before .before .pre .1 .1, c .before .before .before .before .before .before .before .before .before .before .pre .1 .2))
-
-put-summands-add-put-summands : (t : ℕ) → put-summands-lts.Need-add-put-summands (
-  as-array-reads.Asked,
-  as-array-reads.Learnt,
-  put-cells-reads.Asked,
-  put-cells-reads.Learnt,
-  put-index-reads.Asked,
-  put-index-reads.Learnt,
-  put-summands-below t,
-  put-summands.Post,
-  as-pair-reads.Asked,
-  as-pair-reads.Learnt,
-  is-second-reads.Asked,
-  is-second-reads.Learnt,
-) (put-summands-at t) put-summands.Post
-put-summands-add-put-summands t c = search needs
-
-put-summands-put-summands-requires : (t : ℕ) → put-summands-lts.Need-put-summands-requires (
-  as-array-reads.Asked,
-  as-array-reads.Learnt,
-  put-cells-reads.Asked,
-  put-cells-reads.Learnt,
-  put-index-reads.Asked,
-  put-index-reads.Learnt,
-  put-summands-below t,
-  put-summands.Post,
-  as-pair-reads.Asked,
-  as-pair-reads.Learnt,
-  is-second-reads.Asked,
-  is-second-reads.Learnt,
-) (put-summands-at t) put-summands.Post
-put-summands-put-summands-requires t c κs = let told = told-array (c .before .before .before .before .before .before .before .before .before .before .before .before .before .args .types .now) (c .before .before .before .before .before .before .before .before .before .before .before .before .before .args .place) (c .before .before .before .before .before .before .before .before .before .array .given .1) (c .before .before .before .before .before .before .before .before .before .before .before .as-array .ensures) in (omega (arith, told .1, c .before .before .before .before .before .before .before .before .before .before .before .before .before .pre .0), (sound-below (c .before .before .before .before .before .before .before .before .before .before .before .before .before .pre .1 .0) (omega (arith, told .1)), c .before .before .before .before .before .before .before .before .before .before .before .before .before .pre .1 .1, omega (arith, told .1, c .before .before .before .before .before .before .before .before .before .before .before .before .before .pre .1 .2)))
-
-put-summands-returns : (t : ℕ) → put-summands-lts.Need-returns (
-  as-array-reads.Asked,
-  as-array-reads.Learnt,
-  put-cells-reads.Asked,
-  put-cells-reads.Learnt,
-  put-index-reads.Asked,
-  put-index-reads.Learnt,
-  put-summands-below t,
-  put-summands.Post,
-  as-pair-reads.Asked,
-  as-pair-reads.Learnt,
-  is-second-reads.Asked,
-  is-second-reads.Learnt,
-) (put-summands-at t) put-summands.Post
-put-summands-returns t c = let told = told-array (c .before .before .before .before .before .before .before .before .before .before .before .before .before .before .args .types .now) (c .before .before .before .before .before .before .before .before .before .before .before .before .before .before .args .place) (c .before .before .before .before .before .before .before .before .before .before .array .given .1) (c .before .before .before .before .before .before .before .before .before .before .before .before .as-array .ensures) in put-index (c .before .before .before .before .before .before .before .before .before .before .before .before .before .before .args .counters) _ _ _ _ _ _ _ _ (summands-array _ _ (c .before .before .before .before .before .before .before .before .before .before .before .before .before .before .args .j) _ _ (told .0)) (c .before .before .before .before .before .before .put-cells .ensures) (c .before .before .before .put-index .ensures) (c .put-summands .ensures)
-
-put-summands-enum-told : (t : ℕ) → put-summands-lts.Need-enum-told (
-  as-array-reads.Asked,
-  as-array-reads.Learnt,
-  put-cells-reads.Asked,
-  put-cells-reads.Learnt,
-  put-index-reads.Asked,
-  put-index-reads.Learnt,
-  put-summands-below t,
-  put-summands.Post,
-  as-pair-reads.Asked,
-  as-pair-reads.Learnt,
-  is-second-reads.Asked,
-  is-second-reads.Learnt,
-) (put-summands-at t) put-summands.Post
-put-summands-enum-told t c = search needs
-
-put-summands-as-pair-requires : (t : ℕ) → put-summands-lts.Need-as-pair-requires (
-  as-array-reads.Asked,
-  as-array-reads.Learnt,
-  put-cells-reads.Asked,
-  put-cells-reads.Learnt,
-  put-index-reads.Asked,
-  put-index-reads.Learnt,
-  put-summands-below t,
-  put-summands.Post,
-  as-pair-reads.Asked,
-  as-pair-reads.Learnt,
-  is-second-reads.Asked,
-  is-second-reads.Learnt,
-) (put-summands-at t) put-summands.Post
-put-summands-as-pair-requires t c κs = c .before .before .before .before .pre .1 .0
-
-put-summands-enum-known-pair : (t : ℕ) → put-summands-lts.Need-enum-known-pair (
-  as-array-reads.Asked,
-  as-array-reads.Learnt,
-  put-cells-reads.Asked,
-  put-cells-reads.Learnt,
-  put-index-reads.Asked,
-  put-index-reads.Learnt,
-  put-summands-below t,
-  put-summands.Post,
-  as-pair-reads.Asked,
-  as-pair-reads.Learnt,
-  is-second-reads.Asked,
-  is-second-reads.Learnt,
-) (put-summands-at t) put-summands.Post
-put-summands-enum-known-pair t c = search needs
-
-put-summands-enum-told-2 : (t : ℕ) → put-summands-lts.Need-enum-told-2 (
-  as-array-reads.Asked,
-  as-array-reads.Learnt,
-  put-cells-reads.Asked,
-  put-cells-reads.Learnt,
-  put-index-reads.Asked,
-  put-index-reads.Learnt,
-  put-summands-below t,
-  put-summands.Post,
-  as-pair-reads.Asked,
-  as-pair-reads.Learnt,
-  is-second-reads.Asked,
-  is-second-reads.Learnt,
-) (put-summands-at t) put-summands.Post
-put-summands-enum-told-2 t c = search needs
-
-put-summands-returns-2 : (t : ℕ) → put-summands-lts.Need-returns-2 (
-  as-array-reads.Asked,
-  as-array-reads.Learnt,
-  put-cells-reads.Asked,
-  put-cells-reads.Learnt,
-  put-index-reads.Asked,
-  put-index-reads.Learnt,
-  put-summands-below t,
-  put-summands.Post,
-  as-pair-reads.Asked,
-  as-pair-reads.Learnt,
-  is-second-reads.Asked,
-  is-second-reads.Learnt,
-) (put-summands-at t) put-summands.Post
-put-summands-returns-2 t c = put-none (c .before .before .before .before .before .before .before .args .counters) _ _ (summands-number _ _ (c .before .before .before .before .before .before .before .args .j) (is-number _ (told-no-array (c .before .before .before .before .before .before .before .args .types .now) (c .before .before .before .before .before .before .before .args .place) (c .before .before .before .enum-told .given .1) (c .before .before .before .before .before .as-array .ensures)) (told-no-pair (c .before .before .before .before .before .before .before .args .types .now) (c .before .before .before .before .before .before .before .args .place) (c .enum-told2 .given .1) (c .before .before .as-pair .ensures))))
-
-put-summands-is-second-requires : (t : ℕ) → put-summands-lts.Need-is-second-requires (
-  as-array-reads.Asked,
-  as-array-reads.Learnt,
-  put-cells-reads.Asked,
-  put-cells-reads.Learnt,
-  put-index-reads.Asked,
-  put-index-reads.Learnt,
-  put-summands-below t,
-  put-summands.Post,
-  as-pair-reads.Asked,
-  as-pair-reads.Learnt,
-  is-second-reads.Asked,
-  is-second-reads.Learnt,
-) (put-summands-at t) put-summands.Post
-put-summands-is-second-requires t c κs = (c .before .before .before .before .before .before .before .before .pre .1 .1, omega (arith, c .before .before .before .before .before .before .before .before .pre .1 .1, c .before .before .before .before .before .before .before .before .pre .1 .2))
-
-put-summands-put-cells-requires-2 : (t : ℕ) → put-summands-lts.Need-put-cells-requires-2 (
-  as-array-reads.Asked,
-  as-array-reads.Learnt,
-  put-cells-reads.Asked,
-  put-cells-reads.Learnt,
-  put-index-reads.Asked,
-  put-index-reads.Learnt,
-  put-summands-below t,
-  put-summands.Post,
-  as-pair-reads.Asked,
-  as-pair-reads.Learnt,
-  is-second-reads.Asked,
-  is-second-reads.Learnt,
-) (put-summands-at t) put-summands.Post
-put-summands-put-cells-requires-2 t c κs = sound-below (c .before .before .before .before .before .before .before .before .before .before .before .before .pre .1 .0) (omega (arith, told-pair (c .before .before .before .before .before .before .before .before .before .before .before .before .args .types .now) (c .before .before .before .before .before .before .before .before .before .before .before .before .args .place) (c .before .before .before .before .before .pair .given .1) (c .before .before .before .before .before .before .before .as-pair .ensures) .1))
-
-put-summands-add-put-summands-2 : (t : ℕ) → put-summands-lts.Need-add-put-summands-2 (
-  as-array-reads.Asked,
-  as-array-reads.Learnt,
-  put-cells-reads.Asked,
-  put-cells-reads.Learnt,
-  put-index-reads.Asked,
-  put-index-reads.Learnt,
-  put-summands-below t,
-  put-summands.Post,
-  as-pair-reads.Asked,
-  as-pair-reads.Learnt,
-  is-second-reads.Asked,
-  is-second-reads.Learnt,
-) (put-summands-at t) put-summands.Post
-put-summands-add-put-summands-2 t c = search needs
-
-put-summands-put-summands-requires-2 : (t : ℕ) → put-summands-lts.Need-put-summands-requires-2 (
-  as-array-reads.Asked,
-  as-array-reads.Learnt,
-  put-cells-reads.Asked,
-  put-cells-reads.Learnt,
-  put-index-reads.Asked,
-  put-index-reads.Learnt,
-  put-summands-below t,
-  put-summands.Post,
-  as-pair-reads.Asked,
-  as-pair-reads.Learnt,
-  is-second-reads.Asked,
-  is-second-reads.Learnt,
-) (put-summands-at t) put-summands.Post
-put-summands-put-summands-requires-2 t c κs = let told = told-pair (c .before .before .before .before .before .before .before .before .before .before .before .before .before .before .before .args .types .now) (c .before .before .before .before .before .before .before .before .before .before .before .before .before .before .before .args .place) (c .before .before .before .before .before .before .before .before .pair .given .1) (c .before .before .before .before .before .before .before .before .before .before .as-pair .ensures) in (omega (arith, told .2, c .before .before .before .before .before .before .before .before .before .before .before .before .before .before .before .pre .0), (sound-below (c .before .before .before .before .before .before .before .before .before .before .before .before .before .before .before .pre .1 .0) (omega (arith, told .2)), c .before .before .before .before .before .before .before .before .before .before .before .before .before .before .before .pre .1 .1, omega (arith, told .2, c .before .before .before .before .before .before .before .before .before .before .before .before .before .before .before .pre .1 .2)))
-
-put-summands-returns-3 : (t : ℕ) → put-summands-lts.Need-returns-3 (
-  as-array-reads.Asked,
-  as-array-reads.Learnt,
-  put-cells-reads.Asked,
-  put-cells-reads.Learnt,
-  put-index-reads.Asked,
-  put-index-reads.Learnt,
-  put-summands-below t,
-  put-summands.Post,
-  as-pair-reads.Asked,
-  as-pair-reads.Learnt,
-  is-second-reads.Asked,
-  is-second-reads.Learnt,
-) (put-summands-at t) put-summands.Post
-put-summands-returns-3 t c = let told = told-pair (c .before .before .before .before .before .before .before .before .before .before .before .before .before .before .before .before .args .types .now) (c .before .before .before .before .before .before .before .before .before .before .before .before .before .before .before .before .args .place) (c .before .before .before .before .before .before .before .before .before .pair .given .1) (c .before .before .before .before .before .before .before .before .before .before .before .as-pair .ensures) in put-part (c .before .before .before .before .before .before .before .before .before .before .before .before .before .before .before .before .args .counters) _ _ _ _ _ _ (summands-second _ _ (c .before .before .before .before .before .before .before .before .before .before .before .before .before .before .before .before .args .j) _ _ (told .0) (sym (c .before .before .before .before .before .before .if1 .taken) ∙ c .before .before .before .before .before .before .before .is-second .ensures)) (c .before .before .before .put-cells2 .ensures) (c .put-summands2 .ensures)
-
-put-summands-add-put-summands-3 : (t : ℕ) → put-summands-lts.Need-add-put-summands-3 (
-  as-array-reads.Asked,
-  as-array-reads.Learnt,
-  put-cells-reads.Asked,
-  put-cells-reads.Learnt,
-  put-index-reads.Asked,
-  put-index-reads.Learnt,
-  put-summands-below t,
-  put-summands.Post,
-  as-pair-reads.Asked,
-  as-pair-reads.Learnt,
-  is-second-reads.Asked,
-  is-second-reads.Learnt,
-) (put-summands-at t) put-summands.Post
-put-summands-add-put-summands-3 t c = search needs
-
-put-summands-put-summands-requires-3 : (t : ℕ) → put-summands-lts.Need-put-summands-requires-3 (
-  as-array-reads.Asked,
-  as-array-reads.Learnt,
-  put-cells-reads.Asked,
-  put-cells-reads.Learnt,
-  put-index-reads.Asked,
-  put-index-reads.Learnt,
-  put-summands-below t,
-  put-summands.Post,
-  as-pair-reads.Asked,
-  as-pair-reads.Learnt,
-  is-second-reads.Asked,
-  is-second-reads.Learnt,
-) (put-summands-at t) put-summands.Post
-put-summands-put-summands-requires-3 t c κs = let told = told-pair (c .before .before .before .before .before .before .before .before .before .before .before .before .args .types .now) (c .before .before .before .before .before .before .before .before .before .before .before .before .args .place) (c .before .before .before .before .before .pair .given .1) (c .before .before .before .before .before .before .before .as-pair .ensures) in (omega (arith, told .1, c .before .before .before .before .before .before .before .before .before .before .before .before .pre .0), (sound-below (c .before .before .before .before .before .before .before .before .before .before .before .before .pre .1 .0) (omega (arith, told .1)), c .before .before .before .before .before .before .before .before .before .before .before .before .pre .1 .1, omega (arith, told .1, c .before .before .before .before .before .before .before .before .before .before .before .before .pre .1 .2)))
-
-put-summands-returns-4 : (t : ℕ) → put-summands-lts.Need-returns-4 (
-  as-array-reads.Asked,
-  as-array-reads.Learnt,
-  put-cells-reads.Asked,
-  put-cells-reads.Learnt,
-  put-index-reads.Asked,
-  put-index-reads.Learnt,
-  put-summands-below t,
-  put-summands.Post,
-  as-pair-reads.Asked,
-  as-pair-reads.Learnt,
-  is-second-reads.Asked,
-  is-second-reads.Learnt,
-) (put-summands-at t) put-summands.Post
-put-summands-returns-4 t c = let told = told-pair (c .before .before .before .before .before .before .before .before .before .before .before .before .before .args .types .now) (c .before .before .before .before .before .before .before .before .before .before .before .before .before .args .place) (c .before .before .before .before .before .before .pair .given .1) (c .before .before .before .before .before .before .before .before .as-pair .ensures) in put-same (c .before .before .before .before .before .before .before .before .before .before .before .before .before .args .counters) _ _ _ _ (summands-first _ _ (c .before .before .before .before .before .before .before .before .before .before .before .before .before .args .j) _ _ (told .0) (sym (c .before .before .before .if1 .left) ∙ c .before .before .before .before .is-second .ensures)) (c .put-summands3 .ensures)
-
-pub +put-summands-spec : {M : Type 1} → statement M
-+put-summands-spec = close μ-put-summands λ t. put-summands-lts.spec (
+-- what the callees of `put_summands` ask, and what they promise
+abbrev put-summands-calls : ℕ → put-summands-lts.Claims
+put-summands-calls t = (
   as-array-reads.Asked,
   as-array-reads.Learnt,
   put-cells-reads.Asked,
@@ -368,6 +50,172 @@ pub +put-summands-spec : {M : Type 1} → statement M
   is-second-reads.Asked,
   is-second-reads.Learnt,
 )
+
+put-summands-as-array-requires :
+    (t : ℕ) → put-summands-lts.Need-as-array-requires (put-summands-calls t) (put-summands-at t) put-summands.Post
+put-summands-as-array-requires t c κs = c .before .pre .1 .0
+
+put-summands-enum-known-array :
+    (t : ℕ) → put-summands-lts.Need-enum-known-array (put-summands-calls t) (put-summands-at t) put-summands.Post
+put-summands-enum-known-array t c = search needs
+
+put-summands-put-cells-requires :
+    (t : ℕ) → put-summands-lts.Need-put-cells-requires (put-summands-calls t) (put-summands-at t) put-summands.Post
+put-summands-put-cells-requires t c κs =
+    let entry = c .before .before .before .before .before .before .before in
+    sound-below (entry .pre .1 .0) (omega (
+      arith,
+      told-array (entry .args .types .now) (entry .args .place)
+          (c .before .before .before .array .given .1) (c .before .before .before .before .before .as-array .ensures) .1,
+    ))
+
+put-summands-put-index-requires :
+    (t : ℕ) → put-summands-lts.Need-put-index-requires (put-summands-calls t) (put-summands-at t) put-summands.Post
+put-summands-put-index-requires t c κs =
+    let entry = c .before .before .before .before .before .before .before .before .before .before in
+    (entry .pre .1 .1, omega (arith, entry .pre .1 .1, entry .pre .1 .2))
+
+put-summands-add-put-summands :
+    (t : ℕ) → put-summands-lts.Need-add-put-summands (put-summands-calls t) (put-summands-at t) put-summands.Post
+put-summands-add-put-summands t c = search needs
+
+put-summands-put-summands-requires :
+    (t : ℕ) → put-summands-lts.Need-put-summands-requires (put-summands-calls t) (put-summands-at t)
+    put-summands.Post
+put-summands-put-summands-requires t c κs =
+    let entry = c .before .before .before .before .before .before .before .before .before .before .before
+    .before .before in
+    let told = told-array (entry .args .types .now) (entry .args .place) (c .before .before .before .before .before .before .before .before .before .array .given .1)
+    (c .before .before .before .before .before .before .before .before .before .before .before
+    .as-array .ensures) in (
+      omega (arith, told .1, entry .pre .0),
+      (
+        sound-below (entry .pre .1 .0) (omega (arith, told .1)),
+        entry .pre .1 .1,
+        omega (arith, told .1, entry .pre .1 .2),
+      ),
+    )
+
+put-summands-returns : (t : ℕ) → put-summands-lts.Need-returns (put-summands-calls t) (put-summands-at t) put-summands.Post
+put-summands-returns t c =
+    let entry = c .before .before .before .before .before .before .before .before .before .before .before
+    .before .before .before in
+    let at-as-array = c .before .before .before .before .before .before .before .before .before .before .before
+    .before .as-array in
+    let at-array = c .before .before .before .before .before .before .before .before .before .before .array in
+    let at-put-cells = c .before .before .before .before .before .before .put-cells in
+    let told = told-array (entry .args .types .now) (entry .args .place) (at-array .given .1) (at-as-array .ensures)
+    in
+    put-index (entry .args .counters) _ _ _ _ _ _ _ _ (summands-array _ _ (entry .args .j) _ _ (told .0))
+    (at-put-cells .ensures) (c .before .before .before .put-index .ensures) (c .put-summands .ensures)
+
+put-summands-enum-told : (t : ℕ) → put-summands-lts.Need-enum-told (put-summands-calls t) (put-summands-at t) put-summands.Post
+put-summands-enum-told t c = search needs
+
+put-summands-as-pair-requires :
+    (t : ℕ) → put-summands-lts.Need-as-pair-requires (put-summands-calls t) (put-summands-at t) put-summands.Post
+put-summands-as-pair-requires t c κs = c .before .before .before .before .pre .1 .0
+
+put-summands-enum-known-pair : (t : ℕ) → put-summands-lts.Need-enum-known-pair (put-summands-calls t) (put-summands-at t) put-summands.Post
+put-summands-enum-known-pair t c = search needs
+
+put-summands-enum-told-2 : (t : ℕ) → put-summands-lts.Need-enum-told-2 (put-summands-calls t) (put-summands-at t) put-summands.Post
+put-summands-enum-told-2 t c = search needs
+
+put-summands-returns-2 : (t : ℕ) → put-summands-lts.Need-returns-2 (put-summands-calls t) (put-summands-at t) put-summands.Post
+put-summands-returns-2 t c =
+    let entry = c .before .before .before .before .before .before .before in
+    let at-as-array = c .before .before .before .before .before .as-array in
+    put-none (entry .args .counters) _ _ (summands-number _ _ (entry .args .j) (is-number _
+    (told-no-array (entry .args .types .now) (entry .args .place)
+    (c .before .before .before .enum-told .given .1) (at-as-array .ensures))
+    (told-no-pair (entry .args .types .now) (entry .args .place) (c .enum-told2 .given .1)
+    (c .before .before .as-pair .ensures))))
+
+put-summands-is-second-requires :
+    (t : ℕ) → put-summands-lts.Need-is-second-requires (put-summands-calls t) (put-summands-at t) put-summands.Post
+put-summands-is-second-requires t c κs =
+    let entry = c .before .before .before .before .before .before .before .before in
+    (entry .pre .1 .1, omega (arith, entry .pre .1 .1, entry .pre .1 .2))
+
+put-summands-put-cells-requires-2 :
+    (t : ℕ) → put-summands-lts.Need-put-cells-requires-2 (put-summands-calls t) (put-summands-at t)
+    put-summands.Post
+put-summands-put-cells-requires-2 t c κs =
+    let entry = c .before .before .before .before .before .before .before .before .before .before .before .before in
+    sound-below (entry .pre .1 .0) (omega (
+      arith,
+      told-pair (entry .args .types .now) (entry .args .place)
+          (c .before .before .before .before .before .pair .given .1) (c .before .before .before .before .before .before .before .as-pair .ensures) .1,
+    ))
+
+put-summands-add-put-summands-2 :
+    (t : ℕ) → put-summands-lts.Need-add-put-summands-2 (put-summands-calls t) (put-summands-at t) put-summands.Post
+put-summands-add-put-summands-2 t c = search needs
+
+put-summands-put-summands-requires-2 :
+    (t : ℕ) → put-summands-lts.Need-put-summands-requires-2 (put-summands-calls t) (put-summands-at t)
+    put-summands.Post
+put-summands-put-summands-requires-2 t c κs =
+    let entry = c .before .before .before .before .before .before .before .before .before .before .before
+    .before .before .before .before in
+    let told = told-pair (entry .args .types .now) (entry .args .place) (c .before .before .before .before .before .before .before .before .pair .given .1)
+    (c .before .before .before .before .before .before .before .before .before .before .as-pair .ensures) in (
+      omega (arith, told .2, entry .pre .0),
+      (
+        sound-below (entry .pre .1 .0) (omega (arith, told .2)),
+        entry .pre .1 .1,
+        omega (arith, told .2, entry .pre .1 .2),
+      ),
+    )
+
+put-summands-returns-3 : (t : ℕ) → put-summands-lts.Need-returns-3 (put-summands-calls t) (put-summands-at t) put-summands.Post
+put-summands-returns-3 t c =
+    let entry = c .before .before .before .before .before .before .before .before .before .before .before
+    .before .before .before .before .before in
+    let at-as-pair = c .before .before .before .before .before .before .before .before .before .before .before
+    .as-pair in
+    let at-pair = c .before .before .before .before .before .before .before .before .before .pair in
+    let at-is-second = c .before .before .before .before .before .before .before .is-second in
+    let at-if1 = c .before .before .before .before .before .before .if1 in
+    let told = told-pair (entry .args .types .now) (entry .args .place) (at-pair .given .1) (at-as-pair .ensures) in
+    put-part (entry .args .counters) _ _ _ _ _ _ (summands-second _ _ (entry .args .j) _ _ (told .0)
+    (sym (at-if1 .taken) ∙ at-is-second .ensures)) (c .before .before .before .put-cells2 .ensures)
+    (c .put-summands2 .ensures)
+
+put-summands-add-put-summands-3 :
+    (t : ℕ) → put-summands-lts.Need-add-put-summands-3 (put-summands-calls t) (put-summands-at t) put-summands.Post
+put-summands-add-put-summands-3 t c = search needs
+
+put-summands-put-summands-requires-3 :
+    (t : ℕ) → put-summands-lts.Need-put-summands-requires-3 (put-summands-calls t) (put-summands-at t)
+    put-summands.Post
+put-summands-put-summands-requires-3 t c κs =
+    let entry = c .before .before .before .before .before .before .before .before .before .before .before .before in
+    let told = told-pair (entry .args .types .now) (entry .args .place)
+    (c .before .before .before .before .before .pair .given .1) (c .before .before .before .before .before .before .before .as-pair .ensures)
+    in (
+      omega (arith, told .1, entry .pre .0),
+      (
+        sound-below (entry .pre .1 .0) (omega (arith, told .1)),
+        entry .pre .1 .1,
+        omega (arith, told .1, entry .pre .1 .2),
+      ),
+    )
+
+put-summands-returns-4 : (t : ℕ) → put-summands-lts.Need-returns-4 (put-summands-calls t) (put-summands-at t) put-summands.Post
+put-summands-returns-4 t c =
+    let entry = c .before .before .before .before .before .before .before .before .before .before .before
+    .before .before in
+    let at-as-pair = c .before .before .before .before .before .before .before .before .as-pair in
+    let at-pair = c .before .before .before .before .before .before .pair in
+    let at-is-second = c .before .before .before .before .is-second in
+    let told = told-pair (entry .args .types .now) (entry .args .place) (at-pair .given .1) (at-as-pair .ensures) in
+    put-same (entry .args .counters) _ _ _ _ (summands-first _ _ (entry .args .j) _ _ (told .0)
+    (sym (c .before .before .before .if1 .left) ∙ at-is-second .ensures)) (c .put-summands3 .ensures)
+
+pub +put-summands-spec : {M : Type 1} → statement M
++put-summands-spec = close μ-put-summands λ t. put-summands-lts.spec (put-summands-calls t)
     (put-summands-at t)
     put-summands.Post
     (put-summands-as-array-requires t)

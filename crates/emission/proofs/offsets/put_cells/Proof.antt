@@ -9,7 +9,9 @@ cells-requires : tie.Need-cells-requires
 cells-requires c κs = search needs
 
 cast-put-count : tie.Need-cast-put-count
-cast-put-count c = omega (arith, c .cells .ensures, few-cells (c .before .before .before .before .args .types .now) (c .before .before .before .before .args .place) (c .before .before .before .before .pre))
+cast-put-count c =
+    let entry = c .before .before .before .before in
+    omega (arith, c .cells .ensures, few-cells (entry .args .types .now) (entry .args .place) (entry .pre))
 
 put-count-requires : tie.Need-put-count-requires
 put-count-requires c κs = search needs

@@ -14,16 +14,27 @@ put-count-requires : tie.Need-put-count-requires
 put-count-requires c κs = search needs
 
 returns : tie.Need-returns
-returns c = offset-none (c .before .before .before .before .before .args .counters) _ _ _ (ap (λ s. summands s (pathOf (c .before .before .before .before .before .args .changes .now) (c .before .before .before .before .before .args .depth))) (type-past (c .before .before .before .before .before .args .types .now) (c .before .before .before .before .before .args .place) (omega arith))) (c .put-count .ensures)
+returns c =
+    let entry = c .before .before .before .before .before in
+    offset-none (entry .args .counters) _ _ _ (ap (λ s. summands s
+    (pathOf (entry .args .changes .now) (entry .args .depth))) (type-past (entry .args .types .now)
+    (entry .args .place) (omega arith))) (c .put-count .ensures)
 
 count-summands-requires : tie.Need-count-summands-requires
-count-summands-requires c κs = (sound-below (c .before .before .pre .0) (omega arith), c .before .before .pre .1, omega (arith, c .before .before .pre .0 .few))
+count-summands-requires c κs =
+    let entry = c .before .before in
+    (sound-below (entry .pre .0) (omega arith), entry .pre .1, omega (arith, entry .pre .0 .few))
 
 put-count-requires-2 : tie.Need-put-count-requires-2
 put-count-requires-2 c κs = search needs
 
 returns-2 : tie.Need-returns-2
-returns-2 c = offset-empty (c .before .before .before .before .before .before .before .args .counters) (summands (typeAt (c .before .before .before .before .before .before .before .args .types .now) (c .before .before .before .before .before .before .before .args .place)) (pathOf (c .before .before .before .before .before .before .before .args .changes .now) (c .before .before .before .before .before .before .before .args .depth))) _ _ _ (c .before .before .before .before .count-summands .ensures .0) (c .before .before .before .if2 .taken) (c .put-count2 .ensures)
+returns-2 c =
+    let entry = c .before .before .before .before .before .before .before in
+    let at-count-summands = c .before .before .before .before .count-summands in
+    offset-empty (entry .args .counters) (summands (typeAt (entry .args .types .now) (entry .args .place))
+    (pathOf (entry .args .changes .now) (entry .args .depth))) _ _ _ (at-count-summands .ensures .0)
+    (c .before .before .before .if2 .taken) (c .put-count2 .ensures)
 
 sub-put-pluses : tie.Need-sub-put-pluses
 sub-put-pluses c = search needs
@@ -32,10 +43,18 @@ put-pluses-requires : tie.Need-put-pluses-requires
 put-pluses-requires c κs = search needs
 
 put-summands-requires : tie.Need-put-summands-requires
-put-summands-requires c κs = (sound-below (c .before .before .before .before .before .before .before .before .before .pre .0) (omega arith), c .before .before .before .before .before .before .before .before .before .pre .1, omega (arith, c .before .before .before .before .before .before .before .before .before .pre .0 .few))
+put-summands-requires c κs =
+    let entry = c .before .before .before .before .before .before .before .before .before in
+    (sound-below (entry .pre .0) (omega arith), entry .pre .1, omega (arith, entry .pre .0 .few))
 
 returns-3 : tie.Need-returns-3
-returns-3 c = offset-some (c .before .before .before .before .before .before .before .before .before .before .args .counters) (summands (typeAt (c .before .before .before .before .before .before .before .before .before .before .args .types .now) (c .before .before .before .before .before .before .before .before .before .before .args .place)) (pathOf (c .before .before .before .before .before .before .before .before .before .before .args .changes .now) (c .before .before .before .before .before .before .before .before .before .before .args .depth))) _ _ _ _ (c .before .before .before .before .before .before .before .count-summands .ensures .0) (c .before .before .before .before .before .before .if2 .left) (c .before .before .before .put-pluses .ensures) (c .put-summands .ensures)
+returns-3 c =
+    let entry = c .before .before .before .before .before .before .before .before .before .before in
+    let at-count-summands = c .before .before .before .before .before .before .before .count-summands in
+    let at-if2 = c .before .before .before .before .before .before .if2 in
+    offset-some (entry .args .counters) (summands (typeAt (entry .args .types .now) (entry .args .place))
+    (pathOf (entry .args .changes .now) (entry .args .depth))) _ _ _ _ (at-count-summands .ensures .0)
+    (at-if2 .left) (c .before .before .before .put-pluses .ensures) (c .put-summands .ensures)
 
 pub put-offset-spec : {M : Type 1} → statement M
 put-offset-spec =

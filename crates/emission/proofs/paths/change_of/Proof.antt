@@ -35,7 +35,15 @@ returns-10 : tie.Need-returns-10
 returns-10 c = rw (c .if10 .taken) refl
 
 returns-11 : tie.Need-returns-11
-returns-11 c = unchanged _ (c .before .before .before .before .before .before .before .before .before .if1 .left) (c .before .before .before .before .before .before .before .before .if2 .left) (c .before .before .before .before .before .before .before .if3 .left) (c .before .before .before .before .before .before .if4 .left) (c .before .before .before .before .before .if5 .left) (c .before .before .before .before .if6 .left) (c .before .before .before .if7 .left) (c .before .before .if8 .left) (c .before .if9 .left) (c .if10 .left)
+returns-11 c =
+    let at-if1 = c .before .before .before .before .before .before .before .before .before .if1 in
+    let at-if2 = c .before .before .before .before .before .before .before .before .if2 in
+    let at-if3 = c .before .before .before .before .before .before .before .if3 in
+    let at-if4 = c .before .before .before .before .before .before .if4 in
+    let at-if5 = c .before .before .before .before .before .if5 in
+    let at-if6 = c .before .before .before .before .if6 in
+    unchanged _ (at-if1 .left) (at-if2 .left) (at-if3 .left) (at-if4 .left) (at-if5 .left) (at-if6 .left)
+    (c .before .before .before .if7 .left) (c .before .before .if8 .left) (c .before .if9 .left) (c .if10 .left)
 
 pub change-of-spec : {M : Type 1} → statement M
 change-of-spec =

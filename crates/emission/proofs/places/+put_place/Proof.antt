@@ -38,1156 +38,9 @@ abbrev put-place-below : ℕ → In 5 put-place-kinds.ps
 put-place-below t =
     and 5 put-place-kinds.ps (falls 5 put-place-kinds.ps _<_ μ-put-place t) put-place.Pre
 
-put-place-mul-node : (t : ℕ) → put-place-lts.Need-mul-node (
-  left-in-reads.Asked,
-  left-in-reads.Learnt,
-  right-in-reads.Asked,
-  right-in-reads.Learnt,
-  put-nowhere-reads.Asked,
-  put-nowhere-reads.Learnt,
-  kind-in-reads.Asked,
-  kind-in-reads.Learnt,
-  class-of-reads.Asked,
-  class-of-reads.Learnt,
-  put-count-reads.Asked,
-  put-count-reads.Learnt,
-  type-in-reads.Asked,
-  type-in-reads.Learnt,
-  put-offset-reads.Asked,
-  put-offset-reads.Learnt,
-  number-in-reads.Asked,
-  number-in-reads.Learnt,
-  from-innermost-reads.Asked,
-  from-innermost-reads.Learnt,
-  operand-written-reads.Asked,
-  operand-written-reads.Learnt,
-  put-place-below t,
-  put-place.Post,
-) (put-place-at t) put-place.Post
-put-place-mul-node t c = search needs
-
-put-place-element-copy-out-node : (t : ℕ) → put-place-lts.Need-element-copy-out-node (
-  left-in-reads.Asked,
-  left-in-reads.Learnt,
-  right-in-reads.Asked,
-  right-in-reads.Learnt,
-  put-nowhere-reads.Asked,
-  put-nowhere-reads.Learnt,
-  kind-in-reads.Asked,
-  kind-in-reads.Learnt,
-  class-of-reads.Asked,
-  class-of-reads.Learnt,
-  put-count-reads.Asked,
-  put-count-reads.Learnt,
-  type-in-reads.Asked,
-  type-in-reads.Learnt,
-  put-offset-reads.Asked,
-  put-offset-reads.Learnt,
-  number-in-reads.Asked,
-  number-in-reads.Learnt,
-  from-innermost-reads.Asked,
-  from-innermost-reads.Learnt,
-  operand-written-reads.Asked,
-  operand-written-reads.Learnt,
-  put-place-below t,
-  put-place.Post,
-) (put-place-at t) put-place.Post
-put-place-element-copy-out-node t c = search needs
-
-put-place-left-in-requires : (t : ℕ) → put-place-lts.Need-left-in-requires (
-  left-in-reads.Asked,
-  left-in-reads.Learnt,
-  right-in-reads.Asked,
-  right-in-reads.Learnt,
-  put-nowhere-reads.Asked,
-  put-nowhere-reads.Learnt,
-  kind-in-reads.Asked,
-  kind-in-reads.Learnt,
-  class-of-reads.Asked,
-  class-of-reads.Learnt,
-  put-count-reads.Asked,
-  put-count-reads.Learnt,
-  type-in-reads.Asked,
-  type-in-reads.Learnt,
-  put-offset-reads.Asked,
-  put-offset-reads.Learnt,
-  number-in-reads.Asked,
-  number-in-reads.Learnt,
-  from-innermost-reads.Asked,
-  from-innermost-reads.Learnt,
-  operand-written-reads.Asked,
-  operand-written-reads.Learnt,
-  put-place-below t,
-  put-place.Post,
-) (put-place-at t) put-place.Post
-put-place-left-in-requires t c κs = search needs
-
-put-place-right-in-requires : (t : ℕ) → put-place-lts.Need-right-in-requires (
-  left-in-reads.Asked,
-  left-in-reads.Learnt,
-  right-in-reads.Asked,
-  right-in-reads.Learnt,
-  put-nowhere-reads.Asked,
-  put-nowhere-reads.Learnt,
-  kind-in-reads.Asked,
-  kind-in-reads.Learnt,
-  class-of-reads.Asked,
-  class-of-reads.Learnt,
-  put-count-reads.Asked,
-  put-count-reads.Learnt,
-  type-in-reads.Asked,
-  type-in-reads.Learnt,
-  put-offset-reads.Asked,
-  put-offset-reads.Learnt,
-  number-in-reads.Asked,
-  number-in-reads.Learnt,
-  from-innermost-reads.Asked,
-  from-innermost-reads.Learnt,
-  operand-written-reads.Asked,
-  operand-written-reads.Learnt,
-  put-place-below t,
-  put-place.Post,
-) (put-place-at t) put-place.Post
-put-place-right-in-requires t c κs = search needs
-
-put-place-put-nowhere-requires : (t : ℕ) → put-place-lts.Need-put-nowhere-requires (
-  left-in-reads.Asked,
-  left-in-reads.Learnt,
-  right-in-reads.Asked,
-  right-in-reads.Learnt,
-  put-nowhere-reads.Asked,
-  put-nowhere-reads.Learnt,
-  kind-in-reads.Asked,
-  kind-in-reads.Learnt,
-  class-of-reads.Asked,
-  class-of-reads.Learnt,
-  put-count-reads.Asked,
-  put-count-reads.Learnt,
-  type-in-reads.Asked,
-  type-in-reads.Learnt,
-  put-offset-reads.Asked,
-  put-offset-reads.Learnt,
-  number-in-reads.Asked,
-  number-in-reads.Learnt,
-  from-innermost-reads.Asked,
-  from-innermost-reads.Learnt,
-  operand-written-reads.Asked,
-  operand-written-reads.Learnt,
-  put-place-below t,
-  put-place.Post,
-) (put-place-at t) put-place.Post
-put-place-put-nowhere-requires t c κs = search needs
-
-put-place-returns : (t : ℕ) → put-place-lts.Need-returns (
-  left-in-reads.Asked,
-  left-in-reads.Learnt,
-  right-in-reads.Asked,
-  right-in-reads.Learnt,
-  put-nowhere-reads.Asked,
-  put-nowhere-reads.Learnt,
-  kind-in-reads.Asked,
-  kind-in-reads.Learnt,
-  class-of-reads.Asked,
-  class-of-reads.Learnt,
-  put-count-reads.Asked,
-  put-count-reads.Learnt,
-  type-in-reads.Asked,
-  type-in-reads.Learnt,
-  put-offset-reads.Asked,
-  put-offset-reads.Learnt,
-  number-in-reads.Asked,
-  number-in-reads.Learnt,
-  from-innermost-reads.Asked,
-  from-innermost-reads.Learnt,
-  operand-written-reads.Asked,
-  operand-written-reads.Learnt,
-  put-place-below t,
-  put-place.Post,
-) (put-place-at t) put-place.Post
-put-place-returns t c = (place-left (c .before .before .before .before .before .before .before .before .args .types .now) (c .before .before .before .before .before .before .before .before .args .counters) (c .before .before .before .before .before .before .before .before .args .regions) (c .before .before .before .before .before .before .before .before .args .references .now) (c .before .before .before .before .before .before .before .before .args .from) _ _ (c .before .before .before .before .before .left-in .ensures) (c .before .before .before .before .right-in .ensures) _ _ _ (omega arith) (c .put-nowhere .ensures), c .before .before .before .before .before .before .before .before .pre .1 .3)
-
-put-place-put-nowhere-requires-2 : (t : ℕ) → put-place-lts.Need-put-nowhere-requires-2 (
-  left-in-reads.Asked,
-  left-in-reads.Learnt,
-  right-in-reads.Asked,
-  right-in-reads.Learnt,
-  put-nowhere-reads.Asked,
-  put-nowhere-reads.Learnt,
-  kind-in-reads.Asked,
-  kind-in-reads.Learnt,
-  class-of-reads.Asked,
-  class-of-reads.Learnt,
-  put-count-reads.Asked,
-  put-count-reads.Learnt,
-  type-in-reads.Asked,
-  type-in-reads.Learnt,
-  put-offset-reads.Asked,
-  put-offset-reads.Learnt,
-  number-in-reads.Asked,
-  number-in-reads.Learnt,
-  from-innermost-reads.Asked,
-  from-innermost-reads.Learnt,
-  operand-written-reads.Asked,
-  operand-written-reads.Learnt,
-  put-place-below t,
-  put-place.Post,
-) (put-place-at t) put-place.Post
-put-place-put-nowhere-requires-2 t c κs = search needs
-
-put-place-returns-2 : (t : ℕ) → put-place-lts.Need-returns-2 (
-  left-in-reads.Asked,
-  left-in-reads.Learnt,
-  right-in-reads.Asked,
-  right-in-reads.Learnt,
-  put-nowhere-reads.Asked,
-  put-nowhere-reads.Learnt,
-  kind-in-reads.Asked,
-  kind-in-reads.Learnt,
-  class-of-reads.Asked,
-  class-of-reads.Learnt,
-  put-count-reads.Asked,
-  put-count-reads.Learnt,
-  type-in-reads.Asked,
-  type-in-reads.Learnt,
-  put-offset-reads.Asked,
-  put-offset-reads.Learnt,
-  number-in-reads.Asked,
-  number-in-reads.Learnt,
-  from-innermost-reads.Asked,
-  from-innermost-reads.Learnt,
-  operand-written-reads.Asked,
-  operand-written-reads.Learnt,
-  put-place-below t,
-  put-place.Post,
-) (put-place-at t) put-place.Post
-put-place-returns-2 t c = (place-right (c .before .before .before .before .before .before .before .before .before .args .types .now) (c .before .before .before .before .before .before .before .before .before .args .counters) (c .before .before .before .before .before .before .before .before .before .args .regions) (c .before .before .before .before .before .before .before .before .before .args .references .now) (c .before .before .before .before .before .before .before .before .before .args .from) _ _ (c .before .before .before .before .before .before .left-in .ensures) (c .before .before .before .before .before .right-in .ensures) _ _ _ (omega arith) (c .put-nowhere2 .ensures), c .before .before .before .before .before .before .before .before .before .pre .1 .3)
-
-put-place-kind-in-requires : (t : ℕ) → put-place-lts.Need-kind-in-requires (
-  left-in-reads.Asked,
-  left-in-reads.Learnt,
-  right-in-reads.Asked,
-  right-in-reads.Learnt,
-  put-nowhere-reads.Asked,
-  put-nowhere-reads.Learnt,
-  kind-in-reads.Asked,
-  kind-in-reads.Learnt,
-  class-of-reads.Asked,
-  class-of-reads.Learnt,
-  put-count-reads.Asked,
-  put-count-reads.Learnt,
-  type-in-reads.Asked,
-  type-in-reads.Learnt,
-  put-offset-reads.Asked,
-  put-offset-reads.Learnt,
-  number-in-reads.Asked,
-  number-in-reads.Learnt,
-  from-innermost-reads.Asked,
-  from-innermost-reads.Learnt,
-  operand-written-reads.Asked,
-  operand-written-reads.Learnt,
-  put-place-below t,
-  put-place.Post,
-) (put-place-at t) put-place.Post
-put-place-kind-in-requires t c κs = search needs
-
-put-place-class-of-requires : (t : ℕ) → put-place-lts.Need-class-of-requires (
-  left-in-reads.Asked,
-  left-in-reads.Learnt,
-  right-in-reads.Asked,
-  right-in-reads.Learnt,
-  put-nowhere-reads.Asked,
-  put-nowhere-reads.Learnt,
-  kind-in-reads.Asked,
-  kind-in-reads.Learnt,
-  class-of-reads.Asked,
-  class-of-reads.Learnt,
-  put-count-reads.Asked,
-  put-count-reads.Learnt,
-  type-in-reads.Asked,
-  type-in-reads.Learnt,
-  put-offset-reads.Asked,
-  put-offset-reads.Learnt,
-  number-in-reads.Asked,
-  number-in-reads.Learnt,
-  from-innermost-reads.Asked,
-  from-innermost-reads.Learnt,
-  operand-written-reads.Asked,
-  operand-written-reads.Learnt,
-  put-place-below t,
-  put-place.Post,
-) (put-place-at t) put-place.Post
-put-place-class-of-requires t c κs = search needs
-
-put-place-enum-told : (t : ℕ) → put-place-lts.Need-enum-told (
-  left-in-reads.Asked,
-  left-in-reads.Learnt,
-  right-in-reads.Asked,
-  right-in-reads.Learnt,
-  put-nowhere-reads.Asked,
-  put-nowhere-reads.Learnt,
-  kind-in-reads.Asked,
-  kind-in-reads.Learnt,
-  class-of-reads.Asked,
-  class-of-reads.Learnt,
-  put-count-reads.Asked,
-  put-count-reads.Learnt,
-  type-in-reads.Asked,
-  type-in-reads.Learnt,
-  put-offset-reads.Asked,
-  put-offset-reads.Learnt,
-  number-in-reads.Asked,
-  number-in-reads.Learnt,
-  from-innermost-reads.Asked,
-  from-innermost-reads.Learnt,
-  operand-written-reads.Asked,
-  operand-written-reads.Learnt,
-  put-place-below t,
-  put-place.Post,
-) (put-place-at t) put-place.Post
-put-place-enum-told t c = search needs
-
-put-place-put-count-requires : (t : ℕ) → put-place-lts.Need-put-count-requires (
-  left-in-reads.Asked,
-  left-in-reads.Learnt,
-  right-in-reads.Asked,
-  right-in-reads.Learnt,
-  put-nowhere-reads.Asked,
-  put-nowhere-reads.Learnt,
-  kind-in-reads.Asked,
-  kind-in-reads.Learnt,
-  class-of-reads.Asked,
-  class-of-reads.Learnt,
-  put-count-reads.Asked,
-  put-count-reads.Learnt,
-  type-in-reads.Asked,
-  type-in-reads.Learnt,
-  put-offset-reads.Asked,
-  put-offset-reads.Learnt,
-  number-in-reads.Asked,
-  number-in-reads.Learnt,
-  from-innermost-reads.Asked,
-  from-innermost-reads.Learnt,
-  operand-written-reads.Asked,
-  operand-written-reads.Learnt,
-  put-place-below t,
-  put-place.Post,
-) (put-place-at t) put-place.Post
-put-place-put-count-requires t c κs = search needs
-
-put-place-type-in-requires : (t : ℕ) → put-place-lts.Need-type-in-requires (
-  left-in-reads.Asked,
-  left-in-reads.Learnt,
-  right-in-reads.Asked,
-  right-in-reads.Learnt,
-  put-nowhere-reads.Asked,
-  put-nowhere-reads.Learnt,
-  kind-in-reads.Asked,
-  kind-in-reads.Learnt,
-  class-of-reads.Asked,
-  class-of-reads.Learnt,
-  put-count-reads.Asked,
-  put-count-reads.Learnt,
-  type-in-reads.Asked,
-  type-in-reads.Learnt,
-  put-offset-reads.Asked,
-  put-offset-reads.Learnt,
-  number-in-reads.Asked,
-  number-in-reads.Learnt,
-  from-innermost-reads.Asked,
-  from-innermost-reads.Learnt,
-  operand-written-reads.Asked,
-  operand-written-reads.Learnt,
-  put-place-below t,
-  put-place.Post,
-) (put-place-at t) put-place.Post
-put-place-type-in-requires t c κs = search needs
-
-put-place-put-offset-requires : (t : ℕ) → put-place-lts.Need-put-offset-requires (
-  left-in-reads.Asked,
-  left-in-reads.Learnt,
-  right-in-reads.Asked,
-  right-in-reads.Learnt,
-  put-nowhere-reads.Asked,
-  put-nowhere-reads.Learnt,
-  kind-in-reads.Asked,
-  kind-in-reads.Learnt,
-  class-of-reads.Asked,
-  class-of-reads.Learnt,
-  put-count-reads.Asked,
-  put-count-reads.Learnt,
-  type-in-reads.Asked,
-  type-in-reads.Learnt,
-  put-offset-reads.Asked,
-  put-offset-reads.Learnt,
-  number-in-reads.Asked,
-  number-in-reads.Learnt,
-  from-innermost-reads.Asked,
-  from-innermost-reads.Learnt,
-  operand-written-reads.Asked,
-  operand-written-reads.Learnt,
-  put-place-below t,
-  put-place.Post,
-) (put-place-at t) put-place.Post
-put-place-put-offset-requires t c κs = (c .before .before .before .before .before .before .before .before .before .before .before .before .before .before .before .before .before .pre .1 .0, omega (arith, c .before .before .before .before .before .before .before .before .before .before .before .before .before .before .before .before .before .pre .1 .2))
-
-put-place-enum-told-2 : (t : ℕ) → put-place-lts.Need-enum-told-2 (
-  left-in-reads.Asked,
-  left-in-reads.Learnt,
-  right-in-reads.Asked,
-  right-in-reads.Learnt,
-  put-nowhere-reads.Asked,
-  put-nowhere-reads.Learnt,
-  kind-in-reads.Asked,
-  kind-in-reads.Learnt,
-  class-of-reads.Asked,
-  class-of-reads.Learnt,
-  put-count-reads.Asked,
-  put-count-reads.Learnt,
-  type-in-reads.Asked,
-  type-in-reads.Learnt,
-  put-offset-reads.Asked,
-  put-offset-reads.Learnt,
-  number-in-reads.Asked,
-  number-in-reads.Learnt,
-  from-innermost-reads.Asked,
-  from-innermost-reads.Learnt,
-  operand-written-reads.Asked,
-  operand-written-reads.Learnt,
-  put-place-below t,
-  put-place.Post,
-) (put-place-at t) put-place.Post
-put-place-enum-told-2 t c = search needs
-
-put-place-number-in-requires : (t : ℕ) → put-place-lts.Need-number-in-requires (
-  left-in-reads.Asked,
-  left-in-reads.Learnt,
-  right-in-reads.Asked,
-  right-in-reads.Learnt,
-  put-nowhere-reads.Asked,
-  put-nowhere-reads.Learnt,
-  kind-in-reads.Asked,
-  kind-in-reads.Learnt,
-  class-of-reads.Asked,
-  class-of-reads.Learnt,
-  put-count-reads.Asked,
-  put-count-reads.Learnt,
-  type-in-reads.Asked,
-  type-in-reads.Learnt,
-  put-offset-reads.Asked,
-  put-offset-reads.Learnt,
-  number-in-reads.Asked,
-  number-in-reads.Learnt,
-  from-innermost-reads.Asked,
-  from-innermost-reads.Learnt,
-  operand-written-reads.Asked,
-  operand-written-reads.Learnt,
-  put-place-below t,
-  put-place.Post,
-) (put-place-at t) put-place.Post
-put-place-number-in-requires t c κs = search needs
-
-put-place-from-innermost-requires : (t : ℕ) → put-place-lts.Need-from-innermost-requires (
-  left-in-reads.Asked,
-  left-in-reads.Learnt,
-  right-in-reads.Asked,
-  right-in-reads.Learnt,
-  put-nowhere-reads.Asked,
-  put-nowhere-reads.Learnt,
-  kind-in-reads.Asked,
-  kind-in-reads.Learnt,
-  class-of-reads.Asked,
-  class-of-reads.Learnt,
-  put-count-reads.Asked,
-  put-count-reads.Learnt,
-  type-in-reads.Asked,
-  type-in-reads.Learnt,
-  put-offset-reads.Asked,
-  put-offset-reads.Learnt,
-  number-in-reads.Asked,
-  number-in-reads.Learnt,
-  from-innermost-reads.Asked,
-  from-innermost-reads.Learnt,
-  operand-written-reads.Asked,
-  operand-written-reads.Learnt,
-  put-place-below t,
-  put-place.Post,
-) (put-place-at t) put-place.Post
-put-place-from-innermost-requires t c κs = search needs
-
-put-place-put-count-requires-2 : (t : ℕ) → put-place-lts.Need-put-count-requires-2 (
-  left-in-reads.Asked,
-  left-in-reads.Learnt,
-  right-in-reads.Asked,
-  right-in-reads.Learnt,
-  put-nowhere-reads.Asked,
-  put-nowhere-reads.Learnt,
-  kind-in-reads.Asked,
-  kind-in-reads.Learnt,
-  class-of-reads.Asked,
-  class-of-reads.Learnt,
-  put-count-reads.Asked,
-  put-count-reads.Learnt,
-  type-in-reads.Asked,
-  type-in-reads.Learnt,
-  put-offset-reads.Asked,
-  put-offset-reads.Learnt,
-  number-in-reads.Asked,
-  number-in-reads.Learnt,
-  from-innermost-reads.Asked,
-  from-innermost-reads.Learnt,
-  operand-written-reads.Asked,
-  operand-written-reads.Learnt,
-  put-place-below t,
-  put-place.Post,
-) (put-place-at t) put-place.Post
-put-place-put-count-requires-2 t c κs = search needs
-
-put-place-type-in-requires-2 : (t : ℕ) → put-place-lts.Need-type-in-requires-2 (
-  left-in-reads.Asked,
-  left-in-reads.Learnt,
-  right-in-reads.Asked,
-  right-in-reads.Learnt,
-  put-nowhere-reads.Asked,
-  put-nowhere-reads.Learnt,
-  kind-in-reads.Asked,
-  kind-in-reads.Learnt,
-  class-of-reads.Asked,
-  class-of-reads.Learnt,
-  put-count-reads.Asked,
-  put-count-reads.Learnt,
-  type-in-reads.Asked,
-  type-in-reads.Learnt,
-  put-offset-reads.Asked,
-  put-offset-reads.Learnt,
-  number-in-reads.Asked,
-  number-in-reads.Learnt,
-  from-innermost-reads.Asked,
-  from-innermost-reads.Learnt,
-  operand-written-reads.Asked,
-  operand-written-reads.Learnt,
-  put-place-below t,
-  put-place.Post,
-) (put-place-at t) put-place.Post
-put-place-type-in-requires-2 t c κs = search needs
-
-put-place-put-offset-requires-2 : (t : ℕ) → put-place-lts.Need-put-offset-requires-2 (
-  left-in-reads.Asked,
-  left-in-reads.Learnt,
-  right-in-reads.Asked,
-  right-in-reads.Learnt,
-  put-nowhere-reads.Asked,
-  put-nowhere-reads.Learnt,
-  kind-in-reads.Asked,
-  kind-in-reads.Learnt,
-  class-of-reads.Asked,
-  class-of-reads.Learnt,
-  put-count-reads.Asked,
-  put-count-reads.Learnt,
-  type-in-reads.Asked,
-  type-in-reads.Learnt,
-  put-offset-reads.Asked,
-  put-offset-reads.Learnt,
-  number-in-reads.Asked,
-  number-in-reads.Learnt,
-  from-innermost-reads.Asked,
-  from-innermost-reads.Learnt,
-  operand-written-reads.Asked,
-  operand-written-reads.Learnt,
-  put-place-below t,
-  put-place.Post,
-) (put-place-at t) put-place.Post
-put-place-put-offset-requires-2 t c κs = (c .before .before .before .before .before .before .before .before .before .before .before .before .before .before .before .before .before .before .before .pre .1 .0, omega (arith, c .before .before .before .before .before .before .before .before .before .before .before .before .before .before .before .before .before .before .before .pre .1 .2))
-
-put-place-enum-told-3 : (t : ℕ) → put-place-lts.Need-enum-told-3 (
-  left-in-reads.Asked,
-  left-in-reads.Learnt,
-  right-in-reads.Asked,
-  right-in-reads.Learnt,
-  put-nowhere-reads.Asked,
-  put-nowhere-reads.Learnt,
-  kind-in-reads.Asked,
-  kind-in-reads.Learnt,
-  class-of-reads.Asked,
-  class-of-reads.Learnt,
-  put-count-reads.Asked,
-  put-count-reads.Learnt,
-  type-in-reads.Asked,
-  type-in-reads.Learnt,
-  put-offset-reads.Asked,
-  put-offset-reads.Learnt,
-  number-in-reads.Asked,
-  number-in-reads.Learnt,
-  from-innermost-reads.Asked,
-  from-innermost-reads.Learnt,
-  operand-written-reads.Asked,
-  operand-written-reads.Learnt,
-  put-place-below t,
-  put-place.Post,
-) (put-place-at t) put-place.Post
-put-place-enum-told-3 t c = search needs
-
-put-place-operand-written-requires : (t : ℕ) → put-place-lts.Need-operand-written-requires (
-  left-in-reads.Asked,
-  left-in-reads.Learnt,
-  right-in-reads.Asked,
-  right-in-reads.Learnt,
-  put-nowhere-reads.Asked,
-  put-nowhere-reads.Learnt,
-  kind-in-reads.Asked,
-  kind-in-reads.Learnt,
-  class-of-reads.Asked,
-  class-of-reads.Learnt,
-  put-count-reads.Asked,
-  put-count-reads.Learnt,
-  type-in-reads.Asked,
-  type-in-reads.Learnt,
-  put-offset-reads.Asked,
-  put-offset-reads.Learnt,
-  number-in-reads.Asked,
-  number-in-reads.Learnt,
-  from-innermost-reads.Asked,
-  from-innermost-reads.Learnt,
-  operand-written-reads.Asked,
-  operand-written-reads.Learnt,
-  put-place-below t,
-  put-place.Post,
-) (put-place-at t) put-place.Post
-put-place-operand-written-requires t c κs = search needs
-
-put-place-mul-changes : (t : ℕ) → put-place-lts.Need-mul-changes (
-  left-in-reads.Asked,
-  left-in-reads.Learnt,
-  right-in-reads.Asked,
-  right-in-reads.Learnt,
-  put-nowhere-reads.Asked,
-  put-nowhere-reads.Learnt,
-  kind-in-reads.Asked,
-  kind-in-reads.Learnt,
-  class-of-reads.Asked,
-  class-of-reads.Learnt,
-  put-count-reads.Asked,
-  put-count-reads.Learnt,
-  type-in-reads.Asked,
-  type-in-reads.Learnt,
-  put-offset-reads.Asked,
-  put-offset-reads.Learnt,
-  number-in-reads.Asked,
-  number-in-reads.Learnt,
-  from-innermost-reads.Asked,
-  from-innermost-reads.Learnt,
-  operand-written-reads.Asked,
-  operand-written-reads.Learnt,
-  put-place-below t,
-  put-place.Post,
-) (put-place-at t) put-place.Post
-put-place-mul-changes t c = search needs
-
-put-place-element-write-changes : (t : ℕ) → put-place-lts.Need-element-write-changes (
-  left-in-reads.Asked,
-  left-in-reads.Learnt,
-  right-in-reads.Asked,
-  right-in-reads.Learnt,
-  put-nowhere-reads.Asked,
-  put-nowhere-reads.Learnt,
-  kind-in-reads.Asked,
-  kind-in-reads.Learnt,
-  class-of-reads.Asked,
-  class-of-reads.Learnt,
-  put-count-reads.Asked,
-  put-count-reads.Learnt,
-  type-in-reads.Asked,
-  type-in-reads.Learnt,
-  put-offset-reads.Asked,
-  put-offset-reads.Learnt,
-  number-in-reads.Asked,
-  number-in-reads.Learnt,
-  from-innermost-reads.Asked,
-  from-innermost-reads.Learnt,
-  operand-written-reads.Asked,
-  operand-written-reads.Learnt,
-  put-place-below t,
-  put-place.Post,
-) (put-place-at t) put-place.Post
-put-place-element-write-changes t c = search needs
-
-put-place-add-put-place : (t : ℕ) → put-place-lts.Need-add-put-place (
-  left-in-reads.Asked,
-  left-in-reads.Learnt,
-  right-in-reads.Asked,
-  right-in-reads.Learnt,
-  put-nowhere-reads.Asked,
-  put-nowhere-reads.Learnt,
-  kind-in-reads.Asked,
-  kind-in-reads.Learnt,
-  class-of-reads.Asked,
-  class-of-reads.Learnt,
-  put-count-reads.Asked,
-  put-count-reads.Learnt,
-  type-in-reads.Asked,
-  type-in-reads.Learnt,
-  put-offset-reads.Asked,
-  put-offset-reads.Learnt,
-  number-in-reads.Asked,
-  number-in-reads.Learnt,
-  from-innermost-reads.Asked,
-  from-innermost-reads.Learnt,
-  operand-written-reads.Asked,
-  operand-written-reads.Learnt,
-  put-place-below t,
-  put-place.Post,
-) (put-place-at t) put-place.Post
-put-place-add-put-place t c = search needs
-
-put-place-put-place-requires : (t : ℕ) → put-place-lts.Need-put-place-requires (
-  left-in-reads.Asked,
-  left-in-reads.Learnt,
-  right-in-reads.Asked,
-  right-in-reads.Learnt,
-  put-nowhere-reads.Asked,
-  put-nowhere-reads.Learnt,
-  kind-in-reads.Asked,
-  kind-in-reads.Learnt,
-  class-of-reads.Asked,
-  class-of-reads.Learnt,
-  put-count-reads.Asked,
-  put-count-reads.Learnt,
-  type-in-reads.Asked,
-  type-in-reads.Learnt,
-  put-offset-reads.Asked,
-  put-offset-reads.Learnt,
-  number-in-reads.Asked,
-  number-in-reads.Learnt,
-  from-innermost-reads.Asked,
-  from-innermost-reads.Learnt,
-  operand-written-reads.Asked,
-  operand-written-reads.Learnt,
-  put-place-below t,
-  put-place.Post,
-) (put-place-at t) put-place.Post
-put-place-put-place-requires t c κs = let h = written-below (changeOf (kindIn (getD (c .before .before .before .before .before .before .before .before .before .before .before .before .before .before .args .references .now) (c .before .before .before .before .before .before .before .before .before .before .before .before .before .before .args .from) 0))) (leftIn (getD (c .before .before .before .before .before .before .before .before .before .before .before .before .before .before .args .references .now) (c .before .before .before .before .before .before .before .before .before .before .before .before .before .before .args .from) 0)) (c .before .before .before .before .before .before .before .before .before .before .before .before .before .before .args .from) (omega (arith, c .before .before .before .before .before .before .before .before .before .before .before .left-in .ensures)) in (omega (arith, h, c .before .before .before .operand-written .ensures, c .before .before .before .before .before .before .before .before .before .before .before .before .before .before .pre .0), (c .before .before .before .before .before .before .before .before .before .before .before .before .before .before .pre .1 .0, omega (arith, h, c .before .before .before .operand-written .ensures, c .before .before .before .before .before .before .before .before .before .before .before .before .before .before .pre .1 .1), omega (arith, h, c .before .before .before .operand-written .ensures, c .before .before .before .before .before .before .before .before .before .before .before .before .before .before .pre .1 .2), length-set (c .before .before .before .before .before .before .before .before .before .before .before .before .before .before .args .changes .now) (c .before .before .before .before .before .before .before .before .before .before .before .before .before .before .args .depth) (getD (c .before .before .before .before .before .before .before .before .before .before .before .before .before .before .args .references .now) (c .before .before .before .before .before .before .before .before .before .before .before .before .before .before .args .from) 0) ∙ c .before .before .before .before .before .before .before .before .before .before .before .before .before .before .pre .1 .3))
-
-put-place-enum-told-4 : (t : ℕ) → put-place-lts.Need-enum-told-4 (
-  left-in-reads.Asked,
-  left-in-reads.Learnt,
-  right-in-reads.Asked,
-  right-in-reads.Learnt,
-  put-nowhere-reads.Asked,
-  put-nowhere-reads.Learnt,
-  kind-in-reads.Asked,
-  kind-in-reads.Learnt,
-  class-of-reads.Asked,
-  class-of-reads.Learnt,
-  put-count-reads.Asked,
-  put-count-reads.Learnt,
-  type-in-reads.Asked,
-  type-in-reads.Learnt,
-  put-offset-reads.Asked,
-  put-offset-reads.Learnt,
-  number-in-reads.Asked,
-  number-in-reads.Learnt,
-  from-innermost-reads.Asked,
-  from-innermost-reads.Learnt,
-  operand-written-reads.Asked,
-  operand-written-reads.Learnt,
-  put-place-below t,
-  put-place.Post,
-) (put-place-at t) put-place.Post
-put-place-enum-told-4 t c = search needs
-
-put-place-put-nowhere-requires-3 : (t : ℕ) → put-place-lts.Need-put-nowhere-requires-3 (
-  left-in-reads.Asked,
-  left-in-reads.Learnt,
-  right-in-reads.Asked,
-  right-in-reads.Learnt,
-  put-nowhere-reads.Asked,
-  put-nowhere-reads.Learnt,
-  kind-in-reads.Asked,
-  kind-in-reads.Learnt,
-  class-of-reads.Asked,
-  class-of-reads.Learnt,
-  put-count-reads.Asked,
-  put-count-reads.Learnt,
-  type-in-reads.Asked,
-  type-in-reads.Learnt,
-  put-offset-reads.Asked,
-  put-offset-reads.Learnt,
-  number-in-reads.Asked,
-  number-in-reads.Learnt,
-  from-innermost-reads.Asked,
-  from-innermost-reads.Learnt,
-  operand-written-reads.Asked,
-  operand-written-reads.Learnt,
-  put-place-below t,
-  put-place.Post,
-) (put-place-at t) put-place.Post
-put-place-put-nowhere-requires-3 t c κs = search needs
-
-put-place-enum-told-5 : (t : ℕ) → put-place-lts.Need-enum-told-5 (
-  left-in-reads.Asked,
-  left-in-reads.Learnt,
-  right-in-reads.Asked,
-  right-in-reads.Learnt,
-  put-nowhere-reads.Asked,
-  put-nowhere-reads.Learnt,
-  kind-in-reads.Asked,
-  kind-in-reads.Learnt,
-  class-of-reads.Asked,
-  class-of-reads.Learnt,
-  put-count-reads.Asked,
-  put-count-reads.Learnt,
-  type-in-reads.Asked,
-  type-in-reads.Learnt,
-  put-offset-reads.Asked,
-  put-offset-reads.Learnt,
-  number-in-reads.Asked,
-  number-in-reads.Learnt,
-  from-innermost-reads.Asked,
-  from-innermost-reads.Learnt,
-  operand-written-reads.Asked,
-  operand-written-reads.Learnt,
-  put-place-below t,
-  put-place.Post,
-) (put-place-at t) put-place.Post
-put-place-enum-told-5 t c = search needs
-
-put-place-put-nowhere-requires-4 : (t : ℕ) → put-place-lts.Need-put-nowhere-requires-4 (
-  left-in-reads.Asked,
-  left-in-reads.Learnt,
-  right-in-reads.Asked,
-  right-in-reads.Learnt,
-  put-nowhere-reads.Asked,
-  put-nowhere-reads.Learnt,
-  kind-in-reads.Asked,
-  kind-in-reads.Learnt,
-  class-of-reads.Asked,
-  class-of-reads.Learnt,
-  put-count-reads.Asked,
-  put-count-reads.Learnt,
-  type-in-reads.Asked,
-  type-in-reads.Learnt,
-  put-offset-reads.Asked,
-  put-offset-reads.Learnt,
-  number-in-reads.Asked,
-  number-in-reads.Learnt,
-  from-innermost-reads.Asked,
-  from-innermost-reads.Learnt,
-  operand-written-reads.Asked,
-  operand-written-reads.Learnt,
-  put-place-below t,
-  put-place.Post,
-) (put-place-at t) put-place.Post
-put-place-put-nowhere-requires-4 t c κs = search needs
-
-put-place-enum-told-6 : (t : ℕ) → put-place-lts.Need-enum-told-6 (
-  left-in-reads.Asked,
-  left-in-reads.Learnt,
-  right-in-reads.Asked,
-  right-in-reads.Learnt,
-  put-nowhere-reads.Asked,
-  put-nowhere-reads.Learnt,
-  kind-in-reads.Asked,
-  kind-in-reads.Learnt,
-  class-of-reads.Asked,
-  class-of-reads.Learnt,
-  put-count-reads.Asked,
-  put-count-reads.Learnt,
-  type-in-reads.Asked,
-  type-in-reads.Learnt,
-  put-offset-reads.Asked,
-  put-offset-reads.Learnt,
-  number-in-reads.Asked,
-  number-in-reads.Learnt,
-  from-innermost-reads.Asked,
-  from-innermost-reads.Learnt,
-  operand-written-reads.Asked,
-  operand-written-reads.Learnt,
-  put-place-below t,
-  put-place.Post,
-) (put-place-at t) put-place.Post
-put-place-enum-told-6 t c = search needs
-
-put-place-put-nowhere-requires-5 : (t : ℕ) → put-place-lts.Need-put-nowhere-requires-5 (
-  left-in-reads.Asked,
-  left-in-reads.Learnt,
-  right-in-reads.Asked,
-  right-in-reads.Learnt,
-  put-nowhere-reads.Asked,
-  put-nowhere-reads.Learnt,
-  kind-in-reads.Asked,
-  kind-in-reads.Learnt,
-  class-of-reads.Asked,
-  class-of-reads.Learnt,
-  put-count-reads.Asked,
-  put-count-reads.Learnt,
-  type-in-reads.Asked,
-  type-in-reads.Learnt,
-  put-offset-reads.Asked,
-  put-offset-reads.Learnt,
-  number-in-reads.Asked,
-  number-in-reads.Learnt,
-  from-innermost-reads.Asked,
-  from-innermost-reads.Learnt,
-  operand-written-reads.Asked,
-  operand-written-reads.Learnt,
-  put-place-below t,
-  put-place.Post,
-) (put-place-at t) put-place.Post
-put-place-put-nowhere-requires-5 t c κs = search needs
-
-put-place-enum-told-7 : (t : ℕ) → put-place-lts.Need-enum-told-7 (
-  left-in-reads.Asked,
-  left-in-reads.Learnt,
-  right-in-reads.Asked,
-  right-in-reads.Learnt,
-  put-nowhere-reads.Asked,
-  put-nowhere-reads.Learnt,
-  kind-in-reads.Asked,
-  kind-in-reads.Learnt,
-  class-of-reads.Asked,
-  class-of-reads.Learnt,
-  put-count-reads.Asked,
-  put-count-reads.Learnt,
-  type-in-reads.Asked,
-  type-in-reads.Learnt,
-  put-offset-reads.Asked,
-  put-offset-reads.Learnt,
-  number-in-reads.Asked,
-  number-in-reads.Learnt,
-  from-innermost-reads.Asked,
-  from-innermost-reads.Learnt,
-  operand-written-reads.Asked,
-  operand-written-reads.Learnt,
-  put-place-below t,
-  put-place.Post,
-) (put-place-at t) put-place.Post
-put-place-enum-told-7 t c = search needs
-
-put-place-put-nowhere-requires-6 : (t : ℕ) → put-place-lts.Need-put-nowhere-requires-6 (
-  left-in-reads.Asked,
-  left-in-reads.Learnt,
-  right-in-reads.Asked,
-  right-in-reads.Learnt,
-  put-nowhere-reads.Asked,
-  put-nowhere-reads.Learnt,
-  kind-in-reads.Asked,
-  kind-in-reads.Learnt,
-  class-of-reads.Asked,
-  class-of-reads.Learnt,
-  put-count-reads.Asked,
-  put-count-reads.Learnt,
-  type-in-reads.Asked,
-  type-in-reads.Learnt,
-  put-offset-reads.Asked,
-  put-offset-reads.Learnt,
-  number-in-reads.Asked,
-  number-in-reads.Learnt,
-  from-innermost-reads.Asked,
-  from-innermost-reads.Learnt,
-  operand-written-reads.Asked,
-  operand-written-reads.Learnt,
-  put-place-below t,
-  put-place.Post,
-) (put-place-at t) put-place.Post
-put-place-put-nowhere-requires-6 t c κs = search needs
-
-put-place-returns-3 : (t : ℕ) → put-place-lts.Need-returns-3 (
-  left-in-reads.Asked,
-  left-in-reads.Learnt,
-  right-in-reads.Asked,
-  right-in-reads.Learnt,
-  put-nowhere-reads.Asked,
-  put-nowhere-reads.Learnt,
-  kind-in-reads.Asked,
-  kind-in-reads.Learnt,
-  class-of-reads.Asked,
-  class-of-reads.Learnt,
-  put-count-reads.Asked,
-  put-count-reads.Learnt,
-  type-in-reads.Asked,
-  type-in-reads.Learnt,
-  put-offset-reads.Asked,
-  put-offset-reads.Learnt,
-  number-in-reads.Asked,
-  number-in-reads.Learnt,
-  from-innermost-reads.Asked,
-  from-innermost-reads.Learnt,
-  operand-written-reads.Asked,
-  operand-written-reads.Learnt,
-  put-place-below t,
-  put-place.Post,
-) (put-place-at t) put-place.Post
-put-place-returns-3 t c = (place-output (c .before .before .before .before .before .before .before .before .before .before .before .before .before .before .before .before .before .before .args .types .now) (c .before .before .before .before .before .before .before .before .before .before .before .before .before .before .before .before .before .before .args .counters) (c .before .before .before .before .before .before .before .before .before .before .before .before .before .before .before .before .before .before .args .regions) (c .before .before .before .before .before .before .before .before .before .before .before .before .before .before .before .before .before .before .args .references .now) (c .before .before .before .before .before .before .before .before .before .before .before .before .before .before .before .before .before .before .args .from) _ _ (c .before .before .before .before .before .before .before .before .before .before .before .before .before .before .before .left-in .ensures) (c .before .before .before .before .before .before .before .before .before .before .before .before .before .before .right-in .ensures) _ _ _ (omega arith) (omega arith) _ _ _ (c .before .before .before .before .before .before .before .before .before .before .class-of .ensures) (c .before .before .before .before .before .before .before .before .before .before .before .kind-in .ensures) (c .before .before .before .before .before .before .before .before .enum-told .given .1) refl _ _ (c .before .type-in .ensures) (c .before .before .before .before .before .put-count .ensures) (c .put-offset .ensures), c .before .before .before .before .before .before .before .before .before .before .before .before .before .before .before .before .before .before .pre .1 .3)
-
-put-place-returns-4 : (t : ℕ) → put-place-lts.Need-returns-4 (
-  left-in-reads.Asked,
-  left-in-reads.Learnt,
-  right-in-reads.Asked,
-  right-in-reads.Learnt,
-  put-nowhere-reads.Asked,
-  put-nowhere-reads.Learnt,
-  kind-in-reads.Asked,
-  kind-in-reads.Learnt,
-  class-of-reads.Asked,
-  class-of-reads.Learnt,
-  put-count-reads.Asked,
-  put-count-reads.Learnt,
-  type-in-reads.Asked,
-  type-in-reads.Learnt,
-  put-offset-reads.Asked,
-  put-offset-reads.Learnt,
-  number-in-reads.Asked,
-  number-in-reads.Learnt,
-  from-innermost-reads.Asked,
-  from-innermost-reads.Learnt,
-  operand-written-reads.Asked,
-  operand-written-reads.Learnt,
-  put-place-below t,
-  put-place.Post,
-) (put-place-at t) put-place.Post
-put-place-returns-4 t c = (place-region (c .before .before .before .before .before .before .before .before .before .before .before .before .before .before .before .before .before .before .before .before .args .types .now) (c .before .before .before .before .before .before .before .before .before .before .before .before .before .before .before .before .before .before .before .before .args .counters) (c .before .before .before .before .before .before .before .before .before .before .before .before .before .before .before .before .before .before .before .before .args .regions) (c .before .before .before .before .before .before .before .before .before .before .before .before .before .before .before .before .before .before .before .before .args .references .now) (c .before .before .before .before .before .before .before .before .before .before .before .before .before .before .before .before .before .before .before .before .args .from) _ _ (c .before .before .before .before .before .before .before .before .before .before .before .before .before .before .before .before .before .left-in .ensures) (c .before .before .before .before .before .before .before .before .before .before .before .before .before .before .before .before .right-in .ensures) _ _ _ (omega arith) (omega arith) _ _ _ (c .before .before .before .before .before .before .before .before .before .before .before .before .class-of .ensures) (c .before .before .before .before .before .before .before .before .before .before .before .before .before .kind-in .ensures) (c .before .before .before .before .before .before .before .before .before .before .enum-told2 .given .1) refl _ _ _ _ (c .before .before .before .before .before .before .before .number-in .ensures) (c .before .before .before .before .before .before .from-innermost .ensures) (c .before .type-in2 .ensures) (c .before .before .before .before .before .put-count2 .ensures) (c .put-offset2 .ensures), c .before .before .before .before .before .before .before .before .before .before .before .before .before .before .before .before .before .before .before .before .pre .1 .3)
-
-put-place-returns-5 : (t : ℕ) → put-place-lts.Need-returns-5 (
-  left-in-reads.Asked,
-  left-in-reads.Learnt,
-  right-in-reads.Asked,
-  right-in-reads.Learnt,
-  put-nowhere-reads.Asked,
-  put-nowhere-reads.Learnt,
-  kind-in-reads.Asked,
-  kind-in-reads.Learnt,
-  class-of-reads.Asked,
-  class-of-reads.Learnt,
-  put-count-reads.Asked,
-  put-count-reads.Learnt,
-  type-in-reads.Asked,
-  type-in-reads.Learnt,
-  put-offset-reads.Asked,
-  put-offset-reads.Learnt,
-  number-in-reads.Asked,
-  number-in-reads.Learnt,
-  from-innermost-reads.Asked,
-  from-innermost-reads.Learnt,
-  operand-written-reads.Asked,
-  operand-written-reads.Learnt,
-  put-place-below t,
-  put-place.Post,
-) (put-place-at t) put-place.Post
-put-place-returns-5 t c = (place-rearranged (c .before .before .before .before .before .before .before .before .before .before .before .before .before .before .before .args .types .now) (c .before .before .before .before .before .before .before .before .before .before .before .before .before .before .before .args .counters) (c .before .before .before .before .before .before .before .before .before .before .before .before .before .before .before .args .regions) (c .before .before .before .before .before .before .before .before .before .before .before .before .before .before .before .args .references .now) (c .before .before .before .before .before .before .before .before .before .before .before .before .before .before .before .args .from) _ _ (c .before .before .before .before .before .before .before .before .before .before .before .before .left-in .ensures) (c .before .before .before .before .before .before .before .before .before .before .before .right-in .ensures) _ _ _ (omega arith) (omega arith) _ _ _ (c .before .before .before .before .before .before .before .class-of .ensures) (c .before .before .before .before .before .before .before .before .kind-in .ensures) (c .before .before .before .before .before .enum-told3 .given .1) refl _ _ (path-push (c .before .before .before .before .before .before .before .before .before .before .before .before .before .before .before .args .changes .now) (c .before .before .before .before .before .before .before .before .before .before .before .before .before .before .before .args .depth) _ (omega (arith, c .before .before .before .before .before .before .before .before .before .before .before .before .before .before .before .pre .1 .1, c .before .before .before .before .before .before .before .before .before .before .before .before .before .before .before .pre .1 .2, c .before .before .before .before .before .before .before .before .before .before .before .before .before .before .before .pre .1 .3, c .before .before .before .before .before .before .before .before .before .before .if1 .left))) (c .before .before .before .before .operand-written .ensures) (c .put-place .ensures .0), c .put-place .ensures .1)
-
-put-place-returns-6 : (t : ℕ) → put-place-lts.Need-returns-6 (
-  left-in-reads.Asked,
-  left-in-reads.Learnt,
-  right-in-reads.Asked,
-  right-in-reads.Learnt,
-  put-nowhere-reads.Asked,
-  put-nowhere-reads.Learnt,
-  kind-in-reads.Asked,
-  kind-in-reads.Learnt,
-  class-of-reads.Asked,
-  class-of-reads.Learnt,
-  put-count-reads.Asked,
-  put-count-reads.Learnt,
-  type-in-reads.Asked,
-  type-in-reads.Learnt,
-  put-offset-reads.Asked,
-  put-offset-reads.Learnt,
-  number-in-reads.Asked,
-  number-in-reads.Learnt,
-  from-innermost-reads.Asked,
-  from-innermost-reads.Learnt,
-  operand-written-reads.Asked,
-  operand-written-reads.Learnt,
-  put-place-below t,
-  put-place.Post,
-) (put-place-at t) put-place.Post
-put-place-returns-6 t c = (place-nowhere (c .before .before .before .before .before .before .before .before .before .before .before .before .before .args .types .now) (c .before .before .before .before .before .before .before .before .before .before .before .before .before .args .counters) (c .before .before .before .before .before .before .before .before .before .before .before .before .before .args .regions) (c .before .before .before .before .before .before .before .before .before .before .before .before .before .args .references .now) (c .before .before .before .before .before .before .before .before .before .before .before .before .before .args .from) _ _ (c .before .before .before .before .before .before .before .before .before .before .left-in .ensures) (c .before .before .before .before .before .before .before .before .before .right-in .ensures) _ _ _ (omega arith) (omega arith) _ _ _ (c .before .before .before .before .before .class-of .ensures) (c .before .before .before .before .before .before .kind-in .ensures) (c .before .before .before .enum-told4 .given .1) refl (c .put-nowhere3 .ensures), c .before .before .before .before .before .before .before .before .before .before .before .before .before .pre .1 .3)
-
-put-place-returns-7 : (t : ℕ) → put-place-lts.Need-returns-7 (
-  left-in-reads.Asked,
-  left-in-reads.Learnt,
-  right-in-reads.Asked,
-  right-in-reads.Learnt,
-  put-nowhere-reads.Asked,
-  put-nowhere-reads.Learnt,
-  kind-in-reads.Asked,
-  kind-in-reads.Learnt,
-  class-of-reads.Asked,
-  class-of-reads.Learnt,
-  put-count-reads.Asked,
-  put-count-reads.Learnt,
-  type-in-reads.Asked,
-  type-in-reads.Learnt,
-  put-offset-reads.Asked,
-  put-offset-reads.Learnt,
-  number-in-reads.Asked,
-  number-in-reads.Learnt,
-  from-innermost-reads.Asked,
-  from-innermost-reads.Learnt,
-  operand-written-reads.Asked,
-  operand-written-reads.Learnt,
-  put-place-below t,
-  put-place.Post,
-) (put-place-at t) put-place.Post
-put-place-returns-7 t c = (place-nowhere (c .before .before .before .before .before .before .before .before .before .before .before .before .before .args .types .now) (c .before .before .before .before .before .before .before .before .before .before .before .before .before .args .counters) (c .before .before .before .before .before .before .before .before .before .before .before .before .before .args .regions) (c .before .before .before .before .before .before .before .before .before .before .before .before .before .args .references .now) (c .before .before .before .before .before .before .before .before .before .before .before .before .before .args .from) _ _ (c .before .before .before .before .before .before .before .before .before .before .left-in .ensures) (c .before .before .before .before .before .before .before .before .before .right-in .ensures) _ _ _ (omega arith) (omega arith) _ _ _ (c .before .before .before .before .before .class-of .ensures) (c .before .before .before .before .before .before .kind-in .ensures) (c .before .before .before .enum-told5 .given .1) refl (c .put-nowhere4 .ensures), c .before .before .before .before .before .before .before .before .before .before .before .before .before .pre .1 .3)
-
-put-place-returns-8 : (t : ℕ) → put-place-lts.Need-returns-8 (
-  left-in-reads.Asked,
-  left-in-reads.Learnt,
-  right-in-reads.Asked,
-  right-in-reads.Learnt,
-  put-nowhere-reads.Asked,
-  put-nowhere-reads.Learnt,
-  kind-in-reads.Asked,
-  kind-in-reads.Learnt,
-  class-of-reads.Asked,
-  class-of-reads.Learnt,
-  put-count-reads.Asked,
-  put-count-reads.Learnt,
-  type-in-reads.Asked,
-  type-in-reads.Learnt,
-  put-offset-reads.Asked,
-  put-offset-reads.Learnt,
-  number-in-reads.Asked,
-  number-in-reads.Learnt,
-  from-innermost-reads.Asked,
-  from-innermost-reads.Learnt,
-  operand-written-reads.Asked,
-  operand-written-reads.Learnt,
-  put-place-below t,
-  put-place.Post,
-) (put-place-at t) put-place.Post
-put-place-returns-8 t c = (place-nowhere (c .before .before .before .before .before .before .before .before .before .before .before .before .before .args .types .now) (c .before .before .before .before .before .before .before .before .before .before .before .before .before .args .counters) (c .before .before .before .before .before .before .before .before .before .before .before .before .before .args .regions) (c .before .before .before .before .before .before .before .before .before .before .before .before .before .args .references .now) (c .before .before .before .before .before .before .before .before .before .before .before .before .before .args .from) _ _ (c .before .before .before .before .before .before .before .before .before .before .left-in .ensures) (c .before .before .before .before .before .before .before .before .before .right-in .ensures) _ _ _ (omega arith) (omega arith) _ _ _ (c .before .before .before .before .before .class-of .ensures) (c .before .before .before .before .before .before .kind-in .ensures) (c .before .before .before .enum-told6 .given .1) refl (c .put-nowhere5 .ensures), c .before .before .before .before .before .before .before .before .before .before .before .before .before .pre .1 .3)
-
-put-place-returns-9 : (t : ℕ) → put-place-lts.Need-returns-9 (
-  left-in-reads.Asked,
-  left-in-reads.Learnt,
-  right-in-reads.Asked,
-  right-in-reads.Learnt,
-  put-nowhere-reads.Asked,
-  put-nowhere-reads.Learnt,
-  kind-in-reads.Asked,
-  kind-in-reads.Learnt,
-  class-of-reads.Asked,
-  class-of-reads.Learnt,
-  put-count-reads.Asked,
-  put-count-reads.Learnt,
-  type-in-reads.Asked,
-  type-in-reads.Learnt,
-  put-offset-reads.Asked,
-  put-offset-reads.Learnt,
-  number-in-reads.Asked,
-  number-in-reads.Learnt,
-  from-innermost-reads.Asked,
-  from-innermost-reads.Learnt,
-  operand-written-reads.Asked,
-  operand-written-reads.Learnt,
-  put-place-below t,
-  put-place.Post,
-) (put-place-at t) put-place.Post
-put-place-returns-9 t c = (place-nowhere (c .before .before .before .before .before .before .before .before .before .before .before .before .before .args .types .now) (c .before .before .before .before .before .before .before .before .before .before .before .before .before .args .counters) (c .before .before .before .before .before .before .before .before .before .before .before .before .before .args .regions) (c .before .before .before .before .before .before .before .before .before .before .before .before .before .args .references .now) (c .before .before .before .before .before .before .before .before .before .before .before .before .before .args .from) _ _ (c .before .before .before .before .before .before .before .before .before .before .left-in .ensures) (c .before .before .before .before .before .before .before .before .before .right-in .ensures) _ _ _ (omega arith) (omega arith) _ _ _ (c .before .before .before .before .before .class-of .ensures) (c .before .before .before .before .before .before .kind-in .ensures) (c .before .before .before .enum-told7 .given .1) refl (c .put-nowhere6 .ensures), c .before .before .before .before .before .before .before .before .before .before .before .before .before .pre .1 .3)
-
-pub +put-place-spec : {M : Type 1} → statement M
-+put-place-spec = close μ-put-place λ t. put-place-lts.spec (
+-- what the callees of `put_place` ask, and what they promise
+abbrev put-place-calls : ℕ → put-place-lts.Claims
+put-place-calls t = (
   left-in-reads.Asked,
   left-in-reads.Learnt,
   right-in-reads.Asked,
@@ -1213,6 +66,258 @@ pub +put-place-spec : {M : Type 1} → statement M
   put-place-below t,
   put-place.Post,
 )
+
+put-place-mul-node : (t : ℕ) → put-place-lts.Need-mul-node (put-place-calls t) (put-place-at t) put-place.Post
+put-place-mul-node t c = search needs
+
+put-place-element-copy-out-node : (t : ℕ) → put-place-lts.Need-element-copy-out-node (put-place-calls t) (put-place-at t) put-place.Post
+put-place-element-copy-out-node t c = search needs
+
+put-place-left-in-requires : (t : ℕ) → put-place-lts.Need-left-in-requires (put-place-calls t) (put-place-at t) put-place.Post
+put-place-left-in-requires t c κs = search needs
+
+put-place-right-in-requires : (t : ℕ) → put-place-lts.Need-right-in-requires (put-place-calls t) (put-place-at t) put-place.Post
+put-place-right-in-requires t c κs = search needs
+
+put-place-put-nowhere-requires : (t : ℕ) → put-place-lts.Need-put-nowhere-requires (put-place-calls t) (put-place-at t) put-place.Post
+put-place-put-nowhere-requires t c κs = search needs
+
+put-place-returns : (t : ℕ) → put-place-lts.Need-returns (put-place-calls t) (put-place-at t) put-place.Post
+put-place-returns t c =
+    let entry = c .before .before .before .before .before .before .before .before in (
+      place-left (entry .args .types .now) (entry .args .counters) (entry .args .regions)
+          (entry .args .references .now) (entry .args .from) _ _ (c .before .before .before .before .before .left-in .ensures)
+          (c .before .before .before .before .right-in .ensures) _ _ _ (omega arith) (c .put-nowhere .ensures),
+      entry .pre .1 .3,
+    )
+
+put-place-put-nowhere-requires-2 : (t : ℕ) → put-place-lts.Need-put-nowhere-requires-2 (put-place-calls t) (put-place-at t) put-place.Post
+put-place-put-nowhere-requires-2 t c κs = search needs
+
+put-place-returns-2 : (t : ℕ) → put-place-lts.Need-returns-2 (put-place-calls t) (put-place-at t) put-place.Post
+put-place-returns-2 t c =
+    let entry = c .before .before .before .before .before .before .before .before .before in (
+      place-right (entry .args .types .now) (entry .args .counters) (entry .args .regions)
+          (entry .args .references .now) (entry .args .from) _ _ (c .before .before .before .before .before .before .left-in .ensures)
+          (c .before .before .before .before .before .right-in .ensures) _ _ _ (omega arith)
+          (c .put-nowhere2 .ensures),
+      entry .pre .1 .3,
+    )
+
+put-place-kind-in-requires : (t : ℕ) → put-place-lts.Need-kind-in-requires (put-place-calls t) (put-place-at t) put-place.Post
+put-place-kind-in-requires t c κs = search needs
+
+put-place-class-of-requires : (t : ℕ) → put-place-lts.Need-class-of-requires (put-place-calls t) (put-place-at t) put-place.Post
+put-place-class-of-requires t c κs = search needs
+
+put-place-enum-told : (t : ℕ) → put-place-lts.Need-enum-told (put-place-calls t) (put-place-at t) put-place.Post
+put-place-enum-told t c = search needs
+
+put-place-put-count-requires : (t : ℕ) → put-place-lts.Need-put-count-requires (put-place-calls t) (put-place-at t) put-place.Post
+put-place-put-count-requires t c κs = search needs
+
+put-place-type-in-requires : (t : ℕ) → put-place-lts.Need-type-in-requires (put-place-calls t) (put-place-at t) put-place.Post
+put-place-type-in-requires t c κs = search needs
+
+put-place-put-offset-requires : (t : ℕ) → put-place-lts.Need-put-offset-requires (put-place-calls t) (put-place-at t) put-place.Post
+put-place-put-offset-requires t c κs =
+    let entry = c .before .before .before .before .before .before .before .before .before .before .before
+    .before .before .before .before .before .before in
+    (entry .pre .1 .0, omega (arith, entry .pre .1 .2))
+
+put-place-enum-told-2 : (t : ℕ) → put-place-lts.Need-enum-told-2 (put-place-calls t) (put-place-at t) put-place.Post
+put-place-enum-told-2 t c = search needs
+
+put-place-number-in-requires : (t : ℕ) → put-place-lts.Need-number-in-requires (put-place-calls t) (put-place-at t) put-place.Post
+put-place-number-in-requires t c κs = search needs
+
+put-place-from-innermost-requires : (t : ℕ) → put-place-lts.Need-from-innermost-requires (put-place-calls t) (put-place-at t) put-place.Post
+put-place-from-innermost-requires t c κs = search needs
+
+put-place-put-count-requires-2 : (t : ℕ) → put-place-lts.Need-put-count-requires-2 (put-place-calls t) (put-place-at t) put-place.Post
+put-place-put-count-requires-2 t c κs = search needs
+
+put-place-type-in-requires-2 : (t : ℕ) → put-place-lts.Need-type-in-requires-2 (put-place-calls t) (put-place-at t) put-place.Post
+put-place-type-in-requires-2 t c κs = search needs
+
+put-place-put-offset-requires-2 : (t : ℕ) → put-place-lts.Need-put-offset-requires-2 (put-place-calls t) (put-place-at t) put-place.Post
+put-place-put-offset-requires-2 t c κs =
+    let entry = c .before .before .before .before .before .before .before .before .before .before .before
+    .before .before .before .before .before .before .before .before in
+    (entry .pre .1 .0, omega (arith, entry .pre .1 .2))
+
+put-place-enum-told-3 : (t : ℕ) → put-place-lts.Need-enum-told-3 (put-place-calls t) (put-place-at t) put-place.Post
+put-place-enum-told-3 t c = search needs
+
+put-place-operand-written-requires :
+    (t : ℕ) → put-place-lts.Need-operand-written-requires (put-place-calls t) (put-place-at t) put-place.Post
+put-place-operand-written-requires t c κs = search needs
+
+put-place-mul-changes : (t : ℕ) → put-place-lts.Need-mul-changes (put-place-calls t) (put-place-at t) put-place.Post
+put-place-mul-changes t c = search needs
+
+put-place-element-write-changes : (t : ℕ) → put-place-lts.Need-element-write-changes (put-place-calls t) (put-place-at t) put-place.Post
+put-place-element-write-changes t c = search needs
+
+put-place-add-put-place : (t : ℕ) → put-place-lts.Need-add-put-place (put-place-calls t) (put-place-at t) put-place.Post
+put-place-add-put-place t c = search needs
+
+put-place-put-place-requires : (t : ℕ) → put-place-lts.Need-put-place-requires (put-place-calls t) (put-place-at t) put-place.Post
+put-place-put-place-requires t c κs =
+    let entry = c .before .before .before .before .before .before .before .before .before .before .before
+    .before .before .before in
+    let at-operand-written = c .before .before .before .operand-written in
+    let h = written-below (changeOf (kindIn (getD (entry .args .references .now) (entry .args .from) 0)))
+    (leftIn (getD (entry .args .references .now) (entry .args .from) 0)) (entry .args .from)
+    (omega (
+      arith,
+      c .before .before .before .before .before .before .before .before .before .before .before
+          .left-in .ensures,
+    )) in (
+      omega (arith, h, at-operand-written .ensures, entry .pre .0),
+      (
+        entry .pre .1 .0,
+        omega
+            (arith, h, at-operand-written .ensures, entry .pre .1 .1),
+        omega
+            (arith, h, at-operand-written .ensures, entry .pre .1 .2),
+        length-set (entry .args .changes .now)
+            (entry .args .depth) (getD (entry .args .references .now) (entry .args .from) 0) ∙ entry .pre .1 .3,
+      ),
+    )
+
+put-place-enum-told-4 : (t : ℕ) → put-place-lts.Need-enum-told-4 (put-place-calls t) (put-place-at t) put-place.Post
+put-place-enum-told-4 t c = search needs
+
+put-place-put-nowhere-requires-3 : (t : ℕ) → put-place-lts.Need-put-nowhere-requires-3 (put-place-calls t) (put-place-at t) put-place.Post
+put-place-put-nowhere-requires-3 t c κs = search needs
+
+put-place-enum-told-5 : (t : ℕ) → put-place-lts.Need-enum-told-5 (put-place-calls t) (put-place-at t) put-place.Post
+put-place-enum-told-5 t c = search needs
+
+put-place-put-nowhere-requires-4 : (t : ℕ) → put-place-lts.Need-put-nowhere-requires-4 (put-place-calls t) (put-place-at t) put-place.Post
+put-place-put-nowhere-requires-4 t c κs = search needs
+
+put-place-enum-told-6 : (t : ℕ) → put-place-lts.Need-enum-told-6 (put-place-calls t) (put-place-at t) put-place.Post
+put-place-enum-told-6 t c = search needs
+
+put-place-put-nowhere-requires-5 : (t : ℕ) → put-place-lts.Need-put-nowhere-requires-5 (put-place-calls t) (put-place-at t) put-place.Post
+put-place-put-nowhere-requires-5 t c κs = search needs
+
+put-place-enum-told-7 : (t : ℕ) → put-place-lts.Need-enum-told-7 (put-place-calls t) (put-place-at t) put-place.Post
+put-place-enum-told-7 t c = search needs
+
+put-place-put-nowhere-requires-6 : (t : ℕ) → put-place-lts.Need-put-nowhere-requires-6 (put-place-calls t) (put-place-at t) put-place.Post
+put-place-put-nowhere-requires-6 t c κs = search needs
+
+put-place-returns-3 : (t : ℕ) → put-place-lts.Need-returns-3 (put-place-calls t) (put-place-at t) put-place.Post
+put-place-returns-3 t c =
+    let entry = c .before .before .before .before .before .before .before .before .before .before .before
+    .before .before .before .before .before .before .before in (
+      place-output (entry .args .types .now) (entry .args .counters) (entry .args .regions)
+          (entry .args .references .now) (entry .args .from) _ _ (c .before .before .before .before .before .before .before .before .before .before .before
+          .before .before .before .before .left-in .ensures) (c .before .before .before .before .before .before .before .before .before .before .before
+          .before .before .before .right-in .ensures) _ _ _ (omega arith) (omega arith) _ _ _
+          (c .before .before .before .before .before .before .before .before .before .before .class-of .ensures)
+          (c .before .before .before .before .before .before .before .before .before .before .before .kind-in .ensures)
+          (c .before .before .before .before .before .before .before .before .enum-told .given .1) refl _ _
+          (c .before .type-in .ensures) (c .before .before .before .before .before .put-count .ensures)
+          (c .put-offset .ensures),
+      entry .pre .1 .3,
+    )
+
+put-place-returns-4 : (t : ℕ) → put-place-lts.Need-returns-4 (put-place-calls t) (put-place-at t) put-place.Post
+put-place-returns-4 t c =
+    let entry = c .before .before .before .before .before .before .before .before .before .before .before
+    .before .before .before .before .before .before .before .before .before in (
+      place-region (entry .args .types .now) (entry .args .counters) (entry .args .regions)
+          (entry .args .references .now) (entry .args .from) _ _ (c .before .before .before .before .before .before .before .before .before .before .before
+          .before .before .before .before .before .before .left-in .ensures) (c .before .before .before .before .before .before .before .before .before .before .before
+          .before .before .before .before .before .right-in .ensures) _ _ _ (omega arith) (omega arith) _ _ _
+          (c .before .before .before .before .before .before .before .before .before .before .before
+          .before .class-of .ensures) (c .before .before .before .before .before .before .before .before .before .before .before
+          .before .before .kind-in .ensures) (c .before .before .before .before .before .before .before .before .before .before .enum-told2 .given .1)
+          refl _ _ _ _ (c .before .before .before .before .before .before .before .number-in .ensures)
+          (c .before .before .before .before .before .before .from-innermost .ensures) (c .before .type-in2 .ensures)
+          (c .before .before .before .before .before .put-count2 .ensures) (c .put-offset2 .ensures),
+      entry .pre .1 .3,
+    )
+
+put-place-returns-5 : (t : ℕ) → put-place-lts.Need-returns-5 (put-place-calls t) (put-place-at t) put-place.Post
+put-place-returns-5 t c =
+    let entry = c .before .before .before .before .before .before .before .before .before .before .before
+    .before .before .before .before in (
+      place-rearranged (entry .args .types .now) (entry .args .counters) (entry .args .regions)
+          (entry .args .references .now) (entry .args .from) _ _ (c .before .before .before .before .before .before .before .before .before .before .before
+          .before .left-in .ensures) (c .before .before .before .before .before .before .before .before .before .before .before
+          .right-in .ensures) _ _ _ (omega arith) (omega arith) _ _ _ (c .before .before .before .before .before .before .before .class-of .ensures)
+          (c .before .before .before .before .before .before .before .before .kind-in .ensures)
+          (c .before .before .before .before .before .enum-told3 .given .1) refl _ _ (path-push
+          (entry .args .changes .now) (entry .args .depth) _ (omega (
+            arith,
+            entry .pre .1 .1,
+            entry .pre .1 .2,
+            entry .pre .1 .3,
+            c .before .before .before .before .before .before .before .before .before .before .if1 .left,
+          )))
+          (c .before .before .before .before .operand-written .ensures) (c .put-place .ensures .0),
+      c .put-place .ensures .1,
+    )
+
+put-place-returns-6 : (t : ℕ) → put-place-lts.Need-returns-6 (put-place-calls t) (put-place-at t) put-place.Post
+put-place-returns-6 t c =
+    let entry = c .before .before .before .before .before .before .before .before .before .before .before
+    .before .before in (
+      place-nowhere (entry .args .types .now) (entry .args .counters) (entry .args .regions)
+          (entry .args .references .now) (entry .args .from) _ _ (c .before .before .before .before .before .before .before .before .before .before .left-in .ensures)
+          (c .before .before .before .before .before .before .before .before .before .right-in .ensures) _ _ _
+          (omega arith) (omega arith) _ _ _ (c .before .before .before .before .before .class-of .ensures)
+          (c .before .before .before .before .before .before .kind-in .ensures)
+          (c .before .before .before .enum-told4 .given .1) refl (c .put-nowhere3 .ensures),
+      entry .pre .1 .3,
+    )
+
+put-place-returns-7 : (t : ℕ) → put-place-lts.Need-returns-7 (put-place-calls t) (put-place-at t) put-place.Post
+put-place-returns-7 t c =
+    let entry = c .before .before .before .before .before .before .before .before .before .before .before
+    .before .before in (
+      place-nowhere (entry .args .types .now) (entry .args .counters) (entry .args .regions)
+          (entry .args .references .now) (entry .args .from) _ _ (c .before .before .before .before .before .before .before .before .before .before .left-in .ensures)
+          (c .before .before .before .before .before .before .before .before .before .right-in .ensures) _ _ _
+          (omega arith) (omega arith) _ _ _ (c .before .before .before .before .before .class-of .ensures)
+          (c .before .before .before .before .before .before .kind-in .ensures)
+          (c .before .before .before .enum-told5 .given .1) refl (c .put-nowhere4 .ensures),
+      entry .pre .1 .3,
+    )
+
+put-place-returns-8 : (t : ℕ) → put-place-lts.Need-returns-8 (put-place-calls t) (put-place-at t) put-place.Post
+put-place-returns-8 t c =
+    let entry = c .before .before .before .before .before .before .before .before .before .before .before
+    .before .before in (
+      place-nowhere (entry .args .types .now) (entry .args .counters) (entry .args .regions)
+          (entry .args .references .now) (entry .args .from) _ _ (c .before .before .before .before .before .before .before .before .before .before .left-in .ensures)
+          (c .before .before .before .before .before .before .before .before .before .right-in .ensures) _ _ _
+          (omega arith) (omega arith) _ _ _ (c .before .before .before .before .before .class-of .ensures)
+          (c .before .before .before .before .before .before .kind-in .ensures)
+          (c .before .before .before .enum-told6 .given .1) refl (c .put-nowhere5 .ensures),
+      entry .pre .1 .3,
+    )
+
+put-place-returns-9 : (t : ℕ) → put-place-lts.Need-returns-9 (put-place-calls t) (put-place-at t) put-place.Post
+put-place-returns-9 t c =
+    let entry = c .before .before .before .before .before .before .before .before .before .before .before
+    .before .before in (
+      place-nowhere (entry .args .types .now) (entry .args .counters) (entry .args .regions)
+          (entry .args .references .now) (entry .args .from) _ _ (c .before .before .before .before .before .before .before .before .before .before .left-in .ensures)
+          (c .before .before .before .before .before .before .before .before .before .right-in .ensures) _ _ _
+          (omega arith) (omega arith) _ _ _ (c .before .before .before .before .before .class-of .ensures)
+          (c .before .before .before .before .before .before .kind-in .ensures)
+          (c .before .before .before .enum-told7 .given .1) refl (c .put-nowhere6 .ensures),
+      entry .pre .1 .3,
+    )
+
+pub +put-place-spec : {M : Type 1} → statement M
++put-place-spec = close μ-put-place λ t. put-place-lts.spec (put-place-calls t)
     (put-place-at t)
     put-place.Post
     (put-place-mul-node t)

@@ -21,13 +21,21 @@ returns-5 : tie.Need-returns-5
 returns-5 c = rw (c .if5 .taken) refl
 
 returns-6 : tie.Need-returns-6
-returns-6 c = class-low (c .before .before .before .before .before .before .args .kind) (c .before .before .before .before .before .if1 .left) (c .before .before .before .before .if2 .left) (c .before .before .before .if3 .left) (c .before .before .if4 .left) (c .before .if5 .left) (omega arith)
+returns-6 c = class-low (c .before .before .before .before .before .before .args .kind)
+    (c .before .before .before .before .before .if1 .left) (c .before .before .before .before .if2 .left)
+    (c .before .before .before .if3 .left) (c .before .before .if4 .left) (c .before .if5 .left) (omega arith)
 
 returns-7 : tie.Need-returns-7
-returns-7 c = class-operation (c .before .before .before .before .before .before .before .args .kind) (c .before .before .before .before .before .before .if1 .left) (c .before .before .before .before .before .if2 .left) (c .before .before .before .before .if3 .left) (c .before .before .before .if4 .left) (c .before .before .if5 .left) (omega arith) (omega arith)
+returns-7 c = class-operation (c .before .before .before .before .before .before .before .args .kind)
+    (c .before .before .before .before .before .before .if1 .left)
+    (c .before .before .before .before .before .if2 .left) (c .before .before .before .before .if3 .left)
+    (c .before .before .before .if4 .left) (c .before .before .if5 .left) (omega arith) (omega arith)
 
 returns-8 : tie.Need-returns-8
-returns-8 c = class-high (c .before .before .before .before .before .before .before .args .kind) (c .before .before .before .before .before .before .if1 .left) (c .before .before .before .before .before .if2 .left) (c .before .before .before .before .if3 .left) (c .before .before .before .if4 .left) (c .before .before .if5 .left) (omega arith) (omega arith)
+returns-8 c = class-high (c .before .before .before .before .before .before .before .args .kind)
+    (c .before .before .before .before .before .before .if1 .left)
+    (c .before .before .before .before .before .if2 .left) (c .before .before .before .before .if3 .left)
+    (c .before .before .before .if4 .left) (c .before .before .if5 .left) (omega arith) (omega arith)
 
 pub class-of-spec : {M : Type 1} → statement M
 class-of-spec =

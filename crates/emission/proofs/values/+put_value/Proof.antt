@@ -6,7 +6,8 @@ use mathlib.Core.Path.{refl, _∙_}
 use Prim.Native.Nat.{ℕ, _<_}
 use borrow.Fn.Kinds.{In}
 use borrow.Fn.PlainCycle.{Measures, is, falls, and}
-use Rattle.emission.specs.Laws.Values.{path-agree, path-push, below-push, value-left, value-right, value-literal, value-input, value-region, value-output, value-negation, value-operation, value-rearranged}
+use Rattle.emission.specs.Laws.Values.{path-agree, path-push, below-push, value-left, value-right, value-literal, value-input}
+use Rattle.emission.specs.Laws.Values.{value-region, value-output, value-negation, value-operation, value-rearranged}
 use Rattle.emission.specs.Laws.Operands.{read-below}
 use Rattle.emission.specs.Laws.Table.{put-none-past}
 use Rattle.emission.specs.Changes.{changeOf, pathOf}
@@ -38,1352 +39,9 @@ abbrev put-value-below : ℕ → In 6 put-value-kinds.ps
 put-value-below t =
     and 6 put-value-kinds.ps (falls 6 put-value-kinds.ps _<_ μ-put-value t) put-value.Pre
 
-put-value-mul-node : (t : ℕ) → put-value-lts.Need-mul-node (
-  left-in-reads.Asked,
-  left-in-reads.Learnt,
-  right-in-reads.Asked,
-  right-in-reads.Learnt,
-  put-count-reads.Asked,
-  put-count-reads.Learnt,
-  kind-in-reads.Asked,
-  kind-in-reads.Learnt,
-  class-of-reads.Asked,
-  class-of-reads.Learnt,
-  number-in-reads.Asked,
-  number-in-reads.Learnt,
-  put-literal-reads.Asked,
-  put-literal-reads.Learnt,
-  type-in-reads.Asked,
-  type-in-reads.Learnt,
-  put-offset-reads.Asked,
-  put-offset-reads.Learnt,
-  from-innermost-reads.Asked,
-  from-innermost-reads.Learnt,
-  put-value-below t,
-  put-value.Post,
-  operand-read-reads.Asked,
-  operand-read-reads.Learnt,
-) (put-value-at t) put-value.Post
-put-value-mul-node t c = search needs
-
-put-value-element-copy-out-node : (t : ℕ) → put-value-lts.Need-element-copy-out-node (
-  left-in-reads.Asked,
-  left-in-reads.Learnt,
-  right-in-reads.Asked,
-  right-in-reads.Learnt,
-  put-count-reads.Asked,
-  put-count-reads.Learnt,
-  kind-in-reads.Asked,
-  kind-in-reads.Learnt,
-  class-of-reads.Asked,
-  class-of-reads.Learnt,
-  number-in-reads.Asked,
-  number-in-reads.Learnt,
-  put-literal-reads.Asked,
-  put-literal-reads.Learnt,
-  type-in-reads.Asked,
-  type-in-reads.Learnt,
-  put-offset-reads.Asked,
-  put-offset-reads.Learnt,
-  from-innermost-reads.Asked,
-  from-innermost-reads.Learnt,
-  put-value-below t,
-  put-value.Post,
-  operand-read-reads.Asked,
-  operand-read-reads.Learnt,
-) (put-value-at t) put-value.Post
-put-value-element-copy-out-node t c = search needs
-
-put-value-left-in-requires : (t : ℕ) → put-value-lts.Need-left-in-requires (
-  left-in-reads.Asked,
-  left-in-reads.Learnt,
-  right-in-reads.Asked,
-  right-in-reads.Learnt,
-  put-count-reads.Asked,
-  put-count-reads.Learnt,
-  kind-in-reads.Asked,
-  kind-in-reads.Learnt,
-  class-of-reads.Asked,
-  class-of-reads.Learnt,
-  number-in-reads.Asked,
-  number-in-reads.Learnt,
-  put-literal-reads.Asked,
-  put-literal-reads.Learnt,
-  type-in-reads.Asked,
-  type-in-reads.Learnt,
-  put-offset-reads.Asked,
-  put-offset-reads.Learnt,
-  from-innermost-reads.Asked,
-  from-innermost-reads.Learnt,
-  put-value-below t,
-  put-value.Post,
-  operand-read-reads.Asked,
-  operand-read-reads.Learnt,
-) (put-value-at t) put-value.Post
-put-value-left-in-requires t c κs = search needs
-
-put-value-right-in-requires : (t : ℕ) → put-value-lts.Need-right-in-requires (
-  left-in-reads.Asked,
-  left-in-reads.Learnt,
-  right-in-reads.Asked,
-  right-in-reads.Learnt,
-  put-count-reads.Asked,
-  put-count-reads.Learnt,
-  kind-in-reads.Asked,
-  kind-in-reads.Learnt,
-  class-of-reads.Asked,
-  class-of-reads.Learnt,
-  number-in-reads.Asked,
-  number-in-reads.Learnt,
-  put-literal-reads.Asked,
-  put-literal-reads.Learnt,
-  type-in-reads.Asked,
-  type-in-reads.Learnt,
-  put-offset-reads.Asked,
-  put-offset-reads.Learnt,
-  from-innermost-reads.Asked,
-  from-innermost-reads.Learnt,
-  put-value-below t,
-  put-value.Post,
-  operand-read-reads.Asked,
-  operand-read-reads.Learnt,
-) (put-value-at t) put-value.Post
-put-value-right-in-requires t c κs = search needs
-
-put-value-returns : (t : ℕ) → put-value-lts.Need-returns (
-  left-in-reads.Asked,
-  left-in-reads.Learnt,
-  right-in-reads.Asked,
-  right-in-reads.Learnt,
-  put-count-reads.Asked,
-  put-count-reads.Learnt,
-  kind-in-reads.Asked,
-  kind-in-reads.Learnt,
-  class-of-reads.Asked,
-  class-of-reads.Learnt,
-  number-in-reads.Asked,
-  number-in-reads.Learnt,
-  put-literal-reads.Asked,
-  put-literal-reads.Learnt,
-  type-in-reads.Asked,
-  type-in-reads.Learnt,
-  put-offset-reads.Asked,
-  put-offset-reads.Learnt,
-  from-innermost-reads.Asked,
-  from-innermost-reads.Learnt,
-  put-value-below t,
-  put-value.Post,
-  operand-read-reads.Asked,
-  operand-read-reads.Learnt,
-) (put-value-at t) put-value.Post
-put-value-returns t c = (put-none-past _ _ _ _ (omega arith), (refl, c .before .before .before .before .before .pre .1 .3))
-
-put-value-put-count-requires : (t : ℕ) → put-value-lts.Need-put-count-requires (
-  left-in-reads.Asked,
-  left-in-reads.Learnt,
-  right-in-reads.Asked,
-  right-in-reads.Learnt,
-  put-count-reads.Asked,
-  put-count-reads.Learnt,
-  kind-in-reads.Asked,
-  kind-in-reads.Learnt,
-  class-of-reads.Asked,
-  class-of-reads.Learnt,
-  number-in-reads.Asked,
-  number-in-reads.Learnt,
-  put-literal-reads.Asked,
-  put-literal-reads.Learnt,
-  type-in-reads.Asked,
-  type-in-reads.Learnt,
-  put-offset-reads.Asked,
-  put-offset-reads.Learnt,
-  from-innermost-reads.Asked,
-  from-innermost-reads.Learnt,
-  put-value-below t,
-  put-value.Post,
-  operand-read-reads.Asked,
-  operand-read-reads.Learnt,
-) (put-value-at t) put-value.Post
-put-value-put-count-requires t c κs = search needs
-
-put-value-returns-2 : (t : ℕ) → put-value-lts.Need-returns-2 (
-  left-in-reads.Asked,
-  left-in-reads.Learnt,
-  right-in-reads.Asked,
-  right-in-reads.Learnt,
-  put-count-reads.Asked,
-  put-count-reads.Learnt,
-  kind-in-reads.Asked,
-  kind-in-reads.Learnt,
-  class-of-reads.Asked,
-  class-of-reads.Learnt,
-  number-in-reads.Asked,
-  number-in-reads.Learnt,
-  put-literal-reads.Asked,
-  put-literal-reads.Learnt,
-  type-in-reads.Asked,
-  type-in-reads.Learnt,
-  put-offset-reads.Asked,
-  put-offset-reads.Learnt,
-  from-innermost-reads.Asked,
-  from-innermost-reads.Learnt,
-  put-value-below t,
-  put-value.Post,
-  operand-read-reads.Asked,
-  operand-read-reads.Learnt,
-) (put-value-at t) put-value.Post
-put-value-returns-2 t c = (value-left (c .before .before .before .before .before .before .before .before .before .args .types .now) (c .before .before .before .before .before .before .before .before .before .args .plan .now) (c .before .before .before .before .before .before .before .before .before .args .counters) (c .before .before .before .before .before .before .before .before .before .args .regions) (c .before .before .before .before .before .before .before .before .before .args .references .now) (c .before .before .before .before .before .before .before .before .before .args .from) _ _ (c .before .before .before .before .before .before .left-in .ensures) (c .before .before .before .before .before .right-in .ensures) _ _ _ (omega arith) (c .put-count .ensures), (refl, c .before .before .before .before .before .before .before .before .before .pre .1 .3))
-
-put-value-put-count-requires-2 : (t : ℕ) → put-value-lts.Need-put-count-requires-2 (
-  left-in-reads.Asked,
-  left-in-reads.Learnt,
-  right-in-reads.Asked,
-  right-in-reads.Learnt,
-  put-count-reads.Asked,
-  put-count-reads.Learnt,
-  kind-in-reads.Asked,
-  kind-in-reads.Learnt,
-  class-of-reads.Asked,
-  class-of-reads.Learnt,
-  number-in-reads.Asked,
-  number-in-reads.Learnt,
-  put-literal-reads.Asked,
-  put-literal-reads.Learnt,
-  type-in-reads.Asked,
-  type-in-reads.Learnt,
-  put-offset-reads.Asked,
-  put-offset-reads.Learnt,
-  from-innermost-reads.Asked,
-  from-innermost-reads.Learnt,
-  put-value-below t,
-  put-value.Post,
-  operand-read-reads.Asked,
-  operand-read-reads.Learnt,
-) (put-value-at t) put-value.Post
-put-value-put-count-requires-2 t c κs = search needs
-
-put-value-returns-3 : (t : ℕ) → put-value-lts.Need-returns-3 (
-  left-in-reads.Asked,
-  left-in-reads.Learnt,
-  right-in-reads.Asked,
-  right-in-reads.Learnt,
-  put-count-reads.Asked,
-  put-count-reads.Learnt,
-  kind-in-reads.Asked,
-  kind-in-reads.Learnt,
-  class-of-reads.Asked,
-  class-of-reads.Learnt,
-  number-in-reads.Asked,
-  number-in-reads.Learnt,
-  put-literal-reads.Asked,
-  put-literal-reads.Learnt,
-  type-in-reads.Asked,
-  type-in-reads.Learnt,
-  put-offset-reads.Asked,
-  put-offset-reads.Learnt,
-  from-innermost-reads.Asked,
-  from-innermost-reads.Learnt,
-  put-value-below t,
-  put-value.Post,
-  operand-read-reads.Asked,
-  operand-read-reads.Learnt,
-) (put-value-at t) put-value.Post
-put-value-returns-3 t c = (value-right (c .before .before .before .before .before .before .before .before .before .before .args .types .now) (c .before .before .before .before .before .before .before .before .before .before .args .plan .now) (c .before .before .before .before .before .before .before .before .before .before .args .counters) (c .before .before .before .before .before .before .before .before .before .before .args .regions) (c .before .before .before .before .before .before .before .before .before .before .args .references .now) (c .before .before .before .before .before .before .before .before .before .before .args .from) _ _ (c .before .before .before .before .before .before .before .left-in .ensures) (c .before .before .before .before .before .before .right-in .ensures) _ _ _ (omega arith) (c .put-count2 .ensures), (refl, c .before .before .before .before .before .before .before .before .before .before .pre .1 .3))
-
-put-value-kind-in-requires : (t : ℕ) → put-value-lts.Need-kind-in-requires (
-  left-in-reads.Asked,
-  left-in-reads.Learnt,
-  right-in-reads.Asked,
-  right-in-reads.Learnt,
-  put-count-reads.Asked,
-  put-count-reads.Learnt,
-  kind-in-reads.Asked,
-  kind-in-reads.Learnt,
-  class-of-reads.Asked,
-  class-of-reads.Learnt,
-  number-in-reads.Asked,
-  number-in-reads.Learnt,
-  put-literal-reads.Asked,
-  put-literal-reads.Learnt,
-  type-in-reads.Asked,
-  type-in-reads.Learnt,
-  put-offset-reads.Asked,
-  put-offset-reads.Learnt,
-  from-innermost-reads.Asked,
-  from-innermost-reads.Learnt,
-  put-value-below t,
-  put-value.Post,
-  operand-read-reads.Asked,
-  operand-read-reads.Learnt,
-) (put-value-at t) put-value.Post
-put-value-kind-in-requires t c κs = search needs
-
-put-value-class-of-requires : (t : ℕ) → put-value-lts.Need-class-of-requires (
-  left-in-reads.Asked,
-  left-in-reads.Learnt,
-  right-in-reads.Asked,
-  right-in-reads.Learnt,
-  put-count-reads.Asked,
-  put-count-reads.Learnt,
-  kind-in-reads.Asked,
-  kind-in-reads.Learnt,
-  class-of-reads.Asked,
-  class-of-reads.Learnt,
-  number-in-reads.Asked,
-  number-in-reads.Learnt,
-  put-literal-reads.Asked,
-  put-literal-reads.Learnt,
-  type-in-reads.Asked,
-  type-in-reads.Learnt,
-  put-offset-reads.Asked,
-  put-offset-reads.Learnt,
-  from-innermost-reads.Asked,
-  from-innermost-reads.Learnt,
-  put-value-below t,
-  put-value.Post,
-  operand-read-reads.Asked,
-  operand-read-reads.Learnt,
-) (put-value-at t) put-value.Post
-put-value-class-of-requires t c κs = search needs
-
-put-value-enum-told : (t : ℕ) → put-value-lts.Need-enum-told (
-  left-in-reads.Asked,
-  left-in-reads.Learnt,
-  right-in-reads.Asked,
-  right-in-reads.Learnt,
-  put-count-reads.Asked,
-  put-count-reads.Learnt,
-  kind-in-reads.Asked,
-  kind-in-reads.Learnt,
-  class-of-reads.Asked,
-  class-of-reads.Learnt,
-  number-in-reads.Asked,
-  number-in-reads.Learnt,
-  put-literal-reads.Asked,
-  put-literal-reads.Learnt,
-  type-in-reads.Asked,
-  type-in-reads.Learnt,
-  put-offset-reads.Asked,
-  put-offset-reads.Learnt,
-  from-innermost-reads.Asked,
-  from-innermost-reads.Learnt,
-  put-value-below t,
-  put-value.Post,
-  operand-read-reads.Asked,
-  operand-read-reads.Learnt,
-) (put-value-at t) put-value.Post
-put-value-enum-told t c = search needs
-
-put-value-number-in-requires : (t : ℕ) → put-value-lts.Need-number-in-requires (
-  left-in-reads.Asked,
-  left-in-reads.Learnt,
-  right-in-reads.Asked,
-  right-in-reads.Learnt,
-  put-count-reads.Asked,
-  put-count-reads.Learnt,
-  kind-in-reads.Asked,
-  kind-in-reads.Learnt,
-  class-of-reads.Asked,
-  class-of-reads.Learnt,
-  number-in-reads.Asked,
-  number-in-reads.Learnt,
-  put-literal-reads.Asked,
-  put-literal-reads.Learnt,
-  type-in-reads.Asked,
-  type-in-reads.Learnt,
-  put-offset-reads.Asked,
-  put-offset-reads.Learnt,
-  from-innermost-reads.Asked,
-  from-innermost-reads.Learnt,
-  put-value-below t,
-  put-value.Post,
-  operand-read-reads.Asked,
-  operand-read-reads.Learnt,
-) (put-value-at t) put-value.Post
-put-value-number-in-requires t c κs = search needs
-
-put-value-put-literal-requires : (t : ℕ) → put-value-lts.Need-put-literal-requires (
-  left-in-reads.Asked,
-  left-in-reads.Learnt,
-  right-in-reads.Asked,
-  right-in-reads.Learnt,
-  put-count-reads.Asked,
-  put-count-reads.Learnt,
-  kind-in-reads.Asked,
-  kind-in-reads.Learnt,
-  class-of-reads.Asked,
-  class-of-reads.Learnt,
-  number-in-reads.Asked,
-  number-in-reads.Learnt,
-  put-literal-reads.Asked,
-  put-literal-reads.Learnt,
-  type-in-reads.Asked,
-  type-in-reads.Learnt,
-  put-offset-reads.Asked,
-  put-offset-reads.Learnt,
-  from-innermost-reads.Asked,
-  from-innermost-reads.Learnt,
-  put-value-below t,
-  put-value.Post,
-  operand-read-reads.Asked,
-  operand-read-reads.Learnt,
-) (put-value-at t) put-value.Post
-put-value-put-literal-requires t c κs = search needs
-
-put-value-enum-told-2 : (t : ℕ) → put-value-lts.Need-enum-told-2 (
-  left-in-reads.Asked,
-  left-in-reads.Learnt,
-  right-in-reads.Asked,
-  right-in-reads.Learnt,
-  put-count-reads.Asked,
-  put-count-reads.Learnt,
-  kind-in-reads.Asked,
-  kind-in-reads.Learnt,
-  class-of-reads.Asked,
-  class-of-reads.Learnt,
-  number-in-reads.Asked,
-  number-in-reads.Learnt,
-  put-literal-reads.Asked,
-  put-literal-reads.Learnt,
-  type-in-reads.Asked,
-  type-in-reads.Learnt,
-  put-offset-reads.Asked,
-  put-offset-reads.Learnt,
-  from-innermost-reads.Asked,
-  from-innermost-reads.Learnt,
-  put-value-below t,
-  put-value.Post,
-  operand-read-reads.Asked,
-  operand-read-reads.Learnt,
-) (put-value-at t) put-value.Post
-put-value-enum-told-2 t c = search needs
-
-put-value-number-in-requires-2 : (t : ℕ) → put-value-lts.Need-number-in-requires-2 (
-  left-in-reads.Asked,
-  left-in-reads.Learnt,
-  right-in-reads.Asked,
-  right-in-reads.Learnt,
-  put-count-reads.Asked,
-  put-count-reads.Learnt,
-  kind-in-reads.Asked,
-  kind-in-reads.Learnt,
-  class-of-reads.Asked,
-  class-of-reads.Learnt,
-  number-in-reads.Asked,
-  number-in-reads.Learnt,
-  put-literal-reads.Asked,
-  put-literal-reads.Learnt,
-  type-in-reads.Asked,
-  type-in-reads.Learnt,
-  put-offset-reads.Asked,
-  put-offset-reads.Learnt,
-  from-innermost-reads.Asked,
-  from-innermost-reads.Learnt,
-  put-value-below t,
-  put-value.Post,
-  operand-read-reads.Asked,
-  operand-read-reads.Learnt,
-) (put-value-at t) put-value.Post
-put-value-number-in-requires-2 t c κs = search needs
-
-put-value-put-count-requires-3 : (t : ℕ) → put-value-lts.Need-put-count-requires-3 (
-  left-in-reads.Asked,
-  left-in-reads.Learnt,
-  right-in-reads.Asked,
-  right-in-reads.Learnt,
-  put-count-reads.Asked,
-  put-count-reads.Learnt,
-  kind-in-reads.Asked,
-  kind-in-reads.Learnt,
-  class-of-reads.Asked,
-  class-of-reads.Learnt,
-  number-in-reads.Asked,
-  number-in-reads.Learnt,
-  put-literal-reads.Asked,
-  put-literal-reads.Learnt,
-  type-in-reads.Asked,
-  type-in-reads.Learnt,
-  put-offset-reads.Asked,
-  put-offset-reads.Learnt,
-  from-innermost-reads.Asked,
-  from-innermost-reads.Learnt,
-  put-value-below t,
-  put-value.Post,
-  operand-read-reads.Asked,
-  operand-read-reads.Learnt,
-) (put-value-at t) put-value.Post
-put-value-put-count-requires-3 t c κs = search needs
-
-put-value-type-in-requires : (t : ℕ) → put-value-lts.Need-type-in-requires (
-  left-in-reads.Asked,
-  left-in-reads.Learnt,
-  right-in-reads.Asked,
-  right-in-reads.Learnt,
-  put-count-reads.Asked,
-  put-count-reads.Learnt,
-  kind-in-reads.Asked,
-  kind-in-reads.Learnt,
-  class-of-reads.Asked,
-  class-of-reads.Learnt,
-  number-in-reads.Asked,
-  number-in-reads.Learnt,
-  put-literal-reads.Asked,
-  put-literal-reads.Learnt,
-  type-in-reads.Asked,
-  type-in-reads.Learnt,
-  put-offset-reads.Asked,
-  put-offset-reads.Learnt,
-  from-innermost-reads.Asked,
-  from-innermost-reads.Learnt,
-  put-value-below t,
-  put-value.Post,
-  operand-read-reads.Asked,
-  operand-read-reads.Learnt,
-) (put-value-at t) put-value.Post
-put-value-type-in-requires t c κs = search needs
-
-put-value-put-offset-requires : (t : ℕ) → put-value-lts.Need-put-offset-requires (
-  left-in-reads.Asked,
-  left-in-reads.Learnt,
-  right-in-reads.Asked,
-  right-in-reads.Learnt,
-  put-count-reads.Asked,
-  put-count-reads.Learnt,
-  kind-in-reads.Asked,
-  kind-in-reads.Learnt,
-  class-of-reads.Asked,
-  class-of-reads.Learnt,
-  number-in-reads.Asked,
-  number-in-reads.Learnt,
-  put-literal-reads.Asked,
-  put-literal-reads.Learnt,
-  type-in-reads.Asked,
-  type-in-reads.Learnt,
-  put-offset-reads.Asked,
-  put-offset-reads.Learnt,
-  from-innermost-reads.Asked,
-  from-innermost-reads.Learnt,
-  put-value-below t,
-  put-value.Post,
-  operand-read-reads.Asked,
-  operand-read-reads.Learnt,
-) (put-value-at t) put-value.Post
-put-value-put-offset-requires t c κs = (c .before .before .before .before .before .before .before .before .before .before .before .before .before .before .before .before .before .before .before .pre .1 .0, omega (arith, c .before .before .before .before .before .before .before .before .before .before .before .before .before .before .before .before .before .before .before .pre .1 .2))
-
-put-value-enum-told-3 : (t : ℕ) → put-value-lts.Need-enum-told-3 (
-  left-in-reads.Asked,
-  left-in-reads.Learnt,
-  right-in-reads.Asked,
-  right-in-reads.Learnt,
-  put-count-reads.Asked,
-  put-count-reads.Learnt,
-  kind-in-reads.Asked,
-  kind-in-reads.Learnt,
-  class-of-reads.Asked,
-  class-of-reads.Learnt,
-  number-in-reads.Asked,
-  number-in-reads.Learnt,
-  put-literal-reads.Asked,
-  put-literal-reads.Learnt,
-  type-in-reads.Asked,
-  type-in-reads.Learnt,
-  put-offset-reads.Asked,
-  put-offset-reads.Learnt,
-  from-innermost-reads.Asked,
-  from-innermost-reads.Learnt,
-  put-value-below t,
-  put-value.Post,
-  operand-read-reads.Asked,
-  operand-read-reads.Learnt,
-) (put-value-at t) put-value.Post
-put-value-enum-told-3 t c = search needs
-
-put-value-number-in-requires-3 : (t : ℕ) → put-value-lts.Need-number-in-requires-3 (
-  left-in-reads.Asked,
-  left-in-reads.Learnt,
-  right-in-reads.Asked,
-  right-in-reads.Learnt,
-  put-count-reads.Asked,
-  put-count-reads.Learnt,
-  kind-in-reads.Asked,
-  kind-in-reads.Learnt,
-  class-of-reads.Asked,
-  class-of-reads.Learnt,
-  number-in-reads.Asked,
-  number-in-reads.Learnt,
-  put-literal-reads.Asked,
-  put-literal-reads.Learnt,
-  type-in-reads.Asked,
-  type-in-reads.Learnt,
-  put-offset-reads.Asked,
-  put-offset-reads.Learnt,
-  from-innermost-reads.Asked,
-  from-innermost-reads.Learnt,
-  put-value-below t,
-  put-value.Post,
-  operand-read-reads.Asked,
-  operand-read-reads.Learnt,
-) (put-value-at t) put-value.Post
-put-value-number-in-requires-3 t c κs = search needs
-
-put-value-from-innermost-requires : (t : ℕ) → put-value-lts.Need-from-innermost-requires (
-  left-in-reads.Asked,
-  left-in-reads.Learnt,
-  right-in-reads.Asked,
-  right-in-reads.Learnt,
-  put-count-reads.Asked,
-  put-count-reads.Learnt,
-  kind-in-reads.Asked,
-  kind-in-reads.Learnt,
-  class-of-reads.Asked,
-  class-of-reads.Learnt,
-  number-in-reads.Asked,
-  number-in-reads.Learnt,
-  put-literal-reads.Asked,
-  put-literal-reads.Learnt,
-  type-in-reads.Asked,
-  type-in-reads.Learnt,
-  put-offset-reads.Asked,
-  put-offset-reads.Learnt,
-  from-innermost-reads.Asked,
-  from-innermost-reads.Learnt,
-  put-value-below t,
-  put-value.Post,
-  operand-read-reads.Asked,
-  operand-read-reads.Learnt,
-) (put-value-at t) put-value.Post
-put-value-from-innermost-requires t c κs = search needs
-
-put-value-put-count-requires-4 : (t : ℕ) → put-value-lts.Need-put-count-requires-4 (
-  left-in-reads.Asked,
-  left-in-reads.Learnt,
-  right-in-reads.Asked,
-  right-in-reads.Learnt,
-  put-count-reads.Asked,
-  put-count-reads.Learnt,
-  kind-in-reads.Asked,
-  kind-in-reads.Learnt,
-  class-of-reads.Asked,
-  class-of-reads.Learnt,
-  number-in-reads.Asked,
-  number-in-reads.Learnt,
-  put-literal-reads.Asked,
-  put-literal-reads.Learnt,
-  type-in-reads.Asked,
-  type-in-reads.Learnt,
-  put-offset-reads.Asked,
-  put-offset-reads.Learnt,
-  from-innermost-reads.Asked,
-  from-innermost-reads.Learnt,
-  put-value-below t,
-  put-value.Post,
-  operand-read-reads.Asked,
-  operand-read-reads.Learnt,
-) (put-value-at t) put-value.Post
-put-value-put-count-requires-4 t c κs = search needs
-
-put-value-type-in-requires-2 : (t : ℕ) → put-value-lts.Need-type-in-requires-2 (
-  left-in-reads.Asked,
-  left-in-reads.Learnt,
-  right-in-reads.Asked,
-  right-in-reads.Learnt,
-  put-count-reads.Asked,
-  put-count-reads.Learnt,
-  kind-in-reads.Asked,
-  kind-in-reads.Learnt,
-  class-of-reads.Asked,
-  class-of-reads.Learnt,
-  number-in-reads.Asked,
-  number-in-reads.Learnt,
-  put-literal-reads.Asked,
-  put-literal-reads.Learnt,
-  type-in-reads.Asked,
-  type-in-reads.Learnt,
-  put-offset-reads.Asked,
-  put-offset-reads.Learnt,
-  from-innermost-reads.Asked,
-  from-innermost-reads.Learnt,
-  put-value-below t,
-  put-value.Post,
-  operand-read-reads.Asked,
-  operand-read-reads.Learnt,
-) (put-value-at t) put-value.Post
-put-value-type-in-requires-2 t c κs = search needs
-
-put-value-put-offset-requires-2 : (t : ℕ) → put-value-lts.Need-put-offset-requires-2 (
-  left-in-reads.Asked,
-  left-in-reads.Learnt,
-  right-in-reads.Asked,
-  right-in-reads.Learnt,
-  put-count-reads.Asked,
-  put-count-reads.Learnt,
-  kind-in-reads.Asked,
-  kind-in-reads.Learnt,
-  class-of-reads.Asked,
-  class-of-reads.Learnt,
-  number-in-reads.Asked,
-  number-in-reads.Learnt,
-  put-literal-reads.Asked,
-  put-literal-reads.Learnt,
-  type-in-reads.Asked,
-  type-in-reads.Learnt,
-  put-offset-reads.Asked,
-  put-offset-reads.Learnt,
-  from-innermost-reads.Asked,
-  from-innermost-reads.Learnt,
-  put-value-below t,
-  put-value.Post,
-  operand-read-reads.Asked,
-  operand-read-reads.Learnt,
-) (put-value-at t) put-value.Post
-put-value-put-offset-requires-2 t c κs = (c .before .before .before .before .before .before .before .before .before .before .before .before .before .before .before .before .before .before .before .before .pre .1 .0, omega (arith, c .before .before .before .before .before .before .before .before .before .before .before .before .before .before .before .before .before .before .before .before .pre .1 .2))
-
-put-value-enum-told-4 : (t : ℕ) → put-value-lts.Need-enum-told-4 (
-  left-in-reads.Asked,
-  left-in-reads.Learnt,
-  right-in-reads.Asked,
-  right-in-reads.Learnt,
-  put-count-reads.Asked,
-  put-count-reads.Learnt,
-  kind-in-reads.Asked,
-  kind-in-reads.Learnt,
-  class-of-reads.Asked,
-  class-of-reads.Learnt,
-  number-in-reads.Asked,
-  number-in-reads.Learnt,
-  put-literal-reads.Asked,
-  put-literal-reads.Learnt,
-  type-in-reads.Asked,
-  type-in-reads.Learnt,
-  put-offset-reads.Asked,
-  put-offset-reads.Learnt,
-  from-innermost-reads.Asked,
-  from-innermost-reads.Learnt,
-  put-value-below t,
-  put-value.Post,
-  operand-read-reads.Asked,
-  operand-read-reads.Learnt,
-) (put-value-at t) put-value.Post
-put-value-enum-told-4 t c = search needs
-
-put-value-put-count-requires-5 : (t : ℕ) → put-value-lts.Need-put-count-requires-5 (
-  left-in-reads.Asked,
-  left-in-reads.Learnt,
-  right-in-reads.Asked,
-  right-in-reads.Learnt,
-  put-count-reads.Asked,
-  put-count-reads.Learnt,
-  kind-in-reads.Asked,
-  kind-in-reads.Learnt,
-  class-of-reads.Asked,
-  class-of-reads.Learnt,
-  number-in-reads.Asked,
-  number-in-reads.Learnt,
-  put-literal-reads.Asked,
-  put-literal-reads.Learnt,
-  type-in-reads.Asked,
-  type-in-reads.Learnt,
-  put-offset-reads.Asked,
-  put-offset-reads.Learnt,
-  from-innermost-reads.Asked,
-  from-innermost-reads.Learnt,
-  put-value-below t,
-  put-value.Post,
-  operand-read-reads.Asked,
-  operand-read-reads.Learnt,
-) (put-value-at t) put-value.Post
-put-value-put-count-requires-5 t c κs = search needs
-
-put-value-enum-told-5 : (t : ℕ) → put-value-lts.Need-enum-told-5 (
-  left-in-reads.Asked,
-  left-in-reads.Learnt,
-  right-in-reads.Asked,
-  right-in-reads.Learnt,
-  put-count-reads.Asked,
-  put-count-reads.Learnt,
-  kind-in-reads.Asked,
-  kind-in-reads.Learnt,
-  class-of-reads.Asked,
-  class-of-reads.Learnt,
-  number-in-reads.Asked,
-  number-in-reads.Learnt,
-  put-literal-reads.Asked,
-  put-literal-reads.Learnt,
-  type-in-reads.Asked,
-  type-in-reads.Learnt,
-  put-offset-reads.Asked,
-  put-offset-reads.Learnt,
-  from-innermost-reads.Asked,
-  from-innermost-reads.Learnt,
-  put-value-below t,
-  put-value.Post,
-  operand-read-reads.Asked,
-  operand-read-reads.Learnt,
-) (put-value-at t) put-value.Post
-put-value-enum-told-5 t c = search needs
-
-put-value-put-count-requires-6 : (t : ℕ) → put-value-lts.Need-put-count-requires-6 (
-  left-in-reads.Asked,
-  left-in-reads.Learnt,
-  right-in-reads.Asked,
-  right-in-reads.Learnt,
-  put-count-reads.Asked,
-  put-count-reads.Learnt,
-  kind-in-reads.Asked,
-  kind-in-reads.Learnt,
-  class-of-reads.Asked,
-  class-of-reads.Learnt,
-  number-in-reads.Asked,
-  number-in-reads.Learnt,
-  put-literal-reads.Asked,
-  put-literal-reads.Learnt,
-  type-in-reads.Asked,
-  type-in-reads.Learnt,
-  put-offset-reads.Asked,
-  put-offset-reads.Learnt,
-  from-innermost-reads.Asked,
-  from-innermost-reads.Learnt,
-  put-value-below t,
-  put-value.Post,
-  operand-read-reads.Asked,
-  operand-read-reads.Learnt,
-) (put-value-at t) put-value.Post
-put-value-put-count-requires-6 t c κs = search needs
-
-put-value-put-value-requires : (t : ℕ) → put-value-lts.Need-put-value-requires (
-  left-in-reads.Asked,
-  left-in-reads.Learnt,
-  right-in-reads.Asked,
-  right-in-reads.Learnt,
-  put-count-reads.Asked,
-  put-count-reads.Learnt,
-  kind-in-reads.Asked,
-  kind-in-reads.Learnt,
-  class-of-reads.Asked,
-  class-of-reads.Learnt,
-  number-in-reads.Asked,
-  number-in-reads.Learnt,
-  put-literal-reads.Asked,
-  put-literal-reads.Learnt,
-  type-in-reads.Asked,
-  type-in-reads.Learnt,
-  put-offset-reads.Asked,
-  put-offset-reads.Learnt,
-  from-innermost-reads.Asked,
-  from-innermost-reads.Learnt,
-  put-value-below t,
-  put-value.Post,
-  operand-read-reads.Asked,
-  operand-read-reads.Learnt,
-) (put-value-at t) put-value.Post
-put-value-put-value-requires t c κs = (omega (arith, c .before .before .before .before .before .before .before .before .before .before .before .if2 .left, c .before .before .before .before .before .before .before .before .before .before .before .before .before .before .before .before .before .pre .0), (c .before .before .before .before .before .before .before .before .before .before .before .before .before .before .before .before .before .pre .1 .0, omega (arith, c .before .before .before .before .before .before .before .before .before .before .before .if2 .left, c .before .before .before .before .before .before .before .before .before .before .before .before .before .before .before .before .before .pre .1 .1), omega (arith, c .before .before .before .before .before .before .before .before .before .before .before .if2 .left, c .before .before .before .before .before .before .before .before .before .before .before .before .before .before .before .before .before .pre .1 .2), c .before .before .before .before .before .before .before .before .before .before .before .before .before .before .before .before .before .pre .1 .3))
-
-put-value-enum-told-6 : (t : ℕ) → put-value-lts.Need-enum-told-6 (
-  left-in-reads.Asked,
-  left-in-reads.Learnt,
-  right-in-reads.Asked,
-  right-in-reads.Learnt,
-  put-count-reads.Asked,
-  put-count-reads.Learnt,
-  kind-in-reads.Asked,
-  kind-in-reads.Learnt,
-  class-of-reads.Asked,
-  class-of-reads.Learnt,
-  number-in-reads.Asked,
-  number-in-reads.Learnt,
-  put-literal-reads.Asked,
-  put-literal-reads.Learnt,
-  type-in-reads.Asked,
-  type-in-reads.Learnt,
-  put-offset-reads.Asked,
-  put-offset-reads.Learnt,
-  from-innermost-reads.Asked,
-  from-innermost-reads.Learnt,
-  put-value-below t,
-  put-value.Post,
-  operand-read-reads.Asked,
-  operand-read-reads.Learnt,
-) (put-value-at t) put-value.Post
-put-value-enum-told-6 t c = search needs
-
-put-value-kind-in-requires-2 : (t : ℕ) → put-value-lts.Need-kind-in-requires-2 (
-  left-in-reads.Asked,
-  left-in-reads.Learnt,
-  right-in-reads.Asked,
-  right-in-reads.Learnt,
-  put-count-reads.Asked,
-  put-count-reads.Learnt,
-  kind-in-reads.Asked,
-  kind-in-reads.Learnt,
-  class-of-reads.Asked,
-  class-of-reads.Learnt,
-  number-in-reads.Asked,
-  number-in-reads.Learnt,
-  put-literal-reads.Asked,
-  put-literal-reads.Learnt,
-  type-in-reads.Asked,
-  type-in-reads.Learnt,
-  put-offset-reads.Asked,
-  put-offset-reads.Learnt,
-  from-innermost-reads.Asked,
-  from-innermost-reads.Learnt,
-  put-value-below t,
-  put-value.Post,
-  operand-read-reads.Asked,
-  operand-read-reads.Learnt,
-) (put-value-at t) put-value.Post
-put-value-kind-in-requires-2 t c κs = search needs
-
-put-value-put-count-requires-7 : (t : ℕ) → put-value-lts.Need-put-count-requires-7 (
-  left-in-reads.Asked,
-  left-in-reads.Learnt,
-  right-in-reads.Asked,
-  right-in-reads.Learnt,
-  put-count-reads.Asked,
-  put-count-reads.Learnt,
-  kind-in-reads.Asked,
-  kind-in-reads.Learnt,
-  class-of-reads.Asked,
-  class-of-reads.Learnt,
-  number-in-reads.Asked,
-  number-in-reads.Learnt,
-  put-literal-reads.Asked,
-  put-literal-reads.Learnt,
-  type-in-reads.Asked,
-  type-in-reads.Learnt,
-  put-offset-reads.Asked,
-  put-offset-reads.Learnt,
-  from-innermost-reads.Asked,
-  from-innermost-reads.Learnt,
-  put-value-below t,
-  put-value.Post,
-  operand-read-reads.Asked,
-  operand-read-reads.Learnt,
-) (put-value-at t) put-value.Post
-put-value-put-count-requires-7 t c κs = search needs
-
-put-value-put-value-requires-2 : (t : ℕ) → put-value-lts.Need-put-value-requires-2 (
-  left-in-reads.Asked,
-  left-in-reads.Learnt,
-  right-in-reads.Asked,
-  right-in-reads.Learnt,
-  put-count-reads.Asked,
-  put-count-reads.Learnt,
-  kind-in-reads.Asked,
-  kind-in-reads.Learnt,
-  class-of-reads.Asked,
-  class-of-reads.Learnt,
-  number-in-reads.Asked,
-  number-in-reads.Learnt,
-  put-literal-reads.Asked,
-  put-literal-reads.Learnt,
-  type-in-reads.Asked,
-  type-in-reads.Learnt,
-  put-offset-reads.Asked,
-  put-offset-reads.Learnt,
-  from-innermost-reads.Asked,
-  from-innermost-reads.Learnt,
-  put-value-below t,
-  put-value.Post,
-  operand-read-reads.Asked,
-  operand-read-reads.Learnt,
-) (put-value-at t) put-value.Post
-put-value-put-value-requires-2 t c κs = (omega (arith, c .before .before .before .before .before .before .before .before .before .before .before .before .if2 .left, c .before .before .before .before .before .before .before .before .before .before .before .before .before .before .before .before .before .before .pre .0), (c .before .before .before .before .before .before .before .before .before .before .before .before .before .before .before .before .before .before .pre .1 .0, omega (arith, c .before .before .before .before .before .before .before .before .before .before .before .before .if2 .left, c .before .before .before .before .before .before .before .before .before .before .before .before .before .before .before .before .before .before .pre .1 .1), omega (arith, c .before .before .before .before .before .before .before .before .before .before .before .before .if2 .left, c .before .before .before .before .before .before .before .before .before .before .before .before .before .before .before .before .before .before .pre .1 .2), c .before .before .before .before .before .before .before .before .before .before .before .before .before .before .before .before .before .before .pre .1 .3))
-
-put-value-put-value-requires-3 : (t : ℕ) → put-value-lts.Need-put-value-requires-3 (
-  left-in-reads.Asked,
-  left-in-reads.Learnt,
-  right-in-reads.Asked,
-  right-in-reads.Learnt,
-  put-count-reads.Asked,
-  put-count-reads.Learnt,
-  kind-in-reads.Asked,
-  kind-in-reads.Learnt,
-  class-of-reads.Asked,
-  class-of-reads.Learnt,
-  number-in-reads.Asked,
-  number-in-reads.Learnt,
-  put-literal-reads.Asked,
-  put-literal-reads.Learnt,
-  type-in-reads.Asked,
-  type-in-reads.Learnt,
-  put-offset-reads.Asked,
-  put-offset-reads.Learnt,
-  from-innermost-reads.Asked,
-  from-innermost-reads.Learnt,
-  put-value-below t,
-  put-value.Post,
-  operand-read-reads.Asked,
-  operand-read-reads.Learnt,
-) (put-value-at t) put-value.Post
-put-value-put-value-requires-3 t c κs = (omega (arith, c .before .before .before .before .before .before .before .before .before .before .before .before .before .before .before .if3 .left, c .before .before .before .before .before .before .before .before .before .before .before .before .before .before .before .before .before .before .before .before .before .before .pre .0), (c .before .before .before .before .before .before .before .before .before .before .before .before .before .before .before .before .before .before .before .before .before .before .pre .1 .0, omega (arith, c .before .before .before .before .before .before .before .before .before .before .before .before .before .before .before .if3 .left, c .before .before .before .before .before .before .before .before .before .before .before .before .before .before .before .before .before .before .before .before .before .before .pre .1 .1), omega (arith, c .before .before .before .before .before .before .before .before .before .before .before .before .before .before .before .if3 .left, c .before .before .before .before .before .before .before .before .before .before .before .before .before .before .before .before .before .before .before .before .before .before .pre .1 .2), c .before .before .before .put-value2 .ensures .1 .1))
-
-put-value-enum-told-7 : (t : ℕ) → put-value-lts.Need-enum-told-7 (
-  left-in-reads.Asked,
-  left-in-reads.Learnt,
-  right-in-reads.Asked,
-  right-in-reads.Learnt,
-  put-count-reads.Asked,
-  put-count-reads.Learnt,
-  kind-in-reads.Asked,
-  kind-in-reads.Learnt,
-  class-of-reads.Asked,
-  class-of-reads.Learnt,
-  number-in-reads.Asked,
-  number-in-reads.Learnt,
-  put-literal-reads.Asked,
-  put-literal-reads.Learnt,
-  type-in-reads.Asked,
-  type-in-reads.Learnt,
-  put-offset-reads.Asked,
-  put-offset-reads.Learnt,
-  from-innermost-reads.Asked,
-  from-innermost-reads.Learnt,
-  put-value-below t,
-  put-value.Post,
-  operand-read-reads.Asked,
-  operand-read-reads.Learnt,
-) (put-value-at t) put-value.Post
-put-value-enum-told-7 t c = search needs
-
-put-value-operand-read-requires : (t : ℕ) → put-value-lts.Need-operand-read-requires (
-  left-in-reads.Asked,
-  left-in-reads.Learnt,
-  right-in-reads.Asked,
-  right-in-reads.Learnt,
-  put-count-reads.Asked,
-  put-count-reads.Learnt,
-  kind-in-reads.Asked,
-  kind-in-reads.Learnt,
-  class-of-reads.Asked,
-  class-of-reads.Learnt,
-  number-in-reads.Asked,
-  number-in-reads.Learnt,
-  put-literal-reads.Asked,
-  put-literal-reads.Learnt,
-  type-in-reads.Asked,
-  type-in-reads.Learnt,
-  put-offset-reads.Asked,
-  put-offset-reads.Learnt,
-  from-innermost-reads.Asked,
-  from-innermost-reads.Learnt,
-  put-value-below t,
-  put-value.Post,
-  operand-read-reads.Asked,
-  operand-read-reads.Learnt,
-) (put-value-at t) put-value.Post
-put-value-operand-read-requires t c κs = omega (arith, c .before .before .before .before .before .before .before .before .before .before .before .before .pre .1 .2)
-
-put-value-mul-changes : (t : ℕ) → put-value-lts.Need-mul-changes (
-  left-in-reads.Asked,
-  left-in-reads.Learnt,
-  right-in-reads.Asked,
-  right-in-reads.Learnt,
-  put-count-reads.Asked,
-  put-count-reads.Learnt,
-  kind-in-reads.Asked,
-  kind-in-reads.Learnt,
-  class-of-reads.Asked,
-  class-of-reads.Learnt,
-  number-in-reads.Asked,
-  number-in-reads.Learnt,
-  put-literal-reads.Asked,
-  put-literal-reads.Learnt,
-  type-in-reads.Asked,
-  type-in-reads.Learnt,
-  put-offset-reads.Asked,
-  put-offset-reads.Learnt,
-  from-innermost-reads.Asked,
-  from-innermost-reads.Learnt,
-  put-value-below t,
-  put-value.Post,
-  operand-read-reads.Asked,
-  operand-read-reads.Learnt,
-) (put-value-at t) put-value.Post
-put-value-mul-changes t c = search needs
-
-put-value-element-write-changes : (t : ℕ) → put-value-lts.Need-element-write-changes (
-  left-in-reads.Asked,
-  left-in-reads.Learnt,
-  right-in-reads.Asked,
-  right-in-reads.Learnt,
-  put-count-reads.Asked,
-  put-count-reads.Learnt,
-  kind-in-reads.Asked,
-  kind-in-reads.Learnt,
-  class-of-reads.Asked,
-  class-of-reads.Learnt,
-  number-in-reads.Asked,
-  number-in-reads.Learnt,
-  put-literal-reads.Asked,
-  put-literal-reads.Learnt,
-  type-in-reads.Asked,
-  type-in-reads.Learnt,
-  put-offset-reads.Asked,
-  put-offset-reads.Learnt,
-  from-innermost-reads.Asked,
-  from-innermost-reads.Learnt,
-  put-value-below t,
-  put-value.Post,
-  operand-read-reads.Asked,
-  operand-read-reads.Learnt,
-) (put-value-at t) put-value.Post
-put-value-element-write-changes t c = search needs
-
-put-value-add-put-value : (t : ℕ) → put-value-lts.Need-add-put-value (
-  left-in-reads.Asked,
-  left-in-reads.Learnt,
-  right-in-reads.Asked,
-  right-in-reads.Learnt,
-  put-count-reads.Asked,
-  put-count-reads.Learnt,
-  kind-in-reads.Asked,
-  kind-in-reads.Learnt,
-  class-of-reads.Asked,
-  class-of-reads.Learnt,
-  number-in-reads.Asked,
-  number-in-reads.Learnt,
-  put-literal-reads.Asked,
-  put-literal-reads.Learnt,
-  type-in-reads.Asked,
-  type-in-reads.Learnt,
-  put-offset-reads.Asked,
-  put-offset-reads.Learnt,
-  from-innermost-reads.Asked,
-  from-innermost-reads.Learnt,
-  put-value-below t,
-  put-value.Post,
-  operand-read-reads.Asked,
-  operand-read-reads.Learnt,
-) (put-value-at t) put-value.Post
-put-value-add-put-value t c = search needs
-
-put-value-put-value-requires-4 : (t : ℕ) → put-value-lts.Need-put-value-requires-4 (
-  left-in-reads.Asked,
-  left-in-reads.Learnt,
-  right-in-reads.Asked,
-  right-in-reads.Learnt,
-  put-count-reads.Asked,
-  put-count-reads.Learnt,
-  kind-in-reads.Asked,
-  kind-in-reads.Learnt,
-  class-of-reads.Asked,
-  class-of-reads.Learnt,
-  number-in-reads.Asked,
-  number-in-reads.Learnt,
-  put-literal-reads.Asked,
-  put-literal-reads.Learnt,
-  type-in-reads.Asked,
-  type-in-reads.Learnt,
-  put-offset-reads.Asked,
-  put-offset-reads.Learnt,
-  from-innermost-reads.Asked,
-  from-innermost-reads.Learnt,
-  put-value-below t,
-  put-value.Post,
-  operand-read-reads.Asked,
-  operand-read-reads.Learnt,
-) (put-value-at t) put-value.Post
-put-value-put-value-requires-4 t c κs = let h = read-below (changeOf (kindIn (getD (c .before .before .before .before .before .before .before .before .before .before .before .before .before .before .before .before .args .references .now) (c .before .before .before .before .before .before .before .before .before .before .before .before .before .before .before .before .args .from) 0))) (pathOf (c .before .before .before .before .before .before .before .before .before .before .before .before .before .before .before .before .args .changes .now) (c .before .before .before .before .before .before .before .before .before .before .before .before .before .before .before .before .args .depth)) (leftIn (getD (c .before .before .before .before .before .before .before .before .before .before .before .before .before .before .before .before .args .references .now) (c .before .before .before .before .before .before .before .before .before .before .before .before .before .before .before .before .args .from) 0)) (rightIn (getD (c .before .before .before .before .before .before .before .before .before .before .before .before .before .before .before .before .args .references .now) (c .before .before .before .before .before .before .before .before .before .before .before .before .before .before .before .before .args .from) 0)) (c .before .before .before .before .before .before .before .before .before .before .before .before .before .before .before .before .args .from) (omega (arith, c .before .before .before .before .before .before .before .before .before .before .before .before .before .left-in .ensures, c .before .before .before .before .before .before .before .before .before .before .if2 .left)) (omega (arith, c .before .before .before .before .before .before .before .before .before .before .before .before .right-in .ensures, c .before .before .before .before .before .before .before .before .before .if3 .left)) in (omega (arith, h, c .before .before .before .operand-read .ensures, c .before .before .before .before .before .before .before .before .before .before .before .before .before .before .before .before .pre .0), (c .before .before .before .before .before .before .before .before .before .before .before .before .before .before .before .before .pre .1 .0, omega (arith, h, c .before .before .before .operand-read .ensures, c .before .before .before .before .before .before .before .before .before .before .before .before .before .before .before .before .pre .1 .1), omega (arith, h, c .before .before .before .operand-read .ensures, c .before .before .before .before .before .before .before .before .before .before .before .before .before .before .before .before .pre .1 .2), length-set (c .before .before .before .before .before .before .before .before .before .before .before .before .before .before .before .before .args .changes .now) (c .before .before .before .before .before .before .before .before .before .before .before .before .before .before .before .before .args .depth) (getD (c .before .before .before .before .before .before .before .before .before .before .before .before .before .before .before .before .args .references .now) (c .before .before .before .before .before .before .before .before .before .before .before .before .before .before .before .before .args .from) 0) ∙ c .before .before .before .before .before .before .before .before .before .before .before .before .before .before .before .before .pre .1 .3))
-
-put-value-returns-4 : (t : ℕ) → put-value-lts.Need-returns-4 (
-  left-in-reads.Asked,
-  left-in-reads.Learnt,
-  right-in-reads.Asked,
-  right-in-reads.Learnt,
-  put-count-reads.Asked,
-  put-count-reads.Learnt,
-  kind-in-reads.Asked,
-  kind-in-reads.Learnt,
-  class-of-reads.Asked,
-  class-of-reads.Learnt,
-  number-in-reads.Asked,
-  number-in-reads.Learnt,
-  put-literal-reads.Asked,
-  put-literal-reads.Learnt,
-  type-in-reads.Asked,
-  type-in-reads.Learnt,
-  put-offset-reads.Asked,
-  put-offset-reads.Learnt,
-  from-innermost-reads.Asked,
-  from-innermost-reads.Learnt,
-  put-value-below t,
-  put-value.Post,
-  operand-read-reads.Asked,
-  operand-read-reads.Learnt,
-) (put-value-at t) put-value.Post
-put-value-returns-4 t c = (value-literal (c .before .before .before .before .before .before .before .before .before .before .before .before .before .before .before .args .types .now) (c .before .before .before .before .before .before .before .before .before .before .before .before .before .before .before .args .plan .now) (c .before .before .before .before .before .before .before .before .before .before .before .before .before .before .before .args .counters) (c .before .before .before .before .before .before .before .before .before .before .before .before .before .before .before .args .regions) (c .before .before .before .before .before .before .before .before .before .before .before .before .before .before .before .args .references .now) (c .before .before .before .before .before .before .before .before .before .before .before .before .before .before .before .args .from) _ _ (c .before .before .before .before .before .before .before .before .before .before .before .before .left-in .ensures) (c .before .before .before .before .before .before .before .before .before .before .before .right-in .ensures) _ _ _ (omega arith) (omega arith) _ _ _ (c .before .before .before .before .before .before .class-of .ensures) (c .before .before .before .before .before .before .before .kind-in .ensures) (c .before .before .before .before .enum-told .given .1) refl _ (c .before .number-in .ensures) (c .put-literal .ensures), (refl, c .before .before .before .before .before .before .before .before .before .before .before .before .before .before .before .pre .1 .3))
-
-put-value-returns-5 : (t : ℕ) → put-value-lts.Need-returns-5 (
-  left-in-reads.Asked,
-  left-in-reads.Learnt,
-  right-in-reads.Asked,
-  right-in-reads.Learnt,
-  put-count-reads.Asked,
-  put-count-reads.Learnt,
-  kind-in-reads.Asked,
-  kind-in-reads.Learnt,
-  class-of-reads.Asked,
-  class-of-reads.Learnt,
-  number-in-reads.Asked,
-  number-in-reads.Learnt,
-  put-literal-reads.Asked,
-  put-literal-reads.Learnt,
-  type-in-reads.Asked,
-  type-in-reads.Learnt,
-  put-offset-reads.Asked,
-  put-offset-reads.Learnt,
-  from-innermost-reads.Asked,
-  from-innermost-reads.Learnt,
-  put-value-below t,
-  put-value.Post,
-  operand-read-reads.Asked,
-  operand-read-reads.Learnt,
-) (put-value-at t) put-value.Post
-put-value-returns-5 t c = (value-input (c .before .before .before .before .before .before .before .before .before .before .before .before .before .before .before .before .before .before .before .before .args .types .now) (c .before .before .before .before .before .before .before .before .before .before .before .before .before .before .before .before .before .before .before .before .args .plan .now) (c .before .before .before .before .before .before .before .before .before .before .before .before .before .before .before .before .before .before .before .before .args .counters) (c .before .before .before .before .before .before .before .before .before .before .before .before .before .before .before .before .before .before .before .before .args .regions) (c .before .before .before .before .before .before .before .before .before .before .before .before .before .before .before .before .before .before .before .before .args .references .now) (c .before .before .before .before .before .before .before .before .before .before .before .before .before .before .before .before .before .before .before .before .args .from) _ _ (c .before .before .before .before .before .before .before .before .before .before .before .before .before .before .before .before .before .left-in .ensures) (c .before .before .before .before .before .before .before .before .before .before .before .before .before .before .before .before .right-in .ensures) _ _ _ (omega arith) (omega arith) _ _ _ (c .before .before .before .before .before .before .before .before .before .before .before .class-of .ensures) (c .before .before .before .before .before .before .before .before .before .before .before .before .kind-in .ensures) (c .before .before .before .before .before .before .before .before .before .enum-told2 .given .1) refl _ _ _ (c .before .before .before .before .before .before .number-in2 .ensures) (c .before .type-in .ensures) (c .before .before .before .before .before .put-count3 .ensures) (c .put-offset .ensures), (refl, c .before .before .before .before .before .before .before .before .before .before .before .before .before .before .before .before .before .before .before .before .pre .1 .3))
-
-put-value-returns-6 : (t : ℕ) → put-value-lts.Need-returns-6 (
-  left-in-reads.Asked,
-  left-in-reads.Learnt,
-  right-in-reads.Asked,
-  right-in-reads.Learnt,
-  put-count-reads.Asked,
-  put-count-reads.Learnt,
-  kind-in-reads.Asked,
-  kind-in-reads.Learnt,
-  class-of-reads.Asked,
-  class-of-reads.Learnt,
-  number-in-reads.Asked,
-  number-in-reads.Learnt,
-  put-literal-reads.Asked,
-  put-literal-reads.Learnt,
-  type-in-reads.Asked,
-  type-in-reads.Learnt,
-  put-offset-reads.Asked,
-  put-offset-reads.Learnt,
-  from-innermost-reads.Asked,
-  from-innermost-reads.Learnt,
-  put-value-below t,
-  put-value.Post,
-  operand-read-reads.Asked,
-  operand-read-reads.Learnt,
-) (put-value-at t) put-value.Post
-put-value-returns-6 t c = (value-region (c .before .before .before .before .before .before .before .before .before .before .before .before .before .before .before .before .before .before .before .before .before .args .types .now) (c .before .before .before .before .before .before .before .before .before .before .before .before .before .before .before .before .before .before .before .before .before .args .plan .now) (c .before .before .before .before .before .before .before .before .before .before .before .before .before .before .before .before .before .before .before .before .before .args .counters) (c .before .before .before .before .before .before .before .before .before .before .before .before .before .before .before .before .before .before .before .before .before .args .regions) (c .before .before .before .before .before .before .before .before .before .before .before .before .before .before .before .before .before .before .before .before .before .args .references .now) (c .before .before .before .before .before .before .before .before .before .before .before .before .before .before .before .before .before .before .before .before .before .args .from) _ _ (c .before .before .before .before .before .before .before .before .before .before .before .before .before .before .before .before .before .before .left-in .ensures) (c .before .before .before .before .before .before .before .before .before .before .before .before .before .before .before .before .before .right-in .ensures) _ _ _ (omega arith) (omega arith) _ _ _ (c .before .before .before .before .before .before .before .before .before .before .before .before .class-of .ensures) (c .before .before .before .before .before .before .before .before .before .before .before .before .before .kind-in .ensures) (c .before .before .before .before .before .before .before .before .before .before .enum-told3 .given .1) refl _ _ _ _ (c .before .before .before .before .before .before .before .number-in3 .ensures) (c .before .before .before .before .before .before .from-innermost .ensures) (c .before .type-in2 .ensures) (c .before .before .before .before .before .put-count4 .ensures) (c .put-offset2 .ensures), (refl, c .before .before .before .before .before .before .before .before .before .before .before .before .before .before .before .before .before .before .before .before .before .pre .1 .3))
-
-put-value-returns-7 : (t : ℕ) → put-value-lts.Need-returns-7 (
-  left-in-reads.Asked,
-  left-in-reads.Learnt,
-  right-in-reads.Asked,
-  right-in-reads.Learnt,
-  put-count-reads.Asked,
-  put-count-reads.Learnt,
-  kind-in-reads.Asked,
-  kind-in-reads.Learnt,
-  class-of-reads.Asked,
-  class-of-reads.Learnt,
-  number-in-reads.Asked,
-  number-in-reads.Learnt,
-  put-literal-reads.Asked,
-  put-literal-reads.Learnt,
-  type-in-reads.Asked,
-  type-in-reads.Learnt,
-  put-offset-reads.Asked,
-  put-offset-reads.Learnt,
-  from-innermost-reads.Asked,
-  from-innermost-reads.Learnt,
-  put-value-below t,
-  put-value.Post,
-  operand-read-reads.Asked,
-  operand-read-reads.Learnt,
-) (put-value-at t) put-value.Post
-put-value-returns-7 t c = (value-output (c .before .before .before .before .before .before .before .before .before .before .before .before .before .before .args .types .now) (c .before .before .before .before .before .before .before .before .before .before .before .before .before .before .args .plan .now) (c .before .before .before .before .before .before .before .before .before .before .before .before .before .before .args .counters) (c .before .before .before .before .before .before .before .before .before .before .before .before .before .before .args .regions) (c .before .before .before .before .before .before .before .before .before .before .before .before .before .before .args .references .now) (c .before .before .before .before .before .before .before .before .before .before .before .before .before .before .args .from) _ _ (c .before .before .before .before .before .before .before .before .before .before .before .left-in .ensures) (c .before .before .before .before .before .before .before .before .before .before .right-in .ensures) _ _ _ (omega arith) (omega arith) _ _ _ (c .before .before .before .before .before .class-of .ensures) (c .before .before .before .before .before .before .kind-in .ensures) (c .before .before .before .enum-told4 .given .1) refl (c .put-count5 .ensures), (refl, c .before .before .before .before .before .before .before .before .before .before .before .before .before .before .pre .1 .3))
-
-put-value-returns-8 : (t : ℕ) → put-value-lts.Need-returns-8 (
-  left-in-reads.Asked,
-  left-in-reads.Learnt,
-  right-in-reads.Asked,
-  right-in-reads.Learnt,
-  put-count-reads.Asked,
-  put-count-reads.Learnt,
-  kind-in-reads.Asked,
-  kind-in-reads.Learnt,
-  class-of-reads.Asked,
-  class-of-reads.Learnt,
-  number-in-reads.Asked,
-  number-in-reads.Learnt,
-  put-literal-reads.Asked,
-  put-literal-reads.Learnt,
-  type-in-reads.Asked,
-  type-in-reads.Learnt,
-  put-offset-reads.Asked,
-  put-offset-reads.Learnt,
-  from-innermost-reads.Asked,
-  from-innermost-reads.Learnt,
-  put-value-below t,
-  put-value.Post,
-  operand-read-reads.Asked,
-  operand-read-reads.Learnt,
-) (put-value-at t) put-value.Post
-put-value-returns-8 t c = (value-negation (c .before .before .before .before .before .before .before .before .before .before .before .before .before .before .before .before .before .before .args .types .now) (c .before .before .before .before .before .before .before .before .before .before .before .before .before .before .before .before .before .before .args .plan .now) (c .before .before .before .before .before .before .before .before .before .before .before .before .before .before .before .before .before .before .args .counters) (c .before .before .before .before .before .before .before .before .before .before .before .before .before .before .before .before .before .before .args .regions) (c .before .before .before .before .before .before .before .before .before .before .before .before .before .before .before .before .before .before .args .references .now) (c .before .before .before .before .before .before .before .before .before .before .before .before .before .before .before .before .before .before .args .from) _ _ (c .before .before .before .before .before .before .before .before .before .before .before .before .before .before .before .left-in .ensures) (c .before .before .before .before .before .before .before .before .before .before .before .before .before .before .right-in .ensures) _ _ _ (omega arith) (omega arith) _ _ _ (c .before .before .before .before .before .before .before .before .before .class-of .ensures) (c .before .before .before .before .before .before .before .before .before .before .kind-in .ensures) (c .before .before .before .before .before .before .before .enum-told5 .given .1) refl _ (c .before .before .before .before .put-count6 .ensures) (c .put-value .ensures .0), c .put-value .ensures .1)
-
-put-value-returns-9 : (t : ℕ) → put-value-lts.Need-returns-9 (
-  left-in-reads.Asked,
-  left-in-reads.Learnt,
-  right-in-reads.Asked,
-  right-in-reads.Learnt,
-  put-count-reads.Asked,
-  put-count-reads.Learnt,
-  kind-in-reads.Asked,
-  kind-in-reads.Learnt,
-  class-of-reads.Asked,
-  class-of-reads.Learnt,
-  number-in-reads.Asked,
-  number-in-reads.Learnt,
-  put-literal-reads.Asked,
-  put-literal-reads.Learnt,
-  type-in-reads.Asked,
-  type-in-reads.Learnt,
-  put-offset-reads.Asked,
-  put-offset-reads.Learnt,
-  from-innermost-reads.Asked,
-  from-innermost-reads.Learnt,
-  put-value-below t,
-  put-value.Post,
-  operand-read-reads.Asked,
-  operand-read-reads.Learnt,
-) (put-value-at t) put-value.Post
-put-value-returns-9 t c = (value-operation (c .before .before .before .before .before .before .before .before .before .before .before .before .before .before .before .before .before .before .before .before .before .before .before .args .types .now) (c .before .before .before .before .before .before .before .before .before .before .before .before .before .before .before .before .before .before .before .before .before .before .before .args .plan .now) (c .before .before .before .before .before .before .before .before .before .before .before .before .before .before .before .before .before .before .before .before .before .before .before .args .counters) (c .before .before .before .before .before .before .before .before .before .before .before .before .before .before .before .before .before .before .before .before .before .before .before .args .regions) (c .before .before .before .before .before .before .before .before .before .before .before .before .before .before .before .before .before .before .before .before .before .before .before .args .references .now) (c .before .before .before .before .before .before .before .before .before .before .before .before .before .before .before .before .before .before .before .before .before .before .before .args .from) _ _ (c .before .before .before .before .before .before .before .before .before .before .before .before .before .before .before .before .before .before .before .before .left-in .ensures) (c .before .before .before .before .before .before .before .before .before .before .before .before .before .before .before .before .before .before .before .right-in .ensures) _ _ _ (omega arith) (omega arith) _ _ _ (c .before .before .before .before .before .before .before .before .before .before .before .before .before .before .class-of .ensures) (c .before .before .before .before .before .before .before .before .before .before .before .before .before .before .before .kind-in .ensures) (c .before .before .before .before .before .before .before .before .before .before .before .before .enum-told6 .given .1) refl _ _ _ _ (c .before .before .before .before .before .before .before .before .before .kind-in2 .ensures) (path-agree _ _ (c .before .before .before .before .before .before .before .before .before .before .before .before .before .before .before .before .before .before .before .before .before .before .before .args .depth) (c .before .before .before .before .put-value2 .ensures .1 .0)) (c .before .before .before .before .before .before .before .before .put-count7 .ensures) (c .before .before .before .before .put-value2 .ensures .0) (c .put-value3 .ensures .0), (c .put-value3 .ensures .1 .0 ∙ c .before .before .before .before .put-value2 .ensures .1 .0, c .put-value3 .ensures .1 .1))
-
-put-value-returns-10 : (t : ℕ) → put-value-lts.Need-returns-10 (
-  left-in-reads.Asked,
-  left-in-reads.Learnt,
-  right-in-reads.Asked,
-  right-in-reads.Learnt,
-  put-count-reads.Asked,
-  put-count-reads.Learnt,
-  kind-in-reads.Asked,
-  kind-in-reads.Learnt,
-  class-of-reads.Asked,
-  class-of-reads.Learnt,
-  number-in-reads.Asked,
-  number-in-reads.Learnt,
-  put-literal-reads.Asked,
-  put-literal-reads.Learnt,
-  type-in-reads.Asked,
-  type-in-reads.Learnt,
-  put-offset-reads.Asked,
-  put-offset-reads.Learnt,
-  from-innermost-reads.Asked,
-  from-innermost-reads.Learnt,
-  put-value-below t,
-  put-value.Post,
-  operand-read-reads.Asked,
-  operand-read-reads.Learnt,
-) (put-value-at t) put-value.Post
-put-value-returns-10 t c = (value-rearranged (c .before .before .before .before .before .before .before .before .before .before .before .before .before .before .before .before .before .args .types .now) (c .before .before .before .before .before .before .before .before .before .before .before .before .before .before .before .before .before .args .plan .now) (c .before .before .before .before .before .before .before .before .before .before .before .before .before .before .before .before .before .args .counters) (c .before .before .before .before .before .before .before .before .before .before .before .before .before .before .before .before .before .args .regions) (c .before .before .before .before .before .before .before .before .before .before .before .before .before .before .before .before .before .args .references .now) (c .before .before .before .before .before .before .before .before .before .before .before .before .before .before .before .before .before .args .from) _ _ (c .before .before .before .before .before .before .before .before .before .before .before .before .before .before .left-in .ensures) (c .before .before .before .before .before .before .before .before .before .before .before .before .before .right-in .ensures) _ _ _ (omega arith) (omega arith) _ _ _ (c .before .before .before .before .before .before .before .before .class-of .ensures) (c .before .before .before .before .before .before .before .before .before .kind-in .ensures) (c .before .before .before .before .before .before .enum-told7 .given .1) refl _ _ (path-push (c .before .before .before .before .before .before .before .before .before .before .before .before .before .before .before .before .before .args .changes .now) (c .before .before .before .before .before .before .before .before .before .before .before .before .before .before .before .before .before .args .depth) _ (omega (arith, c .before .before .before .before .before .before .before .before .before .before .before .before .before .before .before .before .before .pre .1 .1, c .before .before .before .before .before .before .before .before .before .before .before .before .before .before .before .before .before .pre .1 .2, c .before .before .before .before .before .before .before .before .before .before .before .before .before .before .before .before .before .pre .1 .3, c .before .before .before .before .before .before .before .before .before .before .before .if2 .left))) (c .before .before .before .before .operand-read .ensures) (c .put-value4 .ensures .0), (below-push (c .before .before .before .before .before .before .before .before .before .before .before .before .before .before .before .before .before .args .changes .now) _ (c .before .before .before .before .before .before .before .before .before .before .before .before .before .before .before .before .before .args .depth) _ (c .put-value4 .ensures .1 .0), c .put-value4 .ensures .1 .1))
-
-pub +put-value-spec : {M : Type 1} → statement M
-+put-value-spec = close μ-put-value λ t. put-value-lts.spec (
+-- what the callees of `put_value` ask, and what they promise
+abbrev put-value-calls : ℕ → put-value-lts.Claims
+put-value-calls t = (
   left-in-reads.Asked,
   left-in-reads.Learnt,
   right-in-reads.Asked,
@@ -1409,6 +67,357 @@ pub +put-value-spec : {M : Type 1} → statement M
   operand-read-reads.Asked,
   operand-read-reads.Learnt,
 )
+
+put-value-mul-node : (t : ℕ) → put-value-lts.Need-mul-node (put-value-calls t) (put-value-at t) put-value.Post
+put-value-mul-node t c = search needs
+
+put-value-element-copy-out-node : (t : ℕ) → put-value-lts.Need-element-copy-out-node (put-value-calls t) (put-value-at t) put-value.Post
+put-value-element-copy-out-node t c = search needs
+
+put-value-left-in-requires : (t : ℕ) → put-value-lts.Need-left-in-requires (put-value-calls t) (put-value-at t) put-value.Post
+put-value-left-in-requires t c κs = search needs
+
+put-value-right-in-requires : (t : ℕ) → put-value-lts.Need-right-in-requires (put-value-calls t) (put-value-at t) put-value.Post
+put-value-right-in-requires t c κs = search needs
+
+put-value-returns : (t : ℕ) → put-value-lts.Need-returns (put-value-calls t) (put-value-at t) put-value.Post
+put-value-returns t c = (put-none-past _ _ _ _ (omega arith), (refl, c .before .before .before .before .before .pre .1 .3))
+
+put-value-put-count-requires : (t : ℕ) → put-value-lts.Need-put-count-requires (put-value-calls t) (put-value-at t) put-value.Post
+put-value-put-count-requires t c κs = search needs
+
+put-value-returns-2 : (t : ℕ) → put-value-lts.Need-returns-2 (put-value-calls t) (put-value-at t) put-value.Post
+put-value-returns-2 t c =
+    let entry = c .before .before .before .before .before .before .before .before .before in (
+      value-left (entry .args .types .now) (entry .args .plan .now) (entry .args .counters) (entry .args .regions)
+          (entry .args .references .now) (entry .args .from) _ _ (c .before .before .before .before .before .before .left-in .ensures)
+          (c .before .before .before .before .before .right-in .ensures) _ _ _ (omega arith) (c .put-count .ensures),
+      (refl, entry .pre .1 .3),
+    )
+
+put-value-put-count-requires-2 : (t : ℕ) → put-value-lts.Need-put-count-requires-2 (put-value-calls t) (put-value-at t) put-value.Post
+put-value-put-count-requires-2 t c κs = search needs
+
+put-value-returns-3 : (t : ℕ) → put-value-lts.Need-returns-3 (put-value-calls t) (put-value-at t) put-value.Post
+put-value-returns-3 t c =
+    let entry = c .before .before .before .before .before .before .before .before .before .before in (
+      value-right (entry .args .types .now) (entry .args .plan .now) (entry .args .counters) (entry .args .regions)
+          (entry .args .references .now) (entry .args .from) _ _ (c .before .before .before .before .before .before .before .left-in .ensures)
+          (c .before .before .before .before .before .before .right-in .ensures) _ _ _ (omega arith)
+          (c .put-count2 .ensures),
+      (refl, entry .pre .1 .3),
+    )
+
+put-value-kind-in-requires : (t : ℕ) → put-value-lts.Need-kind-in-requires (put-value-calls t) (put-value-at t) put-value.Post
+put-value-kind-in-requires t c κs = search needs
+
+put-value-class-of-requires : (t : ℕ) → put-value-lts.Need-class-of-requires (put-value-calls t) (put-value-at t) put-value.Post
+put-value-class-of-requires t c κs = search needs
+
+put-value-enum-told : (t : ℕ) → put-value-lts.Need-enum-told (put-value-calls t) (put-value-at t) put-value.Post
+put-value-enum-told t c = search needs
+
+put-value-number-in-requires : (t : ℕ) → put-value-lts.Need-number-in-requires (put-value-calls t) (put-value-at t) put-value.Post
+put-value-number-in-requires t c κs = search needs
+
+put-value-put-literal-requires : (t : ℕ) → put-value-lts.Need-put-literal-requires (put-value-calls t) (put-value-at t) put-value.Post
+put-value-put-literal-requires t c κs = search needs
+
+put-value-enum-told-2 : (t : ℕ) → put-value-lts.Need-enum-told-2 (put-value-calls t) (put-value-at t) put-value.Post
+put-value-enum-told-2 t c = search needs
+
+put-value-number-in-requires-2 : (t : ℕ) → put-value-lts.Need-number-in-requires-2 (put-value-calls t) (put-value-at t) put-value.Post
+put-value-number-in-requires-2 t c κs = search needs
+
+put-value-put-count-requires-3 : (t : ℕ) → put-value-lts.Need-put-count-requires-3 (put-value-calls t) (put-value-at t) put-value.Post
+put-value-put-count-requires-3 t c κs = search needs
+
+put-value-type-in-requires : (t : ℕ) → put-value-lts.Need-type-in-requires (put-value-calls t) (put-value-at t) put-value.Post
+put-value-type-in-requires t c κs = search needs
+
+put-value-put-offset-requires : (t : ℕ) → put-value-lts.Need-put-offset-requires (put-value-calls t) (put-value-at t) put-value.Post
+put-value-put-offset-requires t c κs =
+    let entry = c .before .before .before .before .before .before .before .before .before .before .before
+    .before .before .before .before .before .before .before .before in
+    (entry .pre .1 .0, omega (arith, entry .pre .1 .2))
+
+put-value-enum-told-3 : (t : ℕ) → put-value-lts.Need-enum-told-3 (put-value-calls t) (put-value-at t) put-value.Post
+put-value-enum-told-3 t c = search needs
+
+put-value-number-in-requires-3 : (t : ℕ) → put-value-lts.Need-number-in-requires-3 (put-value-calls t) (put-value-at t) put-value.Post
+put-value-number-in-requires-3 t c κs = search needs
+
+put-value-from-innermost-requires : (t : ℕ) → put-value-lts.Need-from-innermost-requires (put-value-calls t) (put-value-at t) put-value.Post
+put-value-from-innermost-requires t c κs = search needs
+
+put-value-put-count-requires-4 : (t : ℕ) → put-value-lts.Need-put-count-requires-4 (put-value-calls t) (put-value-at t) put-value.Post
+put-value-put-count-requires-4 t c κs = search needs
+
+put-value-type-in-requires-2 : (t : ℕ) → put-value-lts.Need-type-in-requires-2 (put-value-calls t) (put-value-at t) put-value.Post
+put-value-type-in-requires-2 t c κs = search needs
+
+put-value-put-offset-requires-2 : (t : ℕ) → put-value-lts.Need-put-offset-requires-2 (put-value-calls t) (put-value-at t) put-value.Post
+put-value-put-offset-requires-2 t c κs =
+    let entry = c .before .before .before .before .before .before .before .before .before .before .before
+    .before .before .before .before .before .before .before .before .before in
+    (entry .pre .1 .0, omega (arith, entry .pre .1 .2))
+
+put-value-enum-told-4 : (t : ℕ) → put-value-lts.Need-enum-told-4 (put-value-calls t) (put-value-at t) put-value.Post
+put-value-enum-told-4 t c = search needs
+
+put-value-put-count-requires-5 : (t : ℕ) → put-value-lts.Need-put-count-requires-5 (put-value-calls t) (put-value-at t) put-value.Post
+put-value-put-count-requires-5 t c κs = search needs
+
+put-value-enum-told-5 : (t : ℕ) → put-value-lts.Need-enum-told-5 (put-value-calls t) (put-value-at t) put-value.Post
+put-value-enum-told-5 t c = search needs
+
+put-value-put-count-requires-6 : (t : ℕ) → put-value-lts.Need-put-count-requires-6 (put-value-calls t) (put-value-at t) put-value.Post
+put-value-put-count-requires-6 t c κs = search needs
+
+put-value-put-value-requires : (t : ℕ) → put-value-lts.Need-put-value-requires (put-value-calls t) (put-value-at t) put-value.Post
+put-value-put-value-requires t c κs =
+    let entry = c .before .before .before .before .before .before .before .before .before .before .before
+    .before .before .before .before .before .before in
+    let at-if2 = c .before .before .before .before .before .before .before .before .before .before .before .if2 in (
+      omega (arith, at-if2 .left, entry .pre .0),
+      (
+        entry .pre .1 .0,
+        omega (arith, at-if2 .left, entry .pre .1 .1),
+        omega (arith, at-if2 .left, entry .pre .1 .2),
+        entry .pre .1 .3,
+      ),
+    )
+
+put-value-enum-told-6 : (t : ℕ) → put-value-lts.Need-enum-told-6 (put-value-calls t) (put-value-at t) put-value.Post
+put-value-enum-told-6 t c = search needs
+
+put-value-kind-in-requires-2 : (t : ℕ) → put-value-lts.Need-kind-in-requires-2 (put-value-calls t) (put-value-at t) put-value.Post
+put-value-kind-in-requires-2 t c κs = search needs
+
+put-value-put-count-requires-7 : (t : ℕ) → put-value-lts.Need-put-count-requires-7 (put-value-calls t) (put-value-at t) put-value.Post
+put-value-put-count-requires-7 t c κs = search needs
+
+put-value-put-value-requires-2 : (t : ℕ) → put-value-lts.Need-put-value-requires-2 (put-value-calls t) (put-value-at t) put-value.Post
+put-value-put-value-requires-2 t c κs =
+    let entry = c .before .before .before .before .before .before .before .before .before .before .before
+    .before .before .before .before .before .before .before in
+    let at-if2 = c .before .before .before .before .before .before .before .before .before .before .before
+    .before .if2 in (
+      omega (arith, at-if2 .left, entry .pre .0),
+      (
+        entry .pre .1 .0,
+        omega (arith, at-if2 .left, entry .pre .1 .1),
+        omega (arith, at-if2 .left, entry .pre .1 .2),
+        entry .pre .1 .3,
+      ),
+    )
+
+put-value-put-value-requires-3 : (t : ℕ) → put-value-lts.Need-put-value-requires-3 (put-value-calls t) (put-value-at t) put-value.Post
+put-value-put-value-requires-3 t c κs =
+    let entry = c .before .before .before .before .before .before .before .before .before .before .before
+    .before .before .before .before .before .before .before .before .before .before .before in
+    let at-if3 = c .before .before .before .before .before .before .before .before .before .before .before
+    .before .before .before .before .if3 in (
+      omega (arith, at-if3 .left, entry .pre .0),
+      (
+        entry .pre .1 .0,
+        omega (arith, at-if3 .left, entry .pre .1 .1),
+        omega (arith, at-if3 .left, entry .pre .1 .2),
+        c .before .before .before .put-value2 .ensures .1 .1,
+      ),
+    )
+
+put-value-enum-told-7 : (t : ℕ) → put-value-lts.Need-enum-told-7 (put-value-calls t) (put-value-at t) put-value.Post
+put-value-enum-told-7 t c = search needs
+
+put-value-operand-read-requires : (t : ℕ) → put-value-lts.Need-operand-read-requires (put-value-calls t) (put-value-at t) put-value.Post
+put-value-operand-read-requires t c κs = omega (
+  arith,
+  c .before .before .before .before .before .before .before .before .before .before .before .before .pre .1 .2,
+)
+
+put-value-mul-changes : (t : ℕ) → put-value-lts.Need-mul-changes (put-value-calls t) (put-value-at t) put-value.Post
+put-value-mul-changes t c = search needs
+
+put-value-element-write-changes : (t : ℕ) → put-value-lts.Need-element-write-changes (put-value-calls t) (put-value-at t) put-value.Post
+put-value-element-write-changes t c = search needs
+
+put-value-add-put-value : (t : ℕ) → put-value-lts.Need-add-put-value (put-value-calls t) (put-value-at t) put-value.Post
+put-value-add-put-value t c = search needs
+
+put-value-put-value-requires-4 : (t : ℕ) → put-value-lts.Need-put-value-requires-4 (put-value-calls t) (put-value-at t) put-value.Post
+put-value-put-value-requires-4 t c κs =
+    let entry = c .before .before .before .before .before .before .before .before .before .before .before
+    .before .before .before .before .before in
+    let at-operand-read = c .before .before .before .operand-read in
+    let h = read-below (changeOf (kindIn (getD (entry .args .references .now) (entry .args .from) 0)))
+    (pathOf (entry .args .changes .now) (entry .args .depth)) (leftIn
+    (getD (entry .args .references .now) (entry .args .from) 0)) (rightIn
+    (getD (entry .args .references .now) (entry .args .from) 0)) (entry .args .from)
+    (omega (
+      arith,
+      c .before .before .before .before .before .before .before .before .before .before .before
+          .before .before .left-in .ensures,
+      c .before .before .before .before .before .before .before .before .before .before .if2 .left,
+    ))
+    (omega (
+      arith,
+      c .before .before .before .before .before .before .before .before .before .before .before
+          .before .right-in .ensures,
+      c .before .before .before .before .before .before .before .before .before .if3 .left,
+    )) in (
+      omega (arith, h, at-operand-read .ensures, entry .pre .0),
+      (
+        entry .pre .1 .0,
+        omega
+            (arith, h, at-operand-read .ensures, entry .pre .1 .1),
+        omega
+            (arith, h, at-operand-read .ensures, entry .pre .1 .2),
+        length-set (entry .args .changes .now)
+            (entry .args .depth) (getD (entry .args .references .now) (entry .args .from) 0) ∙ entry .pre .1 .3,
+      ),
+    )
+
+put-value-returns-4 : (t : ℕ) → put-value-lts.Need-returns-4 (put-value-calls t) (put-value-at t) put-value.Post
+put-value-returns-4 t c =
+    let entry = c .before .before .before .before .before .before .before .before .before .before .before
+    .before .before .before .before in (
+      value-literal (entry .args .types .now) (entry .args .plan .now) (entry .args .counters) (entry .args .regions)
+          (entry .args .references .now) (entry .args .from) _ _ (c .before .before .before .before .before .before .before .before .before .before .before
+          .before .left-in .ensures) (c .before .before .before .before .before .before .before .before .before .before .before
+          .right-in .ensures) _ _ _ (omega arith) (omega arith) _ _ _ (c .before .before .before .before .before .before .class-of .ensures)
+          (c .before .before .before .before .before .before .before .kind-in .ensures)
+          (c .before .before .before .before .enum-told .given .1) refl _ (c .before .number-in .ensures)
+          (c .put-literal .ensures),
+      (refl, entry .pre .1 .3),
+    )
+
+put-value-returns-5 : (t : ℕ) → put-value-lts.Need-returns-5 (put-value-calls t) (put-value-at t) put-value.Post
+put-value-returns-5 t c =
+    let entry = c .before .before .before .before .before .before .before .before .before .before .before
+    .before .before .before .before .before .before .before .before .before in (
+      value-input (entry .args .types .now) (entry .args .plan .now) (entry .args .counters) (entry .args .regions)
+          (entry .args .references .now) (entry .args .from) _ _ (c .before .before .before .before .before .before .before .before .before .before .before
+          .before .before .before .before .before .before .left-in .ensures) (c .before .before .before .before .before .before .before .before .before .before .before
+          .before .before .before .before .before .right-in .ensures) _ _ _ (omega arith) (omega arith) _ _ _
+          (c .before .before .before .before .before .before .before .before .before .before .before
+          .class-of .ensures) (c .before .before .before .before .before .before .before .before .before .before .before
+          .before .kind-in .ensures) (c .before .before .before .before .before .before .before .before .before .enum-told2 .given .1)
+          refl _ _ _ (c .before .before .before .before .before .before .number-in2 .ensures)
+          (c .before .type-in .ensures) (c .before .before .before .before .before .put-count3 .ensures)
+          (c .put-offset .ensures),
+      (refl, entry .pre .1 .3),
+    )
+
+put-value-returns-6 : (t : ℕ) → put-value-lts.Need-returns-6 (put-value-calls t) (put-value-at t) put-value.Post
+put-value-returns-6 t c =
+    let entry = c .before .before .before .before .before .before .before .before .before .before .before
+    .before .before .before .before .before .before .before .before .before .before in (
+      value-region (entry .args .types .now) (entry .args .plan .now) (entry .args .counters) (entry .args .regions)
+          (entry .args .references .now) (entry .args .from) _ _ (c .before .before .before .before .before .before .before .before .before .before .before
+          .before .before .before .before .before .before .before .left-in .ensures)
+          (c .before .before .before .before .before .before .before .before .before .before .before
+          .before .before .before .before .before .before .right-in .ensures) _ _ _ (omega arith) (omega arith) _
+          _ _ (c .before .before .before .before .before .before .before .before .before .before .before
+          .before .class-of .ensures) (c .before .before .before .before .before .before .before .before .before .before .before
+          .before .before .kind-in .ensures) (c .before .before .before .before .before .before .before .before .before .before .enum-told3 .given .1)
+          refl _ _ _ _ (c .before .before .before .before .before .before .before .number-in3 .ensures)
+          (c .before .before .before .before .before .before .from-innermost .ensures) (c .before .type-in2 .ensures)
+          (c .before .before .before .before .before .put-count4 .ensures) (c .put-offset2 .ensures),
+      (refl, entry .pre .1 .3),
+    )
+
+put-value-returns-7 : (t : ℕ) → put-value-lts.Need-returns-7 (put-value-calls t) (put-value-at t) put-value.Post
+put-value-returns-7 t c =
+    let entry = c .before .before .before .before .before .before .before .before .before .before .before
+    .before .before .before in (
+      value-output (entry .args .types .now) (entry .args .plan .now) (entry .args .counters) (entry .args .regions)
+          (entry .args .references .now) (entry .args .from) _ _ (c .before .before .before .before .before .before .before .before .before .before .before
+          .left-in .ensures) (c .before .before .before .before .before .before .before .before .before .before
+          .right-in .ensures) _ _ _ (omega arith) (omega arith) _ _ _ (c .before .before .before .before .before .class-of .ensures)
+          (c .before .before .before .before .before .before .kind-in .ensures)
+          (c .before .before .before .enum-told4 .given .1) refl (c .put-count5 .ensures),
+      (refl, entry .pre .1 .3),
+    )
+
+put-value-returns-8 : (t : ℕ) → put-value-lts.Need-returns-8 (put-value-calls t) (put-value-at t) put-value.Post
+put-value-returns-8 t c =
+    let entry = c .before .before .before .before .before .before .before .before .before .before .before
+    .before .before .before .before .before .before .before in (
+      value-negation (entry .args .types .now) (entry .args .plan .now) (entry .args .counters)
+          (entry .args .regions) (entry .args .references .now) (entry .args .from) _ _
+          (c .before .before .before .before .before .before .before .before .before .before .before
+          .before .before .before .before .left-in .ensures) (c .before .before .before .before .before .before .before .before .before .before .before
+          .before .before .before .right-in .ensures) _ _ _ (omega arith) (omega arith) _ _ _
+          (c .before .before .before .before .before .before .before .before .before .class-of .ensures)
+          (c .before .before .before .before .before .before .before .before .before .before .kind-in .ensures)
+          (c .before .before .before .before .before .before .before .enum-told5 .given .1) refl _
+          (c .before .before .before .before .put-count6 .ensures) (c .put-value .ensures .0),
+      c .put-value .ensures .1,
+    )
+
+put-value-returns-9 : (t : ℕ) → put-value-lts.Need-returns-9 (put-value-calls t) (put-value-at t) put-value.Post
+put-value-returns-9 t c =
+    let entry = c .before .before .before .before .before .before .before .before .before .before .before
+    .before .before .before .before .before .before .before .before .before .before .before .before in
+    let at-left-in = c .before .before .before .before .before .before .before .before .before .before .before
+    .before .before .before .before .before .before .before .before .before .left-in in
+    let at-right-in = c .before .before .before .before .before .before .before .before .before .before .before
+    .before .before .before .before .before .before .before .before .right-in in
+    let at-if2 = c .before .before .before .before .before .before .before .before .before .before .before
+    .before .before .before .before .before .before .if2 in
+    let at-if3 = c .before .before .before .before .before .before .before .before .before .before .before
+    .before .before .before .before .before .if3 in
+    let at-kind-in = c .before .before .before .before .before .before .before .before .before .before .before
+    .before .before .before .before .kind-in in
+    let at-class-of = c .before .before .before .before .before .before .before .before .before .before .before
+    .before .before .before .class-of in
+    let at-enum-told6 = c .before .before .before .before .before .before .before .before .before .before .before
+    .before .enum-told6 in
+    let at-kind-in2 = c .before .before .before .before .before .before .before .before .before .kind-in2 in
+    let at-put-count7 = c .before .before .before .before .before .before .before .before .put-count7 in
+    let at-put-value2 = c .before .before .before .before .put-value2 in (
+      value-operation (entry .args .types .now) (entry .args .plan .now) (entry .args .counters)
+          (entry .args .regions) (entry .args .references .now) (entry .args .from) _ _ (at-left-in .ensures)
+          (at-right-in .ensures) _ _ _ (omega (arith, at-if2 .left)) (omega (arith, at-if3 .left)) _ _ _
+          (at-class-of .ensures) (at-kind-in .ensures) (at-enum-told6 .given .1) refl _ _ _ _ (at-kind-in2 .ensures)
+          (path-agree _ _ (entry .args .depth) (at-put-value2 .ensures .1 .0)) (at-put-count7 .ensures)
+          (at-put-value2 .ensures .0) (c .put-value3 .ensures .0),
+      (
+        c .put-value3 .ensures .1 .0 ∙
+            at-put-value2 .ensures .1 .0,
+        c .put-value3 .ensures .1 .1,
+      ),
+    )
+
+put-value-returns-10 : (t : ℕ) → put-value-lts.Need-returns-10 (put-value-calls t) (put-value-at t) put-value.Post
+put-value-returns-10 t c =
+    let entry = c .before .before .before .before .before .before .before .before .before .before .before
+    .before .before .before .before .before .before in (
+      value-rearranged (entry .args .types .now) (entry .args .plan .now) (entry .args .counters)
+          (entry .args .regions) (entry .args .references .now) (entry .args .from) _ _
+          (c .before .before .before .before .before .before .before .before .before .before .before
+          .before .before .before .left-in .ensures) (c .before .before .before .before .before .before .before .before .before .before .before
+          .before .before .right-in .ensures) _ _ _ (omega arith) (omega arith) _ _ _
+          (c .before .before .before .before .before .before .before .before .class-of .ensures)
+          (c .before .before .before .before .before .before .before .before .before .kind-in .ensures)
+          (c .before .before .before .before .before .before .enum-told7 .given .1) refl _ _
+          (path-push (entry .args .changes .now) (entry .args .depth) _ (omega (
+            arith,
+            entry .pre .1 .1,
+            entry .pre .1 .2,
+            entry .pre .1 .3,
+            c .before .before .before .before .before .before .before .before .before .before .before
+                .if2 .left,
+          ))) (c .before .before .before .before .operand-read .ensures) (c .put-value4 .ensures .0),
+      (
+        below-push (entry .args .changes .now) _ (entry .args .depth) _ (c .put-value4 .ensures .1 .0),
+        c .put-value4 .ensures .1 .1,
+      ),
+    )
+
+pub +put-value-spec : {M : Type 1} → statement M
++put-value-spec = close μ-put-value λ t. put-value-lts.spec (put-value-calls t)
     (put-value-at t)
     put-value.Post
     (put-value-mul-node t)

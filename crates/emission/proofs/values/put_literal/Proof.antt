@@ -15,7 +15,10 @@ put-requires : tie.Need-put-requires
 put-requires c κs = search needs
 
 returns : tie.Need-returns
-returns c = put-as _ _ _ _ _ (sym (getD-past (c .before .before .before .before .args .plan .now) (c .before .before .before .before .args .row) (pos 0) (omega arith))) (c .put .ensures)
+returns c =
+    let entry = c .before .before .before .before in
+    put-as _ _ _ _ _ (sym (getD-past (entry .args .plan .now) (entry .args .row) (pos 0) (omega arith)))
+    (c .put .ensures)
 
 mul-put : tie.Need-mul-put
 mul-put c = search needs
@@ -27,7 +30,10 @@ put-requires-2 : tie.Need-put-requires-2
 put-requires-2 c κs = search needs
 
 returns-2 : tie.Need-returns-2
-returns-2 c = put-as _ _ _ _ _ (toZ-ofZ w32 (getD (c .before .before .before .before .before .args .plan .now) (c .before .before .before .before .before .args .row) (pos 0)) (record { sfits = c .before .put-arg5 .given })) (c .put2 .ensures)
+returns-2 c =
+    let entry = c .before .before .before .before .before in
+    put-as _ _ _ _ _ (toZ-ofZ w32 (getD (entry .args .plan .now) (entry .args .row) (pos 0))
+    (record { sfits = c .before .put-arg5 .given })) (c .put2 .ensures)
 
 pub put-literal-spec : {M : Type 1} → statement M
 put-literal-spec =

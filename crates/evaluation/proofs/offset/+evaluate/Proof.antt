@@ -30,254 +30,9 @@ abbrev evaluate-below : ℕ → In 3 evaluate-kinds.ps
 evaluate-below t =
     and 3 evaluate-kinds.ps (falls 3 evaluate-kinds.ps _<_ μ-evaluate t) evaluate.Pre
 
-evaluate-returns : (t : ℕ) → evaluate-lts.Need-returns (
-  natural-reads.Asked,
-  natural-reads.Learnt,
-  entry-reads.Asked,
-  entry-reads.Learnt,
-  evaluate-below t,
-  evaluate.Post,
-  sum-reads.Asked,
-  sum-reads.Learnt,
-  scaled-reads.Asked,
-  scaled-reads.Learnt,
-) (evaluate-at t) evaluate.Post
-evaluate-returns t c = let a = c .before .args in
-    (omega arith, offsets.offset-none (a .kinds .now) (a .numbers .now) (a .at) (entry (drop (a .c) (a .counters .now))) 0 (a .at) (c .if1 .taken))
-
-evaluate-element-copy-out-kind : (t : ℕ) → evaluate-lts.Need-element-copy-out-kind (
-  natural-reads.Asked,
-  natural-reads.Learnt,
-  entry-reads.Asked,
-  entry-reads.Learnt,
-  evaluate-below t,
-  evaluate.Post,
-  sum-reads.Asked,
-  sum-reads.Learnt,
-  scaled-reads.Asked,
-  scaled-reads.Learnt,
-) (evaluate-at t) evaluate.Post
-evaluate-element-copy-out-kind t c = search needs
-
-evaluate-mul-natural : (t : ℕ) → evaluate-lts.Need-mul-natural (
-  natural-reads.Asked,
-  natural-reads.Learnt,
-  entry-reads.Asked,
-  entry-reads.Learnt,
-  evaluate-below t,
-  evaluate.Post,
-  sum-reads.Asked,
-  sum-reads.Learnt,
-  scaled-reads.Asked,
-  scaled-reads.Learnt,
-) (evaluate-at t) evaluate.Post
-evaluate-mul-natural t c = search needs
-
-evaluate-element-copy-out-natural : (t : ℕ) → evaluate-lts.Need-element-copy-out-natural (
-  natural-reads.Asked,
-  natural-reads.Learnt,
-  entry-reads.Asked,
-  entry-reads.Learnt,
-  evaluate-below t,
-  evaluate.Post,
-  sum-reads.Asked,
-  sum-reads.Learnt,
-  scaled-reads.Asked,
-  scaled-reads.Learnt,
-) (evaluate-at t) evaluate.Post
-evaluate-element-copy-out-natural t c = search needs
-
-evaluate-natural-requires : (t : ℕ) → evaluate-lts.Need-natural-requires (
-  natural-reads.Asked,
-  natural-reads.Learnt,
-  entry-reads.Asked,
-  entry-reads.Learnt,
-  evaluate-below t,
-  evaluate.Post,
-  sum-reads.Asked,
-  sum-reads.Learnt,
-  scaled-reads.Asked,
-  scaled-reads.Learnt,
-) (evaluate-at t) evaluate.Post
-evaluate-natural-requires t c κs = search needs
-
-evaluate-add-t18 : (t : ℕ) → evaluate-lts.Need-add-t18 (
-  natural-reads.Asked,
-  natural-reads.Learnt,
-  entry-reads.Asked,
-  entry-reads.Learnt,
-  evaluate-below t,
-  evaluate.Post,
-  sum-reads.Asked,
-  sum-reads.Learnt,
-  scaled-reads.Asked,
-  scaled-reads.Learnt,
-) (evaluate-at t) evaluate.Post
-evaluate-add-t18 t c = search needs
-
-evaluate-returns-2 : (t : ℕ) → evaluate-lts.Need-returns-2 (
-  natural-reads.Asked,
-  natural-reads.Learnt,
-  entry-reads.Asked,
-  entry-reads.Learnt,
-  evaluate-below t,
-  evaluate.Post,
-  sum-reads.Asked,
-  sum-reads.Learnt,
-  scaled-reads.Asked,
-  scaled-reads.Learnt,
-) (evaluate-at t) evaluate.Post
-evaluate-returns-2 t c = let a = c .before .before .before .before .before .args in
-    (omega arith, offsets.literal (a .kinds .now) (a .numbers .now) (a .at) (entry (drop (a .c) (a .counters .now))) (c .before .natural .result) (c .if2 .taken) (natural-of (getD (a .numbers .now) (a .at) (pos 0)) (record { sfits = c .before .before .natural-arg .given }) (c .before .natural .ensures)))
-
-evaluate-entry-requires : (t : ℕ) → evaluate-lts.Need-entry-requires (
-  natural-reads.Asked,
-  natural-reads.Learnt,
-  entry-reads.Asked,
-  entry-reads.Learnt,
-  evaluate-below t,
-  evaluate.Post,
-  sum-reads.Asked,
-  sum-reads.Learnt,
-  scaled-reads.Asked,
-  scaled-reads.Learnt,
-) (evaluate-at t) evaluate.Post
-evaluate-entry-requires t c κs = search needs
-
-evaluate-add-t22 : (t : ℕ) → evaluate-lts.Need-add-t22 (
-  natural-reads.Asked,
-  natural-reads.Learnt,
-  entry-reads.Asked,
-  entry-reads.Learnt,
-  evaluate-below t,
-  evaluate.Post,
-  sum-reads.Asked,
-  sum-reads.Learnt,
-  scaled-reads.Asked,
-  scaled-reads.Learnt,
-) (evaluate-at t) evaluate.Post
-evaluate-add-t22 t c = search needs
-
-evaluate-returns-3 : (t : ℕ) → evaluate-lts.Need-returns-3 (
-  natural-reads.Asked,
-  natural-reads.Learnt,
-  entry-reads.Asked,
-  entry-reads.Learnt,
-  evaluate-below t,
-  evaluate.Post,
-  sum-reads.Asked,
-  sum-reads.Learnt,
-  scaled-reads.Asked,
-  scaled-reads.Learnt,
-) (evaluate-at t) evaluate.Post
-evaluate-returns-3 t c = let a = c .before .before .before .before .before .before .before .before .args in
-    (omega arith, offsets.counter (a .kinds .now) (a .numbers .now) (a .at) (entry (drop (a .c) (a .counters .now))) (c .entry .result) (c .before .before .if3 .taken) (c .entry .ensures ∙ ap (entry (drop (a .c) (a .counters .now))) (natural-of (getD (a .numbers .now) (a .at) (pos 0)) (record { sfits = c .before .before .before .before .before .natural-arg .given }) (c .before .before .before .before .natural .ensures))))
-
-evaluate-add-evaluate : (t : ℕ) → evaluate-lts.Need-add-evaluate (
-  natural-reads.Asked,
-  natural-reads.Learnt,
-  entry-reads.Asked,
-  entry-reads.Learnt,
-  evaluate-below t,
-  evaluate.Post,
-  sum-reads.Asked,
-  sum-reads.Learnt,
-  scaled-reads.Asked,
-  scaled-reads.Learnt,
-) (evaluate-at t) evaluate.Post
-evaluate-add-evaluate t c = search needs
-
-evaluate-evaluate-requires : (t : ℕ) → evaluate-lts.Need-evaluate-requires (
-  natural-reads.Asked,
-  natural-reads.Learnt,
-  entry-reads.Asked,
-  entry-reads.Learnt,
-  evaluate-below t,
-  evaluate.Post,
-  sum-reads.Asked,
-  sum-reads.Learnt,
-  scaled-reads.Asked,
-  scaled-reads.Learnt,
-) (evaluate-at t) evaluate.Post
-evaluate-evaluate-requires t c κs = search needs
-
-evaluate-evaluate-requires-2 : (t : ℕ) → evaluate-lts.Need-evaluate-requires-2 (
-  natural-reads.Asked,
-  natural-reads.Learnt,
-  entry-reads.Asked,
-  entry-reads.Learnt,
-  evaluate-below t,
-  evaluate.Post,
-  sum-reads.Asked,
-  sum-reads.Learnt,
-  scaled-reads.Asked,
-  scaled-reads.Learnt,
-) (evaluate-at t) evaluate.Post
-evaluate-evaluate-requires-2 t c κs = search needs
-
-evaluate-sum-requires : (t : ℕ) → evaluate-lts.Need-sum-requires (
-  natural-reads.Asked,
-  natural-reads.Learnt,
-  entry-reads.Asked,
-  entry-reads.Learnt,
-  evaluate-below t,
-  evaluate.Post,
-  sum-reads.Asked,
-  sum-reads.Learnt,
-  scaled-reads.Asked,
-  scaled-reads.Learnt,
-) (evaluate-at t) evaluate.Post
-evaluate-sum-requires t c κs = search needs
-
-evaluate-returns-4 : (t : ℕ) → evaluate-lts.Need-returns-4 (
-  natural-reads.Asked,
-  natural-reads.Learnt,
-  entry-reads.Asked,
-  entry-reads.Learnt,
-  evaluate-below t,
-  evaluate.Post,
-  sum-reads.Asked,
-  sum-reads.Learnt,
-  scaled-reads.Asked,
-  scaled-reads.Learnt,
-) (evaluate-at t) evaluate.Post
-evaluate-returns-4 t c = let a = c .before .before .before .before .before .before .before .before .before .before .args in
-    let first = c .before .before .before .evaluate in
-    let second = c .before .evaluate2 in
-    (omega (arith, first .ensures .0, second .ensures .0), offsets.sum (a .kinds .now) (a .numbers .now) (a .at) (entry (drop (a .c) (a .counters .now))) (c .sum .result) (first .result .number) (first .result .next) (second .result .number) (second .result .next) (c .before .before .if4 .taken) (first .ensures .1) (second .ensures .1) (c .sum .ensures))
-
-evaluate-scaled-requires : (t : ℕ) → evaluate-lts.Need-scaled-requires (
-  natural-reads.Asked,
-  natural-reads.Learnt,
-  entry-reads.Asked,
-  entry-reads.Learnt,
-  evaluate-below t,
-  evaluate.Post,
-  sum-reads.Asked,
-  sum-reads.Learnt,
-  scaled-reads.Asked,
-  scaled-reads.Learnt,
-) (evaluate-at t) evaluate.Post
-evaluate-scaled-requires t c κs = search needs
-
-evaluate-returns-5 : (t : ℕ) → evaluate-lts.Need-returns-5 (
-  natural-reads.Asked,
-  natural-reads.Learnt,
-  entry-reads.Asked,
-  entry-reads.Learnt,
-  evaluate-below t,
-  evaluate.Post,
-  sum-reads.Asked,
-  sum-reads.Learnt,
-  scaled-reads.Asked,
-  scaled-reads.Learnt,
-) (evaluate-at t) evaluate.Post
-evaluate-returns-5 t c = let a = c .before .before .before .before .before .before .before .before .before .args in
-    let first = c .before .before .evaluate in
-    (omega (arith, first .ensures .0), offsets.scaled (a .kinds .now) (a .numbers .now) (a .at) (entry (drop (a .c) (a .counters .now))) (c .scaled .result) _ (c .before .before .before .before .before .natural .result) (first .result .number) (first .result .next) refl (c .before .before .before .before .if2 .left) (c .before .before .before .if3 .left) (c .before .if4 .left) (first .ensures .1) (natural-of (getD (a .numbers .now) (a .at) (pos 0)) (record { sfits = c .before .before .before .before .before .before .natural-arg .given }) (c .before .before .before .before .before .natural .ensures)) (c .scaled .ensures .0) (c .scaled .ensures .1 .0) (c .scaled .ensures .1 .1))
-
-pub +evaluate-spec : {M : Type 1} → statement M
-+evaluate-spec = close μ-evaluate λ t. evaluate-lts.spec (
+-- what the callees of `evaluate` ask, and what they promise
+abbrev evaluate-calls : ℕ → evaluate-lts.Claims
+evaluate-calls t = (
   natural-reads.Asked,
   natural-reads.Learnt,
   entry-reads.Asked,
@@ -289,6 +44,102 @@ pub +evaluate-spec : {M : Type 1} → statement M
   scaled-reads.Asked,
   scaled-reads.Learnt,
 )
+
+evaluate-returns : (t : ℕ) → evaluate-lts.Need-returns (evaluate-calls t) (evaluate-at t) evaluate.Post
+evaluate-returns t c =
+    let a = c .before .args in (
+      omega arith,
+      offsets.offset-none (a .kinds .now) (a .numbers .now) (a .at)
+          (entry (drop (a .c) (a .counters .now))) 0 (a .at) (c .if1 .taken),
+    )
+
+evaluate-element-copy-out-kind : (t : ℕ) → evaluate-lts.Need-element-copy-out-kind (evaluate-calls t) (evaluate-at t) evaluate.Post
+evaluate-element-copy-out-kind t c = search needs
+
+evaluate-mul-natural : (t : ℕ) → evaluate-lts.Need-mul-natural (evaluate-calls t) (evaluate-at t) evaluate.Post
+evaluate-mul-natural t c = search needs
+
+evaluate-element-copy-out-natural : (t : ℕ) → evaluate-lts.Need-element-copy-out-natural (evaluate-calls t) (evaluate-at t) evaluate.Post
+evaluate-element-copy-out-natural t c = search needs
+
+evaluate-natural-requires : (t : ℕ) → evaluate-lts.Need-natural-requires (evaluate-calls t) (evaluate-at t) evaluate.Post
+evaluate-natural-requires t c κs = search needs
+
+evaluate-add-t18 : (t : ℕ) → evaluate-lts.Need-add-t18 (evaluate-calls t) (evaluate-at t) evaluate.Post
+evaluate-add-t18 t c = search needs
+
+evaluate-returns-2 : (t : ℕ) → evaluate-lts.Need-returns-2 (evaluate-calls t) (evaluate-at t) evaluate.Post
+evaluate-returns-2 t c =
+    let a = c .before .before .before .before .before .args in (
+      omega arith,
+      offsets.literal (a .kinds .now) (a .numbers .now) (a .at) (entry (drop (a .c) (a .counters .now)))
+          (c .before .natural .result) (c .if2 .taken) (natural-of (getD (a .numbers .now) (a .at) (pos 0))
+          (record { sfits = c .before .before .natural-arg .given }) (c .before .natural .ensures)),
+    )
+
+evaluate-entry-requires : (t : ℕ) → evaluate-lts.Need-entry-requires (evaluate-calls t) (evaluate-at t) evaluate.Post
+evaluate-entry-requires t c κs = search needs
+
+evaluate-add-t22 : (t : ℕ) → evaluate-lts.Need-add-t22 (evaluate-calls t) (evaluate-at t) evaluate.Post
+evaluate-add-t22 t c = search needs
+
+evaluate-returns-3 : (t : ℕ) → evaluate-lts.Need-returns-3 (evaluate-calls t) (evaluate-at t) evaluate.Post
+evaluate-returns-3 t c =
+    let a = c .before .before .before .before .before .before .before .before .args in (
+      omega arith,
+      offsets.counter (a .kinds .now) (a .numbers .now) (a .at) (entry (drop (a .c) (a .counters .now)))
+          (c .entry .result) (c .before .before .if3 .taken) (c .entry .ensures ∙ ap
+          (entry (drop (a .c) (a .counters .now))) (natural-of (getD (a .numbers .now) (a .at) (pos 0)) (record
+          { sfits = c .before .before .before .before .before .natural-arg .given })
+          (c .before .before .before .before .natural .ensures))),
+    )
+
+evaluate-add-evaluate : (t : ℕ) → evaluate-lts.Need-add-evaluate (evaluate-calls t) (evaluate-at t) evaluate.Post
+evaluate-add-evaluate t c = search needs
+
+evaluate-evaluate-requires : (t : ℕ) → evaluate-lts.Need-evaluate-requires (evaluate-calls t) (evaluate-at t) evaluate.Post
+evaluate-evaluate-requires t c κs = search needs
+
+evaluate-evaluate-requires-2 : (t : ℕ) → evaluate-lts.Need-evaluate-requires-2 (evaluate-calls t) (evaluate-at t) evaluate.Post
+evaluate-evaluate-requires-2 t c κs = search needs
+
+evaluate-sum-requires : (t : ℕ) → evaluate-lts.Need-sum-requires (evaluate-calls t) (evaluate-at t) evaluate.Post
+evaluate-sum-requires t c κs = search needs
+
+evaluate-returns-4 : (t : ℕ) → evaluate-lts.Need-returns-4 (evaluate-calls t) (evaluate-at t) evaluate.Post
+evaluate-returns-4 t c =
+    let a = c .before .before .before .before .before .before .before .before .before .before .args in
+    let first = c .before .before .before .evaluate in
+    let second = c .before .evaluate2 in (
+      omega (arith, first .ensures .0, second .ensures .0),
+      offsets.sum (a .kinds .now) (a .numbers .now) (a .at)
+          (entry (drop (a .c) (a .counters .now))) (c .sum .result) (first .result .number) (first .result .next)
+          (second .result .number) (second .result .next) (c .before .before .if4 .taken) (first .ensures .1)
+          (second .ensures .1) (c .sum .ensures),
+    )
+
+evaluate-scaled-requires : (t : ℕ) → evaluate-lts.Need-scaled-requires (evaluate-calls t) (evaluate-at t) evaluate.Post
+evaluate-scaled-requires t c κs = search needs
+
+evaluate-returns-5 : (t : ℕ) → evaluate-lts.Need-returns-5 (evaluate-calls t) (evaluate-at t) evaluate.Post
+evaluate-returns-5 t c =
+    let at-natural = c .before .before .before .before .before .natural in
+    let a = c .before .before .before .before .before .before .before .before .before .args in
+    let first = c .before .before .evaluate in (
+      omega (arith, first .ensures .0),
+      offsets.scaled (a .kinds .now) (a .numbers .now) (a .at)
+          (entry (drop (a .c) (a .counters .now))) (c .scaled .result) _ (at-natural .result) (first .result .number)
+          (first .result .next) refl (c .before .before .before .before .if2 .left)
+          (c .before .before .before .if3 .left) (c .before .if4 .left) (first .ensures .1) (natural-of
+          (getD (a .numbers .now) (a .at) (pos 0)) (record {
+            sfits =
+                c .before .before .before .before .before .before .natural-arg .given;
+          }) (at-natural .ensures))
+          (c .scaled .ensures .0) (c .scaled .ensures .1 .0) (c .scaled .ensures .1 .1),
+    )
+
+pub +evaluate-spec : {M : Type 1} → statement M
++evaluate-spec = close μ-evaluate λ t. evaluate-lts.spec (evaluate-calls t)
     (evaluate-at t)
     evaluate.Post
     (evaluate-returns t)

@@ -8,7 +8,8 @@ use Rattle.evaluation.proofs.offset.entry.Statement.{statement}
 use Rattle.evaluation.proofs.offset.entry.Tie as tie
 
 returns : tie.Need-returns
-returns c = sym (getD-drop (c .before .args .first) (c .before .args .list .now) (c .before .args .d) 0 ∙ List·getD-eq-default (c .before .args .list .now) 0 (omega (arith, c .if1 .taken)))
+returns c = sym (getD-drop (c .before .args .first) (c .before .args .list .now) (c .before .args .d) 0 ∙
+    List·getD-eq-default (c .before .args .list .now) 0 (omega (arith, c .if1 .taken)))
 
 sub-if2 : tie.Need-sub-if2
 sub-if2 c = search needs
@@ -23,10 +24,15 @@ shared-slice-read-result : tie.Need-shared-slice-read-result
 shared-slice-read-result c = search needs
 
 returns-2 : tie.Need-returns-2
-returns-2 c = sym (getD-drop (c .before .before .before .args .first) (c .before .before .before .args .list .now) (c .before .before .before .args .d) 0)
+returns-2 c =
+    let entry = c .before .before .before in
+    sym (getD-drop (entry .args .first) (entry .args .list .now) (entry .args .d) 0)
 
 returns-3 : tie.Need-returns-3
-returns-3 c = sym (getD-drop (c .before .before .args .first) (c .before .before .args .list .now) (c .before .before .args .d) 0 ∙ List·getD-eq-default (c .before .before .args .list .now) 0 (omega (arith, c .before .if1 .left, c .if2 .left)))
+returns-3 c =
+    let entry = c .before .before in
+    sym (getD-drop (entry .args .first) (entry .args .list .now) (entry .args .d) 0 ∙ List·getD-eq-default
+    (entry .args .list .now) 0 (omega (arith, c .before .if1 .left, c .if2 .left)))
 
 pub entry-spec : {M : Type 1} → statement M
 entry-spec =

@@ -34,387 +34,9 @@ abbrev evaluate-below : ℕ → In 7 evaluate-kinds.ps
 evaluate-below t =
     and 7 evaluate-kinds.ps (falls 7 evaluate-kinds.ps _<_ μ-evaluate t) evaluate.Pre
 
-evaluate-returns : (t : ℕ) → evaluate-lts.Need-returns (
-  natural-reads.Asked,
-  natural-reads.Learnt,
-  entry-reads.Asked,
-  entry-reads.Learnt,
-  reading-reads.Asked,
-  reading-reads.Learnt,
-  evaluate-below t,
-  evaluate.Post,
-  neg-reads.Asked,
-  neg-reads.Learnt,
-  operate-reads.Asked,
-  operate-reads.Learnt,
-) (evaluate-at t) evaluate.Post
-evaluate-returns t c = let a = c .before .before .args in
-    (omega arith, values.value-none (a .kinds .now) (a .numbers .now) (a .at) (a .inputs .now) (entry (drop (a .c) (a .counters .now))) (entry (drop (a .r) (a .regions .now))) (storeOf (a .cells .now) (a .bytes .now)) (pos 0) (a .at) (c .if1 .taken))
-
-evaluate-element-copy-out-kind : (t : ℕ) → evaluate-lts.Need-element-copy-out-kind (
-  natural-reads.Asked,
-  natural-reads.Learnt,
-  entry-reads.Asked,
-  entry-reads.Learnt,
-  reading-reads.Asked,
-  reading-reads.Learnt,
-  evaluate-below t,
-  evaluate.Post,
-  neg-reads.Asked,
-  neg-reads.Learnt,
-  operate-reads.Asked,
-  operate-reads.Learnt,
-) (evaluate-at t) evaluate.Post
-evaluate-element-copy-out-kind t c = search needs
-
-evaluate-mul-n : (t : ℕ) → evaluate-lts.Need-mul-n (
-  natural-reads.Asked,
-  natural-reads.Learnt,
-  entry-reads.Asked,
-  entry-reads.Learnt,
-  reading-reads.Asked,
-  reading-reads.Learnt,
-  evaluate-below t,
-  evaluate.Post,
-  neg-reads.Asked,
-  neg-reads.Learnt,
-  operate-reads.Asked,
-  operate-reads.Learnt,
-) (evaluate-at t) evaluate.Post
-evaluate-mul-n t c = search needs
-
-evaluate-element-copy-out-n : (t : ℕ) → evaluate-lts.Need-element-copy-out-n (
-  natural-reads.Asked,
-  natural-reads.Learnt,
-  entry-reads.Asked,
-  entry-reads.Learnt,
-  reading-reads.Asked,
-  reading-reads.Learnt,
-  evaluate-below t,
-  evaluate.Post,
-  neg-reads.Asked,
-  neg-reads.Learnt,
-  operate-reads.Asked,
-  operate-reads.Learnt,
-) (evaluate-at t) evaluate.Post
-evaluate-element-copy-out-n t c = search needs
-
-evaluate-add-t25 : (t : ℕ) → evaluate-lts.Need-add-t25 (
-  natural-reads.Asked,
-  natural-reads.Learnt,
-  entry-reads.Asked,
-  entry-reads.Learnt,
-  reading-reads.Asked,
-  reading-reads.Learnt,
-  evaluate-below t,
-  evaluate.Post,
-  neg-reads.Asked,
-  neg-reads.Learnt,
-  operate-reads.Asked,
-  operate-reads.Learnt,
-) (evaluate-at t) evaluate.Post
-evaluate-add-t25 t c = search needs
-
-evaluate-returns-2 : (t : ℕ) → evaluate-lts.Need-returns-2 (
-  natural-reads.Asked,
-  natural-reads.Learnt,
-  entry-reads.Asked,
-  entry-reads.Learnt,
-  reading-reads.Asked,
-  reading-reads.Learnt,
-  evaluate-below t,
-  evaluate.Post,
-  neg-reads.Asked,
-  neg-reads.Learnt,
-  operate-reads.Asked,
-  operate-reads.Learnt,
-) (evaluate-at t) evaluate.Post
-evaluate-returns-2 t c = let a = c .before .before .before .before .before .args in
-    (omega arith, values.literal (a .kinds .now) (a .numbers .now) (a .at) (a .inputs .now) (entry (drop (a .c) (a .counters .now))) (entry (drop (a .r) (a .regions .now))) (storeOf (a .cells .now) (a .bytes .now)) _ (c .if2 .taken) (back _ (c .before .n .given)))
-
-evaluate-natural-requires : (t : ℕ) → evaluate-lts.Need-natural-requires (
-  natural-reads.Asked,
-  natural-reads.Learnt,
-  entry-reads.Asked,
-  entry-reads.Learnt,
-  reading-reads.Asked,
-  reading-reads.Learnt,
-  evaluate-below t,
-  evaluate.Post,
-  neg-reads.Asked,
-  neg-reads.Learnt,
-  operate-reads.Asked,
-  operate-reads.Learnt,
-) (evaluate-at t) evaluate.Post
-evaluate-natural-requires t c κs = search needs
-
-evaluate-entry-requires : (t : ℕ) → evaluate-lts.Need-entry-requires (
-  natural-reads.Asked,
-  natural-reads.Learnt,
-  entry-reads.Asked,
-  entry-reads.Learnt,
-  reading-reads.Asked,
-  reading-reads.Learnt,
-  evaluate-below t,
-  evaluate.Post,
-  neg-reads.Asked,
-  neg-reads.Learnt,
-  operate-reads.Asked,
-  operate-reads.Learnt,
-) (evaluate-at t) evaluate.Post
-evaluate-entry-requires t c κs = search needs
-
-evaluate-add-reading : (t : ℕ) → evaluate-lts.Need-add-reading (
-  natural-reads.Asked,
-  natural-reads.Learnt,
-  entry-reads.Asked,
-  entry-reads.Learnt,
-  reading-reads.Asked,
-  reading-reads.Learnt,
-  evaluate-below t,
-  evaluate.Post,
-  neg-reads.Asked,
-  neg-reads.Learnt,
-  operate-reads.Asked,
-  operate-reads.Learnt,
-) (evaluate-at t) evaluate.Post
-evaluate-add-reading t c = search needs
-
-evaluate-reading-requires : (t : ℕ) → evaluate-lts.Need-reading-requires (
-  natural-reads.Asked,
-  natural-reads.Learnt,
-  entry-reads.Asked,
-  entry-reads.Learnt,
-  reading-reads.Asked,
-  reading-reads.Learnt,
-  evaluate-below t,
-  evaluate.Post,
-  neg-reads.Asked,
-  neg-reads.Learnt,
-  operate-reads.Asked,
-  operate-reads.Learnt,
-) (evaluate-at t) evaluate.Post
-evaluate-reading-requires t c κs = search needs
-
-evaluate-returns-3 : (t : ℕ) → evaluate-lts.Need-returns-3 (
-  natural-reads.Asked,
-  natural-reads.Learnt,
-  entry-reads.Asked,
-  entry-reads.Learnt,
-  reading-reads.Asked,
-  reading-reads.Learnt,
-  evaluate-below t,
-  evaluate.Post,
-  neg-reads.Asked,
-  neg-reads.Learnt,
-  operate-reads.Asked,
-  operate-reads.Learnt,
-) (evaluate-at t) evaluate.Post
-evaluate-returns-3 t c = let a = c .before .before .before .before .before .before .before .before .before .before .args in
-    let reading = c .reading in
-    (omega (arith, reading .ensures .0), values.input (a .kinds .now) (a .numbers .now) (a .at) (a .inputs .now) (entry (drop (a .c) (a .counters .now))) (entry (drop (a .r) (a .regions .now))) (storeOf (a .cells .now) (a .bytes .now)) (reading .result .number) (reading .result .next) (c .before .entry .result) (c .before .before .before .before .if3 .taken) (c .before .entry .ensures ∙ ap (λ (j : ℕ). getD (a .inputs .now) j 0) (natural-of (getD (a .numbers .now) (a .at) (pos 0)) (record { sfits = c .before .before .before .before .before .before .n .given }) (c .before .before .natural .ensures))) (reading .ensures .1))
-
-evaluate-natural-requires-2 : (t : ℕ) → evaluate-lts.Need-natural-requires-2 (
-  natural-reads.Asked,
-  natural-reads.Learnt,
-  entry-reads.Asked,
-  entry-reads.Learnt,
-  reading-reads.Asked,
-  reading-reads.Learnt,
-  evaluate-below t,
-  evaluate.Post,
-  neg-reads.Asked,
-  neg-reads.Learnt,
-  operate-reads.Asked,
-  operate-reads.Learnt,
-) (evaluate-at t) evaluate.Post
-evaluate-natural-requires-2 t c κs = search needs
-
-evaluate-entry-requires-2 : (t : ℕ) → evaluate-lts.Need-entry-requires-2 (
-  natural-reads.Asked,
-  natural-reads.Learnt,
-  entry-reads.Asked,
-  entry-reads.Learnt,
-  reading-reads.Asked,
-  reading-reads.Learnt,
-  evaluate-below t,
-  evaluate.Post,
-  neg-reads.Asked,
-  neg-reads.Learnt,
-  operate-reads.Asked,
-  operate-reads.Learnt,
-) (evaluate-at t) evaluate.Post
-evaluate-entry-requires-2 t c κs = search needs
-
-evaluate-add-reading-2 : (t : ℕ) → evaluate-lts.Need-add-reading-2 (
-  natural-reads.Asked,
-  natural-reads.Learnt,
-  entry-reads.Asked,
-  entry-reads.Learnt,
-  reading-reads.Asked,
-  reading-reads.Learnt,
-  evaluate-below t,
-  evaluate.Post,
-  neg-reads.Asked,
-  neg-reads.Learnt,
-  operate-reads.Asked,
-  operate-reads.Learnt,
-) (evaluate-at t) evaluate.Post
-evaluate-add-reading-2 t c = search needs
-
-evaluate-reading-requires-2 : (t : ℕ) → evaluate-lts.Need-reading-requires-2 (
-  natural-reads.Asked,
-  natural-reads.Learnt,
-  entry-reads.Asked,
-  entry-reads.Learnt,
-  reading-reads.Asked,
-  reading-reads.Learnt,
-  evaluate-below t,
-  evaluate.Post,
-  neg-reads.Asked,
-  neg-reads.Learnt,
-  operate-reads.Asked,
-  operate-reads.Learnt,
-) (evaluate-at t) evaluate.Post
-evaluate-reading-requires-2 t c κs = search needs
-
-evaluate-returns-4 : (t : ℕ) → evaluate-lts.Need-returns-4 (
-  natural-reads.Asked,
-  natural-reads.Learnt,
-  entry-reads.Asked,
-  entry-reads.Learnt,
-  reading-reads.Asked,
-  reading-reads.Learnt,
-  evaluate-below t,
-  evaluate.Post,
-  neg-reads.Asked,
-  neg-reads.Learnt,
-  operate-reads.Asked,
-  operate-reads.Learnt,
-) (evaluate-at t) evaluate.Post
-evaluate-returns-4 t c = let a = c .before .before .before .before .before .before .before .before .before .before .before .args in
-    let reading = c .reading2 in
-    (omega (arith, reading .ensures .0), values.region (a .kinds .now) (a .numbers .now) (a .at) (a .inputs .now) (entry (drop (a .c) (a .counters .now))) (entry (drop (a .r) (a .regions .now))) (storeOf (a .cells .now) (a .bytes .now)) (reading .result .number) (reading .result .next) (c .before .entry2 .result) (c .before .before .before .before .if4 .taken) (c .before .entry2 .ensures ∙ ap (entry (drop (a .r) (a .regions .now))) (natural-of (getD (a .numbers .now) (a .at) (pos 0)) (record { sfits = c .before .before .before .before .before .before .before .n .given }) (c .before .before .natural2 .ensures))) (reading .ensures .1))
-
-evaluate-add-evaluate : (t : ℕ) → evaluate-lts.Need-add-evaluate (
-  natural-reads.Asked,
-  natural-reads.Learnt,
-  entry-reads.Asked,
-  entry-reads.Learnt,
-  reading-reads.Asked,
-  reading-reads.Learnt,
-  evaluate-below t,
-  evaluate.Post,
-  neg-reads.Asked,
-  neg-reads.Learnt,
-  operate-reads.Asked,
-  operate-reads.Learnt,
-) (evaluate-at t) evaluate.Post
-evaluate-add-evaluate t c = search needs
-
-evaluate-evaluate-requires : (t : ℕ) → evaluate-lts.Need-evaluate-requires (
-  natural-reads.Asked,
-  natural-reads.Learnt,
-  entry-reads.Asked,
-  entry-reads.Learnt,
-  reading-reads.Asked,
-  reading-reads.Learnt,
-  evaluate-below t,
-  evaluate.Post,
-  neg-reads.Asked,
-  neg-reads.Learnt,
-  operate-reads.Asked,
-  operate-reads.Learnt,
-) (evaluate-at t) evaluate.Post
-evaluate-evaluate-requires t c κs = search needs
-
-evaluate-neg-requires : (t : ℕ) → evaluate-lts.Need-neg-requires (
-  natural-reads.Asked,
-  natural-reads.Learnt,
-  entry-reads.Asked,
-  entry-reads.Learnt,
-  reading-reads.Asked,
-  reading-reads.Learnt,
-  evaluate-below t,
-  evaluate.Post,
-  neg-reads.Asked,
-  neg-reads.Learnt,
-  operate-reads.Asked,
-  operate-reads.Learnt,
-) (evaluate-at t) evaluate.Post
-evaluate-neg-requires t c κs = search needs
-
-evaluate-returns-5 : (t : ℕ) → evaluate-lts.Need-returns-5 (
-  natural-reads.Asked,
-  natural-reads.Learnt,
-  entry-reads.Asked,
-  entry-reads.Learnt,
-  reading-reads.Asked,
-  reading-reads.Learnt,
-  evaluate-below t,
-  evaluate.Post,
-  neg-reads.Asked,
-  neg-reads.Learnt,
-  operate-reads.Asked,
-  operate-reads.Learnt,
-) (evaluate-at t) evaluate.Post
-evaluate-returns-5 t c = let a = c .before .before .before .before .before .before .before .before .before .before .before .args in
-    let first = c .before .before .before .evaluate in
-    (omega (arith, first .ensures .0), values.negated (a .kinds .now) (a .numbers .now) (a .at) (a .inputs .now) (entry (drop (a .c) (a .counters .now))) (entry (drop (a .r) (a .regions .now))) (storeOf (a .cells .now) (a .bytes .now)) _ (first .result .number) (first .result .next) (c .before .before .if5 .taken) (first .ensures .1) (back _ (c .neg .ok) ∙ c .neg .ensures ∙ ap negation (back (first .result .number) (c .before .struct-told .given .0 .1))))
-
-evaluate-evaluate-requires-2 : (t : ℕ) → evaluate-lts.Need-evaluate-requires-2 (
-  natural-reads.Asked,
-  natural-reads.Learnt,
-  entry-reads.Asked,
-  entry-reads.Learnt,
-  reading-reads.Asked,
-  reading-reads.Learnt,
-  evaluate-below t,
-  evaluate.Post,
-  neg-reads.Asked,
-  neg-reads.Learnt,
-  operate-reads.Asked,
-  operate-reads.Learnt,
-) (evaluate-at t) evaluate.Post
-evaluate-evaluate-requires-2 t c κs = search needs
-
-evaluate-operate-requires : (t : ℕ) → evaluate-lts.Need-operate-requires (
-  natural-reads.Asked,
-  natural-reads.Learnt,
-  entry-reads.Asked,
-  entry-reads.Learnt,
-  reading-reads.Asked,
-  reading-reads.Learnt,
-  evaluate-below t,
-  evaluate.Post,
-  neg-reads.Asked,
-  neg-reads.Learnt,
-  operate-reads.Asked,
-  operate-reads.Learnt,
-) (evaluate-at t) evaluate.Post
-evaluate-operate-requires t c κs = search needs
-
-evaluate-returns-6 : (t : ℕ) → evaluate-lts.Need-returns-6 (
-  natural-reads.Asked,
-  natural-reads.Learnt,
-  entry-reads.Asked,
-  entry-reads.Learnt,
-  reading-reads.Asked,
-  reading-reads.Learnt,
-  evaluate-below t,
-  evaluate.Post,
-  neg-reads.Asked,
-  neg-reads.Learnt,
-  operate-reads.Asked,
-  operate-reads.Learnt,
-) (evaluate-at t) evaluate.Post
-evaluate-returns-6 t c = let a = c .before .before .before .before .before .before .before .before .before .before .before .before .before .args in
-    let first = c .before .before .before .before .before .evaluate in
-    let second = c .before .before .before .evaluate2 in
-    (omega (arith, first .ensures .0, second .ensures .0), values.operated (a .kinds .now) (a .numbers .now) (a .at) (a .inputs .now) (entry (drop (a .c) (a .counters .now))) (entry (drop (a .r) (a .regions .now))) (storeOf (a .cells .now) (a .bytes .now)) _ (first .result .number) (second .result .number) (first .result .next) (second .result .next) _ refl (c .before .before .before .before .before .before .before .before .if2 .left) (c .before .before .before .before .before .before .before .if3 .left) (c .before .before .before .before .before .before .if4 .left) (c .before .before .before .before .if5 .left) (first .ensures .1) (second .ensures .1) (λ o q. back _ (c .operate .ok) ∙ c .operate .ensures o q ∙ ap₂ (operate o) (back _ (c .before .before .struct-told2 .given .0 .1)) (back _ (c .before .struct-told3 .given .0 .1))))
-
-pub +evaluate-spec : {M : Type 1} → statement M
-+evaluate-spec = close μ-evaluate λ t. evaluate-lts.spec (
+-- what the callees of `evaluate` ask, and what they promise
+abbrev evaluate-calls : ℕ → evaluate-lts.Claims
+evaluate-calls t = (
   natural-reads.Asked,
   natural-reads.Learnt,
   entry-reads.Asked,
@@ -428,6 +50,137 @@ pub +evaluate-spec : {M : Type 1} → statement M
   operate-reads.Asked,
   operate-reads.Learnt,
 )
+
+evaluate-returns : (t : ℕ) → evaluate-lts.Need-returns (evaluate-calls t) (evaluate-at t) evaluate.Post
+evaluate-returns t c =
+    let a = c .before .before .args in (
+      omega arith,
+      values.value-none (a .kinds .now) (a .numbers .now) (a .at) (a .inputs .now)
+          (entry (drop (a .c) (a .counters .now))) (entry (drop (a .r) (a .regions .now)))
+          (storeOf (a .cells .now) (a .bytes .now)) (pos 0) (a .at) (c .if1 .taken),
+    )
+
+evaluate-element-copy-out-kind : (t : ℕ) → evaluate-lts.Need-element-copy-out-kind (evaluate-calls t) (evaluate-at t) evaluate.Post
+evaluate-element-copy-out-kind t c = search needs
+
+evaluate-mul-n : (t : ℕ) → evaluate-lts.Need-mul-n (evaluate-calls t) (evaluate-at t) evaluate.Post
+evaluate-mul-n t c = search needs
+
+evaluate-element-copy-out-n : (t : ℕ) → evaluate-lts.Need-element-copy-out-n (evaluate-calls t) (evaluate-at t) evaluate.Post
+evaluate-element-copy-out-n t c = search needs
+
+evaluate-add-t25 : (t : ℕ) → evaluate-lts.Need-add-t25 (evaluate-calls t) (evaluate-at t) evaluate.Post
+evaluate-add-t25 t c = search needs
+
+evaluate-returns-2 : (t : ℕ) → evaluate-lts.Need-returns-2 (evaluate-calls t) (evaluate-at t) evaluate.Post
+evaluate-returns-2 t c =
+    let a = c .before .before .before .before .before .args in (
+      omega arith,
+      values.literal (a .kinds .now) (a .numbers .now) (a .at) (a .inputs .now)
+          (entry (drop (a .c) (a .counters .now))) (entry (drop (a .r) (a .regions .now)))
+          (storeOf (a .cells .now) (a .bytes .now)) _ (c .if2 .taken) (back _ (c .before .n .given)),
+    )
+
+evaluate-natural-requires : (t : ℕ) → evaluate-lts.Need-natural-requires (evaluate-calls t) (evaluate-at t) evaluate.Post
+evaluate-natural-requires t c κs = search needs
+
+evaluate-entry-requires : (t : ℕ) → evaluate-lts.Need-entry-requires (evaluate-calls t) (evaluate-at t) evaluate.Post
+evaluate-entry-requires t c κs = search needs
+
+evaluate-add-reading : (t : ℕ) → evaluate-lts.Need-add-reading (evaluate-calls t) (evaluate-at t) evaluate.Post
+evaluate-add-reading t c = search needs
+
+evaluate-reading-requires : (t : ℕ) → evaluate-lts.Need-reading-requires (evaluate-calls t) (evaluate-at t) evaluate.Post
+evaluate-reading-requires t c κs = search needs
+
+evaluate-returns-3 : (t : ℕ) → evaluate-lts.Need-returns-3 (evaluate-calls t) (evaluate-at t) evaluate.Post
+evaluate-returns-3 t c =
+    let a = c .before .before .before .before .before .before .before .before .before .before .args in
+    let reading = c .reading in (
+      omega (arith, reading .ensures .0),
+      values.input (a .kinds .now) (a .numbers .now) (a .at) (a .inputs .now)
+          (entry (drop (a .c) (a .counters .now))) (entry (drop (a .r) (a .regions .now)))
+          (storeOf (a .cells .now) (a .bytes .now)) (reading .result .number) (reading .result .next)
+          (c .before .entry .result) (c .before .before .before .before .if3 .taken) (c .before .entry .ensures ∙ ap
+          (λ (j : ℕ). getD (a .inputs .now) j 0) (natural-of (getD (a .numbers .now) (a .at) (pos 0)) (record
+          { sfits = c .before .before .before .before .before .before .n .given })
+          (c .before .before .natural .ensures))) (reading .ensures .1),
+    )
+
+evaluate-natural-requires-2 : (t : ℕ) → evaluate-lts.Need-natural-requires-2 (evaluate-calls t) (evaluate-at t) evaluate.Post
+evaluate-natural-requires-2 t c κs = search needs
+
+evaluate-entry-requires-2 : (t : ℕ) → evaluate-lts.Need-entry-requires-2 (evaluate-calls t) (evaluate-at t) evaluate.Post
+evaluate-entry-requires-2 t c κs = search needs
+
+evaluate-add-reading-2 : (t : ℕ) → evaluate-lts.Need-add-reading-2 (evaluate-calls t) (evaluate-at t) evaluate.Post
+evaluate-add-reading-2 t c = search needs
+
+evaluate-reading-requires-2 : (t : ℕ) → evaluate-lts.Need-reading-requires-2 (evaluate-calls t) (evaluate-at t) evaluate.Post
+evaluate-reading-requires-2 t c κs = search needs
+
+evaluate-returns-4 : (t : ℕ) → evaluate-lts.Need-returns-4 (evaluate-calls t) (evaluate-at t) evaluate.Post
+evaluate-returns-4 t c =
+    let a = c .before .before .before .before .before .before .before .before .before .before .before .args in
+    let reading = c .reading2 in (
+      omega (arith, reading .ensures .0),
+      values.region (a .kinds .now) (a .numbers .now) (a .at) (a .inputs .now)
+          (entry (drop (a .c) (a .counters .now))) (entry (drop (a .r) (a .regions .now)))
+          (storeOf (a .cells .now) (a .bytes .now)) (reading .result .number) (reading .result .next)
+          (c .before .entry2 .result) (c .before .before .before .before .if4 .taken) (c .before .entry2 .ensures ∙ ap
+          (entry (drop (a .r) (a .regions .now))) (natural-of (getD (a .numbers .now) (a .at) (pos 0)) (record
+          { sfits = c .before .before .before .before .before .before .before .n .given })
+          (c .before .before .natural2 .ensures))) (reading .ensures .1),
+    )
+
+evaluate-add-evaluate : (t : ℕ) → evaluate-lts.Need-add-evaluate (evaluate-calls t) (evaluate-at t) evaluate.Post
+evaluate-add-evaluate t c = search needs
+
+evaluate-evaluate-requires : (t : ℕ) → evaluate-lts.Need-evaluate-requires (evaluate-calls t) (evaluate-at t) evaluate.Post
+evaluate-evaluate-requires t c κs = search needs
+
+evaluate-neg-requires : (t : ℕ) → evaluate-lts.Need-neg-requires (evaluate-calls t) (evaluate-at t) evaluate.Post
+evaluate-neg-requires t c κs = search needs
+
+evaluate-returns-5 : (t : ℕ) → evaluate-lts.Need-returns-5 (evaluate-calls t) (evaluate-at t) evaluate.Post
+evaluate-returns-5 t c =
+    let a = c .before .before .before .before .before .before .before .before .before .before .before .args in
+    let first = c .before .before .before .evaluate in (
+      omega (arith, first .ensures .0),
+      values.negated (a .kinds .now) (a .numbers .now) (a .at) (a .inputs .now)
+          (entry (drop (a .c) (a .counters .now))) (entry (drop (a .r) (a .regions .now)))
+          (storeOf (a .cells .now) (a .bytes .now)) _ (first .result .number) (first .result .next)
+          (c .before .before .if5 .taken) (first .ensures .1) (back _ (c .neg .ok) ∙ c .neg .ensures ∙ ap negation
+          (back (first .result .number) (c .before .struct-told .given .0 .1))),
+    )
+
+evaluate-evaluate-requires-2 : (t : ℕ) → evaluate-lts.Need-evaluate-requires-2 (evaluate-calls t) (evaluate-at t) evaluate.Post
+evaluate-evaluate-requires-2 t c κs = search needs
+
+evaluate-operate-requires : (t : ℕ) → evaluate-lts.Need-operate-requires (evaluate-calls t) (evaluate-at t) evaluate.Post
+evaluate-operate-requires t c κs = search needs
+
+evaluate-returns-6 : (t : ℕ) → evaluate-lts.Need-returns-6 (evaluate-calls t) (evaluate-at t) evaluate.Post
+evaluate-returns-6 t c =
+    let a = c .before .before .before .before .before .before .before .before .before .before .before
+    .before .before .args in
+    let first = c .before .before .before .before .before .evaluate in
+    let second = c .before .before .before .evaluate2 in (
+      omega (arith, first .ensures .0, second .ensures .0),
+      values.operated (a .kinds .now) (a .numbers .now) (a .at)
+          (a .inputs .now) (entry (drop (a .c) (a .counters .now))) (entry (drop (a .r) (a .regions .now)))
+          (storeOf (a .cells .now) (a .bytes .now)) _ (first .result .number) (second .result .number)
+          (first .result .next) (second .result .next) _ refl
+          (c .before .before .before .before .before .before .before .before .if2 .left)
+          (c .before .before .before .before .before .before .before .if3 .left)
+          (c .before .before .before .before .before .before .if4 .left)
+          (c .before .before .before .before .if5 .left) (first .ensures .1) (second .ensures .1) (λ o q. back _
+          (c .operate .ok) ∙ c .operate .ensures o q ∙ ap₂ (operate o)
+          (back _ (c .before .before .struct-told2 .given .0 .1)) (back _ (c .before .struct-told3 .given .0 .1))),
+    )
+
+pub +evaluate-spec : {M : Type 1} → statement M
++evaluate-spec = close μ-evaluate λ t. evaluate-lts.spec (evaluate-calls t)
     (evaluate-at t)
     evaluate.Post
     (evaluate-returns t)

@@ -23,8 +23,16 @@ read-requires : tie.Need-read-requires
 read-requires c κs = search needs
 
 returns : tie.Need-returns
-returns c = let a = c .before .before .before .before .args in
-    (omega arith, λ o b f. (back _ (c .read .ok) ∙ c .read .ensures ∙ ap (λ (j : ℕ). getD (storeOf (a .cells .now) (a .bytes .now)) (a .base + j) (pos 0)) (c .before .before .evaluate .ensures .1 o b f .0), c .before .before .evaluate .ensures .1 o b f .1))
+returns c =
+    let at-evaluate = c .before .before .evaluate in
+    let a = c .before .before .before .before .args in (
+      omega arith,
+      λ o b f. (
+        back _ (c .read .ok) ∙ c .read .ensures ∙ ap (λ (j : ℕ). getD
+            (storeOf (a .cells .now) (a .bytes .now)) (a .base + j) (pos 0)) (at-evaluate .ensures .1 o b f .0),
+        at-evaluate .ensures .1 o b f .1,
+      ),
+    )
 
 pub reading-spec : {M : Type 1} → statement M
 reading-spec = tie.close (tie.spec evaluate-requires cast-cell add-cell read-requires returns)

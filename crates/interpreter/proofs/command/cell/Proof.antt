@@ -37,8 +37,12 @@ returns c = let a = c .before .before .before .args in
     sym (ap (cellOf (entry (drop (a .r) (a .regions .now))) (a .output)) (c .before .place .given .1))
 
 returns-2 : tie.Need-returns-2
-returns-2 c = let a = c .before .before .before .before .before .args in
-    ap (λ (x : ℕ). x + c .before .before .before .place2 .given .0 .1 .0) (c .entry .ensures) ∙ sym (ap (cellOf (entry (drop (a .r) (a .regions .now))) (a .output)) (c .before .before .before .place2 .given .1))
+returns-2 c =
+    let at-args = c .before .before .before .before .before .args in
+    let at-place2 = c .before .before .before .place2 in
+    let a = at-args in
+    ap (λ (x : ℕ). x + at-place2 .given .0 .1 .0) (c .entry .ensures) ∙ sym (ap
+    (cellOf (entry (drop (a .r) (a .regions .now))) (a .output)) (at-place2 .given .1))
 
 pub cell-spec : {M : Type 1} → statement M
 cell-spec =

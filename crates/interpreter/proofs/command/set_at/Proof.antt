@@ -11,8 +11,12 @@ use Rattle.interpreter.proofs.command.set_at.Statement.{statement}
 use Rattle.interpreter.proofs.command.set_at.Tie as tie
 
 returns : tie.Need-returns
-returns c = let a = c .before .args in
-    (omega arith, commands.place-none 0 (a .kinds .now) (a .numbers .now) (a .at) (entry (drop (a .c) (a .counters .now))) Nothing (c .if1 .taken))
+returns c =
+    let a = c .before .args in (
+      omega arith,
+      commands.place-none 0 (a .kinds .now) (a .numbers .now) (a .at)
+          (entry (drop (a .c) (a .counters .now))) Nothing (c .if1 .taken),
+    )
 
 add-evaluate : tie.Need-add-evaluate
 add-evaluate c = search needs
@@ -24,8 +28,14 @@ element-copy-out-if2 : tie.Need-element-copy-out-if2
 element-copy-out-if2 c = search needs
 
 returns-2 : tie.Need-returns-2
-returns-2 c = let a = c .before .before .before .before .args in
-    (omega (arith, c .before .before .evaluate .ensures .0), commands.place-output 0 (a .kinds .now) (a .numbers .now) (a .at) (entry (drop (a .c) (a .counters .now))) (c .before .before .evaluate .result .number) (c .before .before .evaluate .result .next) (c .if2 .taken) (c .before .before .evaluate .ensures .1))
+returns-2 c =
+    let at-evaluate = c .before .before .evaluate in
+    let a = c .before .before .before .before .args in (
+      omega (arith, at-evaluate .ensures .0),
+      commands.place-output 0 (a .kinds .now) (a .numbers .now) (a .at)
+          (entry (drop (a .c) (a .counters .now))) (at-evaluate .result .number) (at-evaluate .result .next)
+          (c .if2 .taken) (at-evaluate .ensures .1),
+    )
 
 mul-natural : tie.Need-mul-natural
 mul-natural c = search needs
@@ -37,8 +47,16 @@ natural-requires : tie.Need-natural-requires
 natural-requires c κs = search needs
 
 returns-3 : tie.Need-returns-3
-returns-3 c = let a = c .before .before .before .before .before .before .args in
-    (omega (arith, c .before .before .before .before .evaluate .ensures .0), commands.place-region 0 (a .kinds .now) (a .numbers .now) (a .at) (entry (drop (a .c) (a .counters .now))) (c .natural .result) (c .before .before .before .before .evaluate .result .number) (c .before .before .before .before .evaluate .result .next) (c .before .before .if2 .left) (natural-of (getD (a .numbers .now) (a .at) (pos 0)) (record { sfits = c .before .natural-arg .given }) (c .natural .ensures)) (c .before .before .before .before .evaluate .ensures .1))
+returns-3 c =
+    let at-evaluate = c .before .before .before .before .evaluate in
+    let a = c .before .before .before .before .before .before .args in (
+      omega (arith, at-evaluate .ensures .0),
+      commands.place-region 0 (a .kinds .now) (a .numbers .now) (a .at)
+          (entry (drop (a .c) (a .counters .now))) (c .natural .result) (at-evaluate .result .number)
+          (at-evaluate .result .next) (c .before .before .if2 .left) (natural-of
+          (getD (a .numbers .now) (a .at) (pos 0)) (record { sfits = c .before .natural-arg .given })
+          (c .natural .ensures)) (at-evaluate .ensures .1),
+    )
 
 pub set-at-spec : {M : Type 1} → statement M
 set-at-spec =

@@ -42,14 +42,22 @@ loop-less : tie.Need-loop-less Inv-loop μ-loop
 loop-less c = search needs
 
 loop-again : tie.Need-loop-again Inv-loop μ-loop
-loop-again c = let at = c .before .before .loop in
-    (omega (arith, c .before .loop-test .taken), length-set (at .to) (at .k) _ ∙ at .inv .1, at .inv .2, copying.copied-more (pos 0) _ (c .before .before .before .before .args .from .now) (at .to) (at .k) (c .before .loop-test .taken) (omega (arith, c .before .loop-test .taken, at .inv .1, at .inv .2)) (back _ (c .to .given)) (at .inv .3))
+loop-again c =
+    let at = c .before .before .loop in (
+      omega (arith, c .before .loop-test .taken),
+      length-set (at .to) (at .k) _ ∙ at .inv .1,
+      at .inv .2,
+      copying.copied-more (pos 0) _ (c .before .before .before .before .args .from .now) (at .to) (at .k)
+          (c .before .loop-test .taken) (omega (arith, c .before .loop-test .taken, at .inv .1, at .inv .2))
+          (back _ (c .to .given)) (at .inv .3),
+    )
 
 same-length : tie.Need-same-length Inv-loop μ-loop
 same-length c = search needs
 
 returns-2 : tie.Need-returns-2 Inv-loop μ-loop
-returns-2 c = λ h. copying.copied-all (c .before .before .before .args .from .now) (c .before .loop .to) (c .before .loop .k) (omega (arith, c .before .loop .inv .0, c .loop-test .left)) (c .before .loop .inv .3)
+returns-2 c = λ h. copying.copied-all (c .before .before .before .args .from .now) (c .before .loop .to)
+    (c .before .loop .k) (omega (arith, c .before .loop .inv .0, c .loop-test .left)) (c .before .loop .inv .3)
 
 pub copy-numbers-spec : {M : Type 1} → statement M
 copy-numbers-spec =

@@ -48,640 +48,9 @@ abbrev run-rounds-below : ℕ → In 7 run-rounds-kinds.ps
 run-rounds-below t =
     and 7 run-rounds-kinds.ps (falls 7 run-rounds-kinds.ps _<_ μ-run-rounds t) run-rounds.Pre
 
-run-command-returns : (t : ℕ) → run-command-lts.Need-returns (
-  decode-reads.Asked,
-  decode-reads.Learnt,
-  assign-reads.Asked,
-  assign-reads.Learnt,
-  sum-reads.Asked,
-  sum-reads.Learnt,
-  run-command-below t,
-  run-command.Post,
-  run-rounds-below t,
-  run-rounds.Post,
-) (run-command-at t) run-command.Post
-run-command-returns t c = let a = c .before .before .args in
-    (omega arith, ((refl, refl, c .before .before .pre .1 .2, c .before .before .pre .1 .3, refl), runs.run-none (a .kinds .now) (a .numbers .now) (a .at) (a .order) (a .inputs .now) (a .output) (drop (a .c) (a .counters .now)) (a .c) (drop (a .r) (a .regions .now)) (a .r) (a .free) (storeOf (a .cells .now) (a .bytes .now)) (a .writes) (storeOf (a .cells .now) (a .bytes .now)) _ (c .if1 .taken)))
-
-run-command-decode-requires : (t : ℕ) → run-command-lts.Need-decode-requires (
-  decode-reads.Asked,
-  decode-reads.Learnt,
-  assign-reads.Asked,
-  assign-reads.Learnt,
-  sum-reads.Asked,
-  sum-reads.Learnt,
-  run-command-below t,
-  run-command.Post,
-  run-rounds-below t,
-  run-rounds.Post,
-) (run-command-at t) run-command.Post
-run-command-decode-requires t c κs = search needs
-
-run-command-enum-known-place : (t : ℕ) → run-command-lts.Need-enum-known-place (
-  decode-reads.Asked,
-  decode-reads.Learnt,
-  assign-reads.Asked,
-  assign-reads.Learnt,
-  sum-reads.Asked,
-  sum-reads.Learnt,
-  run-command-below t,
-  run-command.Post,
-  run-rounds-below t,
-  run-rounds.Post,
-) (run-command-at t) run-command.Post
-run-command-enum-known-place t c = search needs
-
-run-command-assign-requires : (t : ℕ) → run-command-lts.Need-assign-requires (
-  decode-reads.Asked,
-  decode-reads.Learnt,
-  assign-reads.Asked,
-  assign-reads.Learnt,
-  sum-reads.Asked,
-  sum-reads.Learnt,
-  run-command-below t,
-  run-command.Post,
-  run-rounds-below t,
-  run-rounds.Post,
-) (run-command-at t) run-command.Post
-run-command-assign-requires t c κs = search needs
-
-run-command-sum-requires : (t : ℕ) → run-command-lts.Need-sum-requires (
-  decode-reads.Asked,
-  decode-reads.Learnt,
-  assign-reads.Asked,
-  assign-reads.Learnt,
-  sum-reads.Asked,
-  sum-reads.Learnt,
-  run-command-below t,
-  run-command.Post,
-  run-rounds-below t,
-  run-rounds.Post,
-) (run-command-at t) run-command.Post
-run-command-sum-requires t c κs = search needs
-
-run-command-enum-told : (t : ℕ) → run-command-lts.Need-enum-told (
-  decode-reads.Asked,
-  decode-reads.Learnt,
-  assign-reads.Asked,
-  assign-reads.Learnt,
-  sum-reads.Asked,
-  sum-reads.Learnt,
-  run-command-below t,
-  run-command.Post,
-  run-rounds-below t,
-  run-rounds.Post,
-) (run-command-at t) run-command.Post
-run-command-enum-told t c = search needs
-
-run-command-add-run-command : (t : ℕ) → run-command-lts.Need-add-run-command (
-  decode-reads.Asked,
-  decode-reads.Learnt,
-  assign-reads.Asked,
-  assign-reads.Learnt,
-  sum-reads.Asked,
-  sum-reads.Learnt,
-  run-command-below t,
-  run-command.Post,
-  run-rounds-below t,
-  run-rounds.Post,
-) (run-command-at t) run-command.Post
-run-command-add-run-command t c = search needs
-
-run-command-run-command-requires : (t : ℕ) → run-command-lts.Need-run-command-requires (
-  decode-reads.Asked,
-  decode-reads.Learnt,
-  assign-reads.Asked,
-  assign-reads.Learnt,
-  sum-reads.Asked,
-  sum-reads.Learnt,
-  run-command-below t,
-  run-command.Post,
-  run-rounds-below t,
-  run-rounds.Post,
-) (run-command-at t) run-command.Post
-run-command-run-command-requires t c κs = search needs
-
-run-command-run-command-requires-2 : (t : ℕ) → run-command-lts.Need-run-command-requires-2 (
-  decode-reads.Asked,
-  decode-reads.Learnt,
-  assign-reads.Asked,
-  assign-reads.Learnt,
-  sum-reads.Asked,
-  sum-reads.Learnt,
-  run-command-below t,
-  run-command.Post,
-  run-rounds-below t,
-  run-rounds.Post,
-) (run-command-at t) run-command.Post
-run-command-run-command-requires-2 t c κs = search needs
-
-run-command-enum-known-turns : (t : ℕ) → run-command-lts.Need-enum-known-turns (
-  decode-reads.Asked,
-  decode-reads.Learnt,
-  assign-reads.Asked,
-  assign-reads.Learnt,
-  sum-reads.Asked,
-  sum-reads.Learnt,
-  run-command-below t,
-  run-command.Post,
-  run-rounds-below t,
-  run-rounds.Post,
-) (run-command-at t) run-command.Post
-run-command-enum-known-turns t c = search needs
-
-run-command-add-run-rounds : (t : ℕ) → run-command-lts.Need-add-run-rounds (
-  decode-reads.Asked,
-  decode-reads.Learnt,
-  assign-reads.Asked,
-  assign-reads.Learnt,
-  sum-reads.Asked,
-  sum-reads.Learnt,
-  run-command-below t,
-  run-command.Post,
-  run-rounds-below t,
-  run-rounds.Post,
-) (run-command-at t) run-command.Post
-run-command-add-run-rounds t c = search needs
-
-run-command-run-rounds-requires : (t : ℕ) → run-command-lts.Need-run-rounds-requires (
-  decode-reads.Asked,
-  decode-reads.Learnt,
-  assign-reads.Asked,
-  assign-reads.Learnt,
-  sum-reads.Asked,
-  sum-reads.Learnt,
-  run-command-below t,
-  run-command.Post,
-  run-rounds-below t,
-  run-rounds.Post,
-) (run-command-at t) run-command.Post
-run-command-run-rounds-requires t c κs = search needs
-
-run-command-enum-known-n : (t : ℕ) → run-command-lts.Need-enum-known-n (
-  decode-reads.Asked,
-  decode-reads.Learnt,
-  assign-reads.Asked,
-  assign-reads.Learnt,
-  sum-reads.Asked,
-  sum-reads.Learnt,
-  run-command-below t,
-  run-command.Post,
-  run-rounds-below t,
-  run-rounds.Post,
-) (run-command-at t) run-command.Post
-run-command-enum-known-n t c = search needs
-
-run-command-returns-2 : (t : ℕ) → run-command-lts.Need-returns-2 (
-  decode-reads.Asked,
-  decode-reads.Learnt,
-  assign-reads.Asked,
-  assign-reads.Learnt,
-  sum-reads.Asked,
-  sum-reads.Learnt,
-  run-command-below t,
-  run-command.Post,
-  run-rounds-below t,
-  run-rounds.Post,
-) (run-command-at t) run-command.Post
-run-command-returns-2 t c = let a = c .before .before .before .before .before .before .before .before .args in
-    let decode = c .before .before .before .before .decode in
-    (omega arith, ((refl, refl, c .before .before .before .before .before .before .before .before .pre .1 .2, c .before .before .before .before .before .before .before .before .pre .1 .3, refl), runs.run-full (a .kinds .now) (a .numbers .now) (a .at) (a .order) (a .inputs .now) (a .output) (drop (a .c) (a .counters .now)) (a .c) (drop (a .r) (a .regions .now)) (a .r) (a .free) (storeOf (a .cells .now) (a .bytes .now)) (a .writes) (decode .result) (decode .ensures .1) (c .before .before .n .given .0 .0) (storeOf (a .cells .now) (a .bytes .now)) _ (c .before .before .n .given .1) (c .if2 .taken)))
-
-run-command-sub-inner : (t : ℕ) → run-command-lts.Need-sub-inner (
-  decode-reads.Asked,
-  decode-reads.Learnt,
-  assign-reads.Asked,
-  assign-reads.Learnt,
-  sum-reads.Asked,
-  sum-reads.Learnt,
-  run-command-below t,
-  run-command.Post,
-  run-rounds-below t,
-  run-rounds.Post,
-) (run-command-at t) run-command.Post
-run-command-sub-inner t c = search needs
-
-run-command-mul-regions : (t : ℕ) → run-command-lts.Need-mul-regions (
-  decode-reads.Asked,
-  decode-reads.Learnt,
-  assign-reads.Asked,
-  assign-reads.Learnt,
-  sum-reads.Asked,
-  sum-reads.Learnt,
-  run-command-below t,
-  run-command.Post,
-  run-rounds-below t,
-  run-rounds.Post,
-) (run-command-at t) run-command.Post
-run-command-mul-regions t c = search needs
-
-run-command-element-write-regions : (t : ℕ) → run-command-lts.Need-element-write-regions (
-  decode-reads.Asked,
-  decode-reads.Learnt,
-  assign-reads.Asked,
-  assign-reads.Learnt,
-  sum-reads.Asked,
-  sum-reads.Learnt,
-  run-command-below t,
-  run-command.Post,
-  run-rounds-below t,
-  run-rounds.Post,
-) (run-command-at t) run-command.Post
-run-command-element-write-regions t c = search needs
-
-run-command-add-run-command-2 : (t : ℕ) → run-command-lts.Need-add-run-command-2 (
-  decode-reads.Asked,
-  decode-reads.Learnt,
-  assign-reads.Asked,
-  assign-reads.Learnt,
-  sum-reads.Asked,
-  sum-reads.Learnt,
-  run-command-below t,
-  run-command.Post,
-  run-rounds-below t,
-  run-rounds.Post,
-) (run-command-at t) run-command.Post
-run-command-add-run-command-2 t c = search needs
-
-run-command-sum-requires-2 : (t : ℕ) → run-command-lts.Need-sum-requires-2 (
-  decode-reads.Asked,
-  decode-reads.Learnt,
-  assign-reads.Asked,
-  assign-reads.Learnt,
-  sum-reads.Asked,
-  sum-reads.Learnt,
-  run-command-below t,
-  run-command.Post,
-  run-rounds-below t,
-  run-rounds.Post,
-) (run-command-at t) run-command.Post
-run-command-sum-requires-2 t c κs = search needs
-
-run-command-run-command-requires-3 : (t : ℕ) → run-command-lts.Need-run-command-requires-3 (
-  decode-reads.Asked,
-  decode-reads.Learnt,
-  assign-reads.Asked,
-  assign-reads.Learnt,
-  sum-reads.Asked,
-  sum-reads.Learnt,
-  run-command-below t,
-  run-command.Post,
-  run-rounds-below t,
-  run-rounds.Post,
-) (run-command-at t) run-command.Post
-run-command-run-command-requires-3 t c κs = let a = c .before .before .before .before .before .before .before .before .before .before .before .before .before .args in
-    (omega (arith, c .before .before .before .before .before .before .before .before .before .before .before .before .before .pre .0, c .before .before .before .before .before .before .before .before .before .before .before .if1 .left), (c .before .before .before .before .before .before .before .before .before .before .before .before .before .pre .1 .0, omega (arith, c .before .before .before .before .before .before .before .before .before .before .before .before .before .pre .1 .1), c .before .before .before .before .before .before .before .before .before .before .before .before .before .pre .1 .2, length-set (a .regions .now) (a .r - 1) (a .free) ∙ c .before .before .before .before .before .before .before .before .before .before .before .before .before .pre .1 .3))
-
-run-command-enum-told-2 : (t : ℕ) → run-command-lts.Need-enum-told-2 (
-  decode-reads.Asked,
-  decode-reads.Learnt,
-  assign-reads.Asked,
-  assign-reads.Learnt,
-  sum-reads.Asked,
-  sum-reads.Learnt,
-  run-command-below t,
-  run-command.Post,
-  run-rounds-below t,
-  run-rounds.Post,
-) (run-command-at t) run-command.Post
-run-command-enum-told-2 t c = search needs
-
-run-command-same-length : (t : ℕ) → run-command-lts.Need-same-length (
-  decode-reads.Asked,
-  decode-reads.Learnt,
-  assign-reads.Asked,
-  assign-reads.Learnt,
-  sum-reads.Asked,
-  sum-reads.Learnt,
-  run-command-below t,
-  run-command.Post,
-  run-rounds-below t,
-  run-rounds.Post,
-) (run-command-at t) run-command.Post
-run-command-same-length t c = search needs
-
-run-command-same-length-2 : (t : ℕ) → run-command-lts.Need-same-length-2 (
-  decode-reads.Asked,
-  decode-reads.Learnt,
-  assign-reads.Asked,
-  assign-reads.Learnt,
-  sum-reads.Asked,
-  sum-reads.Learnt,
-  run-command-below t,
-  run-command.Post,
-  run-rounds-below t,
-  run-rounds.Post,
-) (run-command-at t) run-command.Post
-run-command-same-length-2 t c = search needs
-
-run-command-returns-3 : (t : ℕ) → run-command-lts.Need-returns-3 (
-  decode-reads.Asked,
-  decode-reads.Learnt,
-  assign-reads.Asked,
-  assign-reads.Learnt,
-  sum-reads.Asked,
-  sum-reads.Learnt,
-  run-command-below t,
-  run-command.Post,
-  run-rounds-below t,
-  run-rounds.Post,
-) (run-command-at t) run-command.Post
-run-command-returns-3 t c = let a = c .before .before .before .before .before .before .before .before .before .before .before .before .before .before .before .before .args in
-    let decode = c .before .before .before .before .before .before .before .before .before .before .before .before .decode in
-    let place = c .before .before .before .before .before .before .before .before .before .before .place in
-    let assign = c .before .before .before .before .assign in
-    (omega (arith, decode .ensures .0, ap (nextOf (a .at)) (place .given .1), assign .ensures .0), ((refl, refl, c .before .before .before .before .before .before .before .before .before .before .before .before .before .before .before .before .pre .1 .2, c .before .before .before .before .before .before .before .before .before .before .before .before .before .before .before .before .pre .1 .3, assign .ensures .1 .0), runs.run-set (a .kinds .now) (a .numbers .now) (a .at) (a .order) (a .inputs .now) (a .output) (drop (a .c) (a .counters .now)) (a .c) (drop (a .r) (a .regions .now)) (a .r) (a .free) (storeOf (a .cells .now) (a .bytes .now)) (a .writes) (decode .result) (decode .ensures .1) (place .given .0 .0) (place .given .0 .1 .0) (assign .result) (c .sum .result) (storeOf (assign .last .1 .1 .1 .1 .1 .1 .1 .1 .1 .1 .0) (assign .last .1 .1 .1 .1 .1 .1 .1 .1 .1 .1 .1 .0)) (place .given .1) (assign .ensures .1 .1) (c .sum .ensures)))
-
-run-command-same-length-3 : (t : ℕ) → run-command-lts.Need-same-length-3 (
-  decode-reads.Asked,
-  decode-reads.Learnt,
-  assign-reads.Asked,
-  assign-reads.Learnt,
-  sum-reads.Asked,
-  sum-reads.Learnt,
-  run-command-below t,
-  run-command.Post,
-  run-rounds-below t,
-  run-rounds.Post,
-) (run-command-at t) run-command.Post
-run-command-same-length-3 t c = search needs
-
-run-command-same-length-4 : (t : ℕ) → run-command-lts.Need-same-length-4 (
-  decode-reads.Asked,
-  decode-reads.Learnt,
-  assign-reads.Asked,
-  assign-reads.Learnt,
-  sum-reads.Asked,
-  sum-reads.Learnt,
-  run-command-below t,
-  run-command.Post,
-  run-rounds-below t,
-  run-rounds.Post,
-) (run-command-at t) run-command.Post
-run-command-same-length-4 t c = search needs
-
-run-command-returns-4 : (t : ℕ) → run-command-lts.Need-returns-4 (
-  decode-reads.Asked,
-  decode-reads.Learnt,
-  assign-reads.Asked,
-  assign-reads.Learnt,
-  sum-reads.Asked,
-  sum-reads.Learnt,
-  run-command-below t,
-  run-command.Post,
-  run-rounds-below t,
-  run-rounds.Post,
-) (run-command-at t) run-command.Post
-run-command-returns-4 t c = let a = c .before .before .before .before .before .before .before .before .before .before .before .before .before .before .before .before .before .before .before .before .before .before .args in
-    let decode = c .before .before .before .before .before .before .before .before .before .before .before .before .before .before .before .before .before .before .decode in
-    let first = c .before .before .before .before .before .before .before .before .before .before .before .run-command in
-    let second = c .before .before .before .run-command2 in
-    (omega (arith, first .ensures .0, second .ensures .0), ((second .ensures .1 .0 .0 ∙ first .ensures .1 .0 .0, second .ensures .1 .0 .1 ∙ first .ensures .1 .0 .1, second .ensures .1 .0 .2, second .ensures .1 .0 .3, second .ensures .1 .0 .4 ∙ first .ensures .1 .0 .4), runs.run-seq (a .kinds .now) (a .numbers .now) (a .at) (a .order) (a .inputs .now) (a .output) (drop (a .c) (a .counters .now)) (a .c) (drop (a .r) (a .regions .now)) (a .r) (a .free) (storeOf (a .cells .now) (a .bytes .now)) (a .writes) (decode .result) (decode .ensures .1) (storeOf (first .last .1 .1 .1 .1 .1 .1 .1 .1 .1 .1 .1 .0) (first .last .1 .1 .1 .1 .1 .1 .1 .1 .1 .1 .1 .1 .0)) (storeOf (second .last .1 .1 .1 .1 .1 .1 .1 .1 .1 .1 .1 .0) (second .last .1 .1 .1 .1 .1 .1 .1 .1 .1 .1 .1 .1 .0)) (first .result) (second .result) (c .before .before .before .before .before .before .before .before .before .before .before .before .before .before .before .before .enum-told .given .1) (first .ensures .1 .1) (rounds.runs-same (a .kinds .now) (a .numbers .now) (first .result .next) (a .order) (a .inputs .now) (a .output) (drop (a .c) (first .last .1 .1 .1 .0)) (drop (a .c) (a .counters .now)) (a .c) (drop (a .r) (first .last .1 .1 .1 .1 .1 .0)) (drop (a .r) (a .regions .now)) (a .r) (first .result .free) (storeOf (first .last .1 .1 .1 .1 .1 .1 .1 .1 .1 .1 .1 .0) (first .last .1 .1 .1 .1 .1 .1 .1 .1 .1 .1 .1 .1 .0)) (first .result .writes) (storeOf (second .last .1 .1 .1 .1 .1 .1 .1 .1 .1 .1 .1 .0) (second .last .1 .1 .1 .1 .1 .1 .1 .1 .1 .1 .1 .1 .0)) (second .result) (first .ensures .1 .0 .0) (first .ensures .1 .0 .1) (second .ensures .1 .1))))
-
-run-command-same-length-5 : (t : ℕ) → run-command-lts.Need-same-length-5 (
-  decode-reads.Asked,
-  decode-reads.Learnt,
-  assign-reads.Asked,
-  assign-reads.Learnt,
-  sum-reads.Asked,
-  sum-reads.Learnt,
-  run-command-below t,
-  run-command.Post,
-  run-rounds-below t,
-  run-rounds.Post,
-) (run-command-at t) run-command.Post
-run-command-same-length-5 t c = search needs
-
-run-command-same-length-6 : (t : ℕ) → run-command-lts.Need-same-length-6 (
-  decode-reads.Asked,
-  decode-reads.Learnt,
-  assign-reads.Asked,
-  assign-reads.Learnt,
-  sum-reads.Asked,
-  sum-reads.Learnt,
-  run-command-below t,
-  run-command.Post,
-  run-rounds-below t,
-  run-rounds.Post,
-) (run-command-at t) run-command.Post
-run-command-same-length-6 t c = search needs
-
-run-command-returns-5 : (t : ℕ) → run-command-lts.Need-returns-5 (
-  decode-reads.Asked,
-  decode-reads.Learnt,
-  assign-reads.Asked,
-  assign-reads.Learnt,
-  sum-reads.Asked,
-  sum-reads.Learnt,
-  run-command-below t,
-  run-command.Post,
-  run-rounds-below t,
-  run-rounds.Post,
-) (run-command-at t) run-command.Post
-run-command-returns-5 t c = let a = c .before .before .before .before .before .before .before .before .before .before .before .before .before .before .before .args in
-    let decode = c .before .before .before .before .before .before .before .before .before .before .before .decode in
-    let the-turns = c .before .before .before .before .before .before .before .before .before .turns in
-    let done = c .before .before .before .run-rounds in
-    (omega (arith, done .ensures .0), (done .ensures .1 .0, runs.run-loop (a .kinds .now) (a .numbers .now) (a .at) (a .order) (a .inputs .now) (a .output) (drop (a .c) (a .counters .now)) (a .c) (drop (a .r) (a .regions .now)) (a .r) (a .free) (storeOf (a .cells .now) (a .bytes .now)) (a .writes) (decode .result) (decode .ensures .1) (the-turns .given .0 .0) (the-turns .given .0 .1 .0) (storeOf (done .last .1 .1 .1 .1 .1 .1 .1 .1 .1 .1 .1 .1 .1 .0) (done .last .1 .1 .1 .1 .1 .1 .1 .1 .1 .1 .1 .1 .1 .1 .0)) (done .result) (the-turns .given .1) (done .ensures .1 .1)))
-
-run-command-same-length-7 : (t : ℕ) → run-command-lts.Need-same-length-7 (
-  decode-reads.Asked,
-  decode-reads.Learnt,
-  assign-reads.Asked,
-  assign-reads.Learnt,
-  sum-reads.Asked,
-  sum-reads.Learnt,
-  run-command-below t,
-  run-command.Post,
-  run-rounds-below t,
-  run-rounds.Post,
-) (run-command-at t) run-command.Post
-run-command-same-length-7 t c = search needs
-
-run-command-same-length-8 : (t : ℕ) → run-command-lts.Need-same-length-8 (
-  decode-reads.Asked,
-  decode-reads.Learnt,
-  assign-reads.Asked,
-  assign-reads.Learnt,
-  sum-reads.Asked,
-  sum-reads.Learnt,
-  run-command-below t,
-  run-command.Post,
-  run-rounds-below t,
-  run-rounds.Post,
-) (run-command-at t) run-command.Post
-run-command-same-length-8 t c = search needs
-
-run-command-returns-6 : (t : ℕ) → run-command-lts.Need-returns-6 (
-  decode-reads.Asked,
-  decode-reads.Learnt,
-  assign-reads.Asked,
-  assign-reads.Learnt,
-  sum-reads.Asked,
-  sum-reads.Learnt,
-  run-command-below t,
-  run-command.Post,
-  run-rounds-below t,
-  run-rounds.Post,
-) (run-command-at t) run-command.Post
-run-command-returns-6 t c = let a = c .before .before .before .before .before .before .before .before .before .before .before .before .before .before .before .before .before .args in
-    let decode = c .before .before .before .before .before .before .before .before .before .before .before .before .before .decode in
-    let n = c .before .before .before .before .before .before .before .before .before .before .before .n in
-    let done = c .before .before .before .run-command3 in
-    (omega (arith, done .ensures .0), ((done .ensures .1 .0 .0, rounds.popped (a .regions .now) (done .last .1 .1 .1 .1 .1 .0) (a .r) (a .free) (omega (arith, c .before .before .before .before .before .before .before .before .before .if2 .left)) (done .ensures .1 .0 .1), done .ensures .1 .0 .2, done .ensures .1 .0 .3, done .ensures .1 .0 .4), runs.run-new (a .kinds .now) (a .numbers .now) (a .at) (a .order) (a .inputs .now) (a .output) (drop (a .c) (a .counters .now)) (a .c) (drop (a .r) (a .regions .now)) (a .r) (a .free) (storeOf (a .cells .now) (a .bytes .now)) (a .writes) (decode .result) (decode .ensures .1) (n .given .0 .0) (c .before .before .before .before .before .before .sum2 .result) (storeOf (done .last .1 .1 .1 .1 .1 .1 .1 .1 .1 .1 .1 .0) (done .last .1 .1 .1 .1 .1 .1 .1 .1 .1 .1 .1 .1 .0)) (done .result) (n .given .1) (c .before .before .before .before .before .before .sum2 .ensures) (rounds.runs-same (a .kinds .now) (a .numbers .now) (a .at + 1) (a .order) (a .inputs .now) (a .output) (drop (a .c) (a .counters .now)) (drop (a .c) (a .counters .now)) (a .c) _ (a .free ∷ (drop (a .r) (a .regions .now))) (a .r - 1) (c .before .before .before .before .before .before .sum2 .result) (storeOf (a .cells .now) (a .bytes .now)) (a .writes) (storeOf (done .last .1 .1 .1 .1 .1 .1 .1 .1 .1 .1 .1 .0) (done .last .1 .1 .1 .1 .1 .1 .1 .1 .1 .1 .1 .1 .0)) (done .result) refl (table.pushed (a .regions .now) (a .r) (a .free) (omega (arith, c .before .before .before .before .before .before .before .before .before .if2 .left)) (omega (arith, c .before .before .before .before .before .before .before .before .before .before .before .before .before .before .before .before .before .pre .1 .1, c .before .before .before .before .before .before .before .before .before .before .before .before .before .before .before .before .before .pre .1 .3))) (done .ensures .1 .1))))
-
-run-command-returns-7 : (t : ℕ) → run-command-lts.Need-returns-7 (
-  decode-reads.Asked,
-  decode-reads.Learnt,
-  assign-reads.Asked,
-  assign-reads.Learnt,
-  sum-reads.Asked,
-  sum-reads.Learnt,
-  run-command-below t,
-  run-command.Post,
-  run-rounds-below t,
-  run-rounds.Post,
-) (run-command-at t) run-command.Post
-run-command-returns-7 t c = let a = c .before .before .before .before .before .before .args in
-    let decode = c .before .before .decode in
-    (omega arith, ((refl, refl, c .before .before .before .before .before .before .pre .1 .2, c .before .before .before .before .before .before .pre .1 .3, refl), runs.run-nothing (a .kinds .now) (a .numbers .now) (a .at) (a .order) (a .inputs .now) (a .output) (drop (a .c) (a .counters .now)) (a .c) (drop (a .r) (a .regions .now)) (a .r) (a .free) (storeOf (a .cells .now) (a .bytes .now)) (a .writes) (decode .result) (decode .ensures .1) (c .enum-told2 .given .1) (storeOf (a .cells .now) (a .bytes .now)) _))
-
-abbrev run-rounds-Inv-loop : run-rounds-lts.InvT-loop
-run-rounds-Inv-loop kinds numbers at counters₀ c regions₀ r inputs output order turns n free cells₀ bytes₀ writes inner done₀ k₀ counters regions cells bytes done k =
-    (k ≤ n)
-    × (length counters ≡ 32)
-    × (length regions ≡ 256)
-    × (length cells ≡ length cells₀)
-    × (length bytes ≡ length bytes₀)
-    × (at ≤ done .next)
-    × (drop c counters ≡ drop c counters₀)
-    × (drop r regions ≡ drop r regions₀)
-    × (frameOf cells bytes ≡ frameOf cells₀ bytes₀)
-    × (suc inner ≡ c)
-    × (c ≤ 32)
-    × (r ≤ 256)
-    × rounds.Turning kinds numbers at turns order n inputs output (drop c counters₀) c (drop r regions₀) r free (storeOf cells₀ bytes₀) writes k (storeOf cells bytes) done
-
-abbrev run-rounds-μ-loop : run-rounds-lts.MeasureT-loop
-run-rounds-μ-loop kinds numbers at counters₀ c regions₀ r inputs output order turns n free cells₀ bytes₀ writes inner done₀ k₀ counters regions cells bytes done k =
-    n - k
-
-run-rounds-returns : (t : ℕ) → run-rounds-lts.Need-returns (
-  counter-reads.Asked,
-  counter-reads.Learnt,
-  run-command-below t,
-  run-command.Post,
-) (run-rounds-at t) run-rounds.Post run-rounds-Inv-loop run-rounds-μ-loop
-run-rounds-returns t c = (omega arith, ((refl, refl, c .before .before .pre .1 .2, c .before .before .pre .1 .3, refl), λ x b some more exact l m. absurd (omega (arith, some, c .if1 .taken))))
-
-run-rounds-sub-inner : (t : ℕ) → run-rounds-lts.Need-sub-inner (
-  counter-reads.Asked,
-  counter-reads.Learnt,
-  run-command-below t,
-  run-command.Post,
-) (run-rounds-at t) run-rounds.Post run-rounds-Inv-loop run-rounds-μ-loop
-run-rounds-sub-inner t c = search needs
-
-run-rounds-loop-holds : (t : ℕ) → run-rounds-lts.Need-loop-holds (
-  counter-reads.Asked,
-  counter-reads.Learnt,
-  run-command-below t,
-  run-command.Post,
-) (run-rounds-at t) run-rounds.Post run-rounds-Inv-loop run-rounds-μ-loop
-run-rounds-loop-holds t c = let a = c .before .before .args in
-    (omega arith, c .before .before .pre .1 .2, c .before .before .pre .1 .3, refl, refl, omega arith, refl, refl, refl, omega (arith, c .if1 .left), c .before .before .pre .1 .0, c .before .before .pre .1 .1, rounds.turning-none (a .kinds .now) (a .numbers .now) (a .at) (a .turns) (a .order) (a .n) (a .inputs .now) (a .output) (drop (a .c) (a .counters .now)) (a .c) (drop (a .r) (a .regions .now)) (a .r) (a .free) (storeOf (a .cells .now) (a .bytes .now)) (a .writes) _ refl)
-
-run-rounds-counter-requires : (t : ℕ) → run-rounds-lts.Need-counter-requires (
-  counter-reads.Asked,
-  counter-reads.Learnt,
-  run-command-below t,
-  run-command.Post,
-) (run-rounds-at t) run-rounds.Post run-rounds-Inv-loop run-rounds-μ-loop
-run-rounds-counter-requires t c κs = search needs
-
-run-rounds-mul-counters : (t : ℕ) → run-rounds-lts.Need-mul-counters (
-  counter-reads.Asked,
-  counter-reads.Learnt,
-  run-command-below t,
-  run-command.Post,
-) (run-rounds-at t) run-rounds.Post run-rounds-Inv-loop run-rounds-μ-loop
-run-rounds-mul-counters t c = search needs
-
-run-rounds-element-write-counters : (t : ℕ) → run-rounds-lts.Need-element-write-counters (
-  counter-reads.Asked,
-  counter-reads.Learnt,
-  run-command-below t,
-  run-command.Post,
-) (run-rounds-at t) run-rounds.Post run-rounds-Inv-loop run-rounds-μ-loop
-run-rounds-element-write-counters t c = search needs
-
-run-rounds-run-command-requires : (t : ℕ) → run-rounds-lts.Need-run-command-requires (
-  counter-reads.Asked,
-  counter-reads.Learnt,
-  run-command-below t,
-  run-command.Post,
-) (run-rounds-at t) run-rounds.Post run-rounds-Inv-loop run-rounds-μ-loop
-run-rounds-run-command-requires t c κs = let a = c .before .before .before .before .before .before .before .before .before .args in
-    let at = c .before .before .before .before .before .before .loop in
-    (omega (arith, c .before .before .before .before .before .before .before .before .before .pre .0), (omega (arith, at .inv .10), c .before .before .before .before .before .before .before .before .before .pre .1 .1, length-set (at .counters) (a .c - 1) (c .before .before .before .before .counter .result) ∙ at .inv .1, at .inv .2))
-
-run-rounds-add-k : (t : ℕ) → run-rounds-lts.Need-add-k (
-  counter-reads.Asked,
-  counter-reads.Learnt,
-  run-command-below t,
-  run-command.Post,
-) (run-rounds-at t) run-rounds.Post run-rounds-Inv-loop run-rounds-μ-loop
-run-rounds-add-k t c = search needs
-
-run-rounds-loop-less : (t : ℕ) → run-rounds-lts.Need-loop-less (
-  counter-reads.Asked,
-  counter-reads.Learnt,
-  run-command-below t,
-  run-command.Post,
-) (run-rounds-at t) run-rounds.Post run-rounds-Inv-loop run-rounds-μ-loop
-run-rounds-loop-less t c = search needs
-
-run-rounds-loop-again : (t : ℕ) → run-rounds-lts.Need-loop-again (
-  counter-reads.Asked,
-  counter-reads.Learnt,
-  run-command-below t,
-  run-command.Post,
-) (run-rounds-at t) run-rounds.Post run-rounds-Inv-loop run-rounds-μ-loop
-run-rounds-loop-again t c = let a = c .before .before .before .before .before .before .before .before .before .before .before .before .before .args in
-    let test = c .before .before .before .before .before .before .before .before .before .loop-test in
-    let at = c .before .before .before .before .before .before .before .before .before .before .loop in
-    let counter = c .before .before .before .before .before .before .before .before .counter in
-    let round = c .before .before .before .run-command in
-    (omega (arith, test .taken), round .ensures .1 .0 .2, round .ensures .1 .0 .3, round .kept .1 .1 .1 .1 .1 .1 .1 .1 .1 .1 .1 .0 ∙ at .inv .3, round .kept .1 .1 .1 .1 .1 .1 .1 .1 .1 .1 .1 .1 .0 ∙ at .inv .4, round .ensures .0, rounds.popped (at .counters) (round .last .1 .1 .1 .0) (a .c) (counter .result) (omega (arith, c .before .before .before .before .before .before .before .before .before .before .before .if1 .left)) (round .ensures .1 .0 .0) ∙ at .inv .6, round .ensures .1 .0 .1 ∙ at .inv .7, round .ensures .1 .0 .4 ∙ at .inv .8, at .inv .9, at .inv .10, at .inv .11, rounds.turning-more (a .kinds .now) (a .numbers .now) (a .at) (a .turns) (a .order) (a .n) (a .inputs .now) (a .output) (drop (a .c) (a .counters .now)) (a .c) (drop (a .r) (a .regions .now)) (a .r) (a .free) (storeOf (a .cells .now) (a .bytes .now)) (a .writes) (at .k) (storeOf (at .cells) (at .bytes)) (storeOf (round .last .1 .1 .1 .1 .1 .1 .1 .1 .1 .1 .1 .0) (round .last .1 .1 .1 .1 .1 .1 .1 .1 .1 .1 .1 .1 .0)) (at .done) (round .result) (counter .result) (test .taken) (counter .ensures .1) (counter .ensures .0) (at .inv .12) (rounds.runs-same (a .kinds .now) (a .numbers .now) (a .at) (a .order) (a .inputs .now) (a .output) _ (counter .result ∷ (drop (a .c) (a .counters .now))) (a .c - 1) (drop (a .r) (at .regions)) (drop (a .r) (a .regions .now)) (a .r) (a .free) (storeOf (at .cells) (at .bytes)) (at .done .writes) (storeOf (round .last .1 .1 .1 .1 .1 .1 .1 .1 .1 .1 .1 .0) (round .last .1 .1 .1 .1 .1 .1 .1 .1 .1 .1 .1 .1 .0)) (round .result) (table.pushed (at .counters) (a .c) (counter .result) (omega (arith, c .before .before .before .before .before .before .before .before .before .before .before .if1 .left)) (omega (arith, at .inv .10, at .inv .1)) ∙ ap (λ (l : List ℕ). counter .result ∷ l) (at .inv .6)) (at .inv .7) (round .ensures .1 .1)))
-
-run-rounds-same-length : (t : ℕ) → run-rounds-lts.Need-same-length (
-  counter-reads.Asked,
-  counter-reads.Learnt,
-  run-command-below t,
-  run-command.Post,
-) (run-rounds-at t) run-rounds.Post run-rounds-Inv-loop run-rounds-μ-loop
-run-rounds-same-length t c = search needs
-
-run-rounds-same-length-2 : (t : ℕ) → run-rounds-lts.Need-same-length-2 (
-  counter-reads.Asked,
-  counter-reads.Learnt,
-  run-command-below t,
-  run-command.Post,
-) (run-rounds-at t) run-rounds.Post run-rounds-Inv-loop run-rounds-μ-loop
-run-rounds-same-length-2 t c = search needs
-
-run-rounds-returns-2 : (t : ℕ) → run-rounds-lts.Need-returns-2 (
-  counter-reads.Asked,
-  counter-reads.Learnt,
-  run-command-below t,
-  run-command.Post,
-) (run-rounds-at t) run-rounds.Post run-rounds-Inv-loop run-rounds-μ-loop
-run-rounds-returns-2 t c = let a = c .before .before .before .before .args in
-    let at = c .before .loop in
-    (at .inv .5, ((at .inv .6, at .inv .7, at .inv .1, at .inv .2, at .inv .8), rounds.turning-all (a .kinds .now) (a .numbers .now) (a .at) (a .turns) (a .order) (a .n) (a .inputs .now) (a .output) (drop (a .c) (a .counters .now)) (a .c) (drop (a .r) (a .regions .now)) (a .r) (a .free) (storeOf (a .cells .now) (a .bytes .now)) (a .writes) (storeOf (at .cells) (at .bytes)) (at .done) (subst (λ (j : ℕ). rounds.Turning (a .kinds .now) (a .numbers .now) (a .at) (a .turns) (a .order) (a .n) (a .inputs .now) (a .output) (drop (a .c) (a .counters .now)) (a .c) (drop (a .r) (a .regions .now)) (a .r) (a .free) (storeOf (a .cells .now) (a .bytes .now)) (a .writes) j (storeOf (at .cells) (at .bytes)) (at .done)) (omega (arith, at .inv .0, c .loop-test .left)) (at .inv .12))))
-
-pub +run-command+run-rounds-spec : {M : Type 1} → statement M
-+run-command+run-rounds-spec = close μ-run-command μ-run-rounds (λ t. run-command-lts.spec (
+-- what the callees of `run_command` ask, and what they promise
+abbrev run-command-calls : ℕ → run-command-lts.Claims
+run-command-calls t = (
   decode-reads.Asked,
   decode-reads.Learnt,
   assign-reads.Asked,
@@ -693,6 +62,455 @@ pub +run-command+run-rounds-spec : {M : Type 1} → statement M
   run-rounds-below t,
   run-rounds.Post,
 )
+
+run-command-returns : (t : ℕ) → run-command-lts.Need-returns (run-command-calls t) (run-command-at t) run-command.Post
+run-command-returns t c =
+    let entry = c .before .before in
+    let a = entry .args in (
+      omega arith,
+      (
+        (refl, refl, entry .pre .1 .2, entry .pre .1 .3, refl),
+        runs.run-none (a .kinds .now)
+            (a .numbers .now) (a .at) (a .order) (a .inputs .now) (a .output) (drop (a .c) (a .counters .now))
+            (a .c) (drop (a .r) (a .regions .now)) (a .r) (a .free) (storeOf (a .cells .now) (a .bytes .now))
+            (a .writes) (storeOf (a .cells .now) (a .bytes .now)) _ (c .if1 .taken),
+      ),
+    )
+
+run-command-decode-requires : (t : ℕ) → run-command-lts.Need-decode-requires (run-command-calls t) (run-command-at t) run-command.Post
+run-command-decode-requires t c κs = search needs
+
+run-command-enum-known-place : (t : ℕ) → run-command-lts.Need-enum-known-place (run-command-calls t) (run-command-at t) run-command.Post
+run-command-enum-known-place t c = search needs
+
+run-command-assign-requires : (t : ℕ) → run-command-lts.Need-assign-requires (run-command-calls t) (run-command-at t) run-command.Post
+run-command-assign-requires t c κs = search needs
+
+run-command-sum-requires : (t : ℕ) → run-command-lts.Need-sum-requires (run-command-calls t) (run-command-at t) run-command.Post
+run-command-sum-requires t c κs = search needs
+
+run-command-enum-told : (t : ℕ) → run-command-lts.Need-enum-told (run-command-calls t) (run-command-at t) run-command.Post
+run-command-enum-told t c = search needs
+
+run-command-add-run-command : (t : ℕ) → run-command-lts.Need-add-run-command (run-command-calls t) (run-command-at t) run-command.Post
+run-command-add-run-command t c = search needs
+
+run-command-run-command-requires :
+    (t : ℕ) → run-command-lts.Need-run-command-requires (run-command-calls t) (run-command-at t) run-command.Post
+run-command-run-command-requires t c κs = search needs
+
+run-command-run-command-requires-2 :
+    (t : ℕ) → run-command-lts.Need-run-command-requires-2 (run-command-calls t) (run-command-at t) run-command.Post
+run-command-run-command-requires-2 t c κs = search needs
+
+run-command-enum-known-turns : (t : ℕ) → run-command-lts.Need-enum-known-turns (run-command-calls t) (run-command-at t) run-command.Post
+run-command-enum-known-turns t c = search needs
+
+run-command-add-run-rounds : (t : ℕ) → run-command-lts.Need-add-run-rounds (run-command-calls t) (run-command-at t) run-command.Post
+run-command-add-run-rounds t c = search needs
+
+run-command-run-rounds-requires :
+    (t : ℕ) → run-command-lts.Need-run-rounds-requires (run-command-calls t) (run-command-at t) run-command.Post
+run-command-run-rounds-requires t c κs = search needs
+
+run-command-enum-known-n : (t : ℕ) → run-command-lts.Need-enum-known-n (run-command-calls t) (run-command-at t) run-command.Post
+run-command-enum-known-n t c = search needs
+
+run-command-returns-2 : (t : ℕ) → run-command-lts.Need-returns-2 (run-command-calls t) (run-command-at t) run-command.Post
+run-command-returns-2 t c =
+    let entry = c .before .before .before .before .before .before .before .before in
+    let at-n = c .before .before .n in
+    let a = entry .args in
+    let decode = c .before .before .before .before .decode in (
+      omega arith,
+      (
+        (refl, refl, entry .pre .1 .2, entry .pre .1 .3, refl),
+        runs.run-full (a .kinds .now)
+            (a .numbers .now) (a .at) (a .order) (a .inputs .now) (a .output) (drop (a .c) (a .counters .now))
+            (a .c) (drop (a .r) (a .regions .now)) (a .r) (a .free) (storeOf (a .cells .now) (a .bytes .now))
+            (a .writes) (decode .result) (decode .ensures .1) (at-n .given .0 .0)
+            (storeOf (a .cells .now) (a .bytes .now)) _ (at-n .given .1) (c .if2 .taken),
+      ),
+    )
+
+run-command-sub-inner : (t : ℕ) → run-command-lts.Need-sub-inner (run-command-calls t) (run-command-at t) run-command.Post
+run-command-sub-inner t c = search needs
+
+run-command-mul-regions : (t : ℕ) → run-command-lts.Need-mul-regions (run-command-calls t) (run-command-at t) run-command.Post
+run-command-mul-regions t c = search needs
+
+run-command-element-write-regions :
+    (t : ℕ) → run-command-lts.Need-element-write-regions (run-command-calls t) (run-command-at t) run-command.Post
+run-command-element-write-regions t c = search needs
+
+run-command-add-run-command-2 : (t : ℕ) → run-command-lts.Need-add-run-command-2 (run-command-calls t) (run-command-at t) run-command.Post
+run-command-add-run-command-2 t c = search needs
+
+run-command-sum-requires-2 : (t : ℕ) → run-command-lts.Need-sum-requires-2 (run-command-calls t) (run-command-at t) run-command.Post
+run-command-sum-requires-2 t c κs = search needs
+
+run-command-run-command-requires-3 :
+    (t : ℕ) → run-command-lts.Need-run-command-requires-3 (run-command-calls t) (run-command-at t) run-command.Post
+run-command-run-command-requires-3 t c κs =
+    let entry = c .before .before .before .before .before .before .before .before .before .before .before
+    .before .before in
+    let a = entry .args in (
+      omega (
+        arith,
+        entry .pre .0,
+        c .before .before .before .before .before .before .before .before .before .before .before .if1 .left,
+      ),
+      (
+        entry .pre .1 .0,
+        omega (arith, entry .pre .1 .1),
+        entry .pre .1 .2,
+        length-set (a .regions .now)
+            (a .r - 1) (a .free) ∙ entry .pre .1 .3,
+      ),
+    )
+
+run-command-enum-told-2 : (t : ℕ) → run-command-lts.Need-enum-told-2 (run-command-calls t) (run-command-at t) run-command.Post
+run-command-enum-told-2 t c = search needs
+
+run-command-same-length : (t : ℕ) → run-command-lts.Need-same-length (run-command-calls t) (run-command-at t) run-command.Post
+run-command-same-length t c = search needs
+
+run-command-same-length-2 : (t : ℕ) → run-command-lts.Need-same-length-2 (run-command-calls t) (run-command-at t) run-command.Post
+run-command-same-length-2 t c = search needs
+
+run-command-returns-3 : (t : ℕ) → run-command-lts.Need-returns-3 (run-command-calls t) (run-command-at t) run-command.Post
+run-command-returns-3 t c =
+    let entry = c .before .before .before .before .before .before .before .before .before .before .before
+    .before .before .before .before .before in
+    let a = entry .args in
+    let decode = c .before .before .before .before .before .before .before .before .before .before .before
+    .before .decode in
+    let place = c .before .before .before .before .before .before .before .before .before .before .place in
+    let assign = c .before .before .before .before .assign in (
+      omega (arith, decode .ensures .0, ap (nextOf (a .at)) (place .given .1), assign .ensures .0),
+      (
+        (refl, refl, entry .pre .1 .2, entry .pre .1 .3, assign .ensures .1 .0),
+        runs.run-set (a .kinds .now)
+            (a .numbers .now) (a .at) (a .order) (a .inputs .now) (a .output) (drop (a .c) (a .counters .now))
+            (a .c) (drop (a .r) (a .regions .now)) (a .r) (a .free) (storeOf (a .cells .now) (a .bytes .now))
+            (a .writes) (decode .result) (decode .ensures .1) (place .given .0 .0) (place .given .0 .1 .0)
+            (assign .result) (c .sum .result) (storeOf (assign .last .1 .1 .1 .1 .1 .1 .1 .1 .1 .1 .0)
+            (assign .last .1 .1 .1 .1 .1 .1 .1 .1 .1 .1 .1 .0)) (place .given .1) (assign .ensures .1 .1)
+            (c .sum .ensures),
+      ),
+    )
+
+run-command-same-length-3 : (t : ℕ) → run-command-lts.Need-same-length-3 (run-command-calls t) (run-command-at t) run-command.Post
+run-command-same-length-3 t c = search needs
+
+run-command-same-length-4 : (t : ℕ) → run-command-lts.Need-same-length-4 (run-command-calls t) (run-command-at t) run-command.Post
+run-command-same-length-4 t c = search needs
+
+run-command-returns-4 : (t : ℕ) → run-command-lts.Need-returns-4 (run-command-calls t) (run-command-at t) run-command.Post
+run-command-returns-4 t c =
+    let a = c .before .before .before .before .before .before .before .before .before .before .before
+    .before .before .before .before .before .before .before .before .before .before .before .args in
+    let decode = c .before .before .before .before .before .before .before .before .before .before .before
+    .before .before .before .before .before .before .before .decode in
+    let first = c .before .before .before .before .before .before .before .before .before .before .before
+    .run-command in
+    let second = c .before .before .before .run-command2 in (
+      omega (arith, first .ensures .0, second .ensures .0),
+      (
+        (
+          second .ensures .1 .0 .0 ∙ first .ensures .1 .0 .0,
+          second .ensures .1 .0 .1 ∙ first .ensures .1 .0 .1,
+          second .ensures .1 .0 .2,
+          second .ensures .1 .0 .3,
+          second .ensures .1 .0 .4 ∙
+              first .ensures .1 .0 .4,
+        ),
+        runs.run-seq (a .kinds .now) (a .numbers .now) (a .at) (a .order)
+            (a .inputs .now) (a .output) (drop (a .c) (a .counters .now)) (a .c) (drop (a .r) (a .regions .now))
+            (a .r) (a .free) (storeOf (a .cells .now) (a .bytes .now)) (a .writes) (decode .result)
+            (decode .ensures .1) (storeOf (first .last .1 .1 .1 .1 .1 .1 .1 .1 .1 .1 .1 .0)
+            (first .last .1 .1 .1 .1 .1 .1 .1 .1 .1 .1 .1 .1 .0)) (storeOf
+            (second .last .1 .1 .1 .1 .1 .1 .1 .1 .1 .1 .1 .0)
+            (second .last .1 .1 .1 .1 .1 .1 .1 .1 .1 .1 .1 .1 .0)) (first .result) (second .result)
+            (c .before .before .before .before .before .before .before .before .before .before .before
+            .before .before .before .before .before .enum-told .given .1) (first .ensures .1 .1)
+            (rounds.runs-same (a .kinds .now) (a .numbers .now) (first .result .next) (a .order) (a .inputs .now)
+            (a .output) (drop (a .c) (first .last .1 .1 .1 .0)) (drop (a .c) (a .counters .now)) (a .c)
+            (drop (a .r) (first .last .1 .1 .1 .1 .1 .0)) (drop (a .r) (a .regions .now)) (a .r)
+            (first .result .free) (storeOf (first .last .1 .1 .1 .1 .1 .1 .1 .1 .1 .1 .1 .0)
+            (first .last .1 .1 .1 .1 .1 .1 .1 .1 .1 .1 .1 .1 .0)) (first .result .writes) (storeOf
+            (second .last .1 .1 .1 .1 .1 .1 .1 .1 .1 .1 .1 .0)
+            (second .last .1 .1 .1 .1 .1 .1 .1 .1 .1 .1 .1 .1 .0)) (second .result)
+            (first .ensures .1 .0 .0) (first .ensures .1 .0 .1) (second .ensures .1 .1)),
+      ),
+    )
+
+run-command-same-length-5 : (t : ℕ) → run-command-lts.Need-same-length-5 (run-command-calls t) (run-command-at t) run-command.Post
+run-command-same-length-5 t c = search needs
+
+run-command-same-length-6 : (t : ℕ) → run-command-lts.Need-same-length-6 (run-command-calls t) (run-command-at t) run-command.Post
+run-command-same-length-6 t c = search needs
+
+run-command-returns-5 : (t : ℕ) → run-command-lts.Need-returns-5 (run-command-calls t) (run-command-at t) run-command.Post
+run-command-returns-5 t c =
+    let a = c .before .before .before .before .before .before .before .before .before .before .before
+    .before .before .before .before .args in
+    let decode = c .before .before .before .before .before .before .before .before .before .before .before .decode
+    in
+    let the-turns = c .before .before .before .before .before .before .before .before .before .turns in
+    let done = c .before .before .before .run-rounds in (
+      omega (arith, done .ensures .0),
+      (
+        done .ensures .1 .0,
+        runs.run-loop (a .kinds .now) (a .numbers .now) (a .at)
+            (a .order) (a .inputs .now) (a .output) (drop (a .c) (a .counters .now)) (a .c)
+            (drop (a .r) (a .regions .now)) (a .r) (a .free) (storeOf (a .cells .now) (a .bytes .now)) (a .writes)
+            (decode .result) (decode .ensures .1) (the-turns .given .0 .0) (the-turns .given .0 .1 .0) (storeOf
+            (done .last .1 .1 .1 .1 .1 .1 .1 .1 .1 .1 .1 .1 .1 .0)
+            (done .last .1 .1 .1 .1 .1 .1 .1 .1 .1 .1 .1 .1 .1 .1 .0)) (done .result) (the-turns .given .1)
+            (done .ensures .1 .1),
+      ),
+    )
+
+run-command-same-length-7 : (t : ℕ) → run-command-lts.Need-same-length-7 (run-command-calls t) (run-command-at t) run-command.Post
+run-command-same-length-7 t c = search needs
+
+run-command-same-length-8 : (t : ℕ) → run-command-lts.Need-same-length-8 (run-command-calls t) (run-command-at t) run-command.Post
+run-command-same-length-8 t c = search needs
+
+run-command-returns-6 : (t : ℕ) → run-command-lts.Need-returns-6 (run-command-calls t) (run-command-at t) run-command.Post
+run-command-returns-6 t c =
+    let entry = c .before .before .before .before .before .before .before .before .before .before .before
+    .before .before .before .before .before .before in
+    let at-if2 = c .before .before .before .before .before .before .before .before .before .if2 in
+    let at-sum2 = c .before .before .before .before .before .before .sum2 in
+    let a = entry .args in
+    let decode = c .before .before .before .before .before .before .before .before .before .before .before
+    .before .before .decode in
+    let n = c .before .before .before .before .before .before .before .before .before .before .before .n in
+    let done = c .before .before .before .run-command3 in (
+      omega (arith, done .ensures .0),
+      (
+        (
+          done .ensures .1 .0 .0,
+          rounds.popped (a .regions .now) (done .last .1 .1 .1 .1 .1 .0) (a .r) (a .free)
+              (omega (arith, at-if2 .left)) (done .ensures .1 .0 .1),
+          done .ensures .1 .0 .2,
+          done .ensures .1 .0 .3,
+          done .ensures .1 .0 .4,
+        ),
+        runs.run-new (a .kinds .now) (a .numbers .now)
+            (a .at) (a .order) (a .inputs .now) (a .output) (drop (a .c) (a .counters .now)) (a .c)
+            (drop (a .r) (a .regions .now)) (a .r) (a .free) (storeOf (a .cells .now) (a .bytes .now)) (a .writes)
+            (decode .result) (decode .ensures .1) (n .given .0 .0) (at-sum2 .result) (storeOf
+            (done .last .1 .1 .1 .1 .1 .1 .1 .1 .1 .1 .1 .0) (done .last .1 .1 .1 .1 .1 .1 .1 .1 .1 .1 .1 .1 .0))
+            (done .result) (n .given .1) (at-sum2 .ensures) (rounds.runs-same (a .kinds .now) (a .numbers .now)
+            (a .at + 1) (a .order) (a .inputs .now) (a .output) (drop (a .c) (a .counters .now))
+            (drop (a .c) (a .counters .now)) (a .c) _ (a .free ∷ (drop (a .r) (a .regions .now))) (a .r - 1)
+            (at-sum2 .result) (storeOf (a .cells .now) (a .bytes .now)) (a .writes) (storeOf
+            (done .last .1 .1 .1 .1 .1 .1 .1 .1 .1 .1 .1 .0)
+            (done .last .1 .1 .1 .1 .1 .1 .1 .1 .1 .1 .1 .1 .0)) (done .result) refl (table.pushed
+            (a .regions .now) (a .r) (a .free) (omega (arith, at-if2 .left))
+            (omega (arith, entry .pre .1 .1, entry .pre .1 .3))) (done .ensures .1 .1)),
+      ),
+    )
+
+run-command-returns-7 : (t : ℕ) → run-command-lts.Need-returns-7 (run-command-calls t) (run-command-at t) run-command.Post
+run-command-returns-7 t c =
+    let entry = c .before .before .before .before .before .before in
+    let a = entry .args in
+    let decode = c .before .before .decode in (
+      omega arith,
+      (
+        (refl, refl, entry .pre .1 .2, entry .pre .1 .3, refl),
+        runs.run-nothing (a .kinds .now)
+            (a .numbers .now) (a .at) (a .order) (a .inputs .now) (a .output) (drop (a .c) (a .counters .now))
+            (a .c) (drop (a .r) (a .regions .now)) (a .r) (a .free) (storeOf (a .cells .now) (a .bytes .now))
+            (a .writes) (decode .result) (decode .ensures .1) (c .enum-told2 .given .1)
+            (storeOf (a .cells .now) (a .bytes .now)) _,
+      ),
+    )
+
+abbrev run-rounds-Inv-loop : run-rounds-lts.InvT-loop
+run-rounds-Inv-loop kinds numbers at counters₀ c regions₀ r inputs output order turns n free cells₀ bytes₀ writes inner done₀ k₀ counters regions cells bytes done k =
+    (k ≤ n) × (length counters ≡ 32) × (length regions ≡ 256) × (length cells ≡ length cells₀) ×
+    (length bytes ≡ length bytes₀) × (at ≤ done .next) × (drop c counters ≡ drop c counters₀) ×
+    (drop r regions ≡ drop r regions₀) × (frameOf cells bytes ≡ frameOf cells₀ bytes₀) × (suc inner ≡ c) × (c ≤ 32)
+    × (r ≤ 256) × rounds.Turning kinds numbers at turns order n inputs output (drop c counters₀) c (drop r regions₀)
+    r free (storeOf cells₀ bytes₀) writes k (storeOf cells bytes) done
+
+abbrev run-rounds-μ-loop : run-rounds-lts.MeasureT-loop
+run-rounds-μ-loop kinds numbers at counters₀ c regions₀ r inputs output order turns n free cells₀ bytes₀ writes inner done₀ k₀ counters regions cells bytes done k =
+    n - k
+
+-- what the callees of `run_rounds` ask, and what they promise
+abbrev run-rounds-calls : ℕ → run-rounds-lts.Claims
+run-rounds-calls t = (
+  counter-reads.Asked,
+  counter-reads.Learnt,
+  run-command-below t,
+  run-command.Post,
+)
+
+run-rounds-returns :
+    (t : ℕ) → run-rounds-lts.Need-returns (run-rounds-calls t) (run-rounds-at t) run-rounds.Post run-rounds-Inv-loop
+    run-rounds-μ-loop
+run-rounds-returns t c =
+    let entry = c .before .before in (
+      omega arith,
+      (
+        (refl, refl, entry .pre .1 .2, entry .pre .1 .3, refl),
+        λ x b some more exact l m. absurd
+            (omega (arith, some, c .if1 .taken)),
+      ),
+    )
+
+run-rounds-sub-inner :
+    (t : ℕ) → run-rounds-lts.Need-sub-inner (run-rounds-calls t) (run-rounds-at t) run-rounds.Post
+    run-rounds-Inv-loop run-rounds-μ-loop
+run-rounds-sub-inner t c = search needs
+
+run-rounds-loop-holds :
+    (t : ℕ) → run-rounds-lts.Need-loop-holds (run-rounds-calls t) (run-rounds-at t) run-rounds.Post
+    run-rounds-Inv-loop run-rounds-μ-loop
+run-rounds-loop-holds t c =
+    let entry = c .before .before in
+    let a = entry .args in (
+      omega arith,
+      entry .pre .1 .2,
+      entry .pre .1 .3,
+      refl,
+      refl,
+      omega arith,
+      refl,
+      refl,
+      refl,
+      omega
+          (arith, c .if1 .left),
+      entry .pre .1 .0,
+      entry .pre .1 .1,
+      rounds.turning-none (a .kinds .now)
+          (a .numbers .now) (a .at) (a .turns) (a .order) (a .n) (a .inputs .now) (a .output)
+          (drop (a .c) (a .counters .now)) (a .c) (drop (a .r) (a .regions .now)) (a .r) (a .free)
+          (storeOf (a .cells .now) (a .bytes .now)) (a .writes) _ refl,
+    )
+
+run-rounds-counter-requires :
+    (t : ℕ) → run-rounds-lts.Need-counter-requires (run-rounds-calls t) (run-rounds-at t) run-rounds.Post
+    run-rounds-Inv-loop run-rounds-μ-loop
+run-rounds-counter-requires t c κs = search needs
+
+run-rounds-mul-counters :
+    (t : ℕ) → run-rounds-lts.Need-mul-counters (run-rounds-calls t) (run-rounds-at t) run-rounds.Post
+    run-rounds-Inv-loop run-rounds-μ-loop
+run-rounds-mul-counters t c = search needs
+
+run-rounds-element-write-counters :
+    (t : ℕ) → run-rounds-lts.Need-element-write-counters (run-rounds-calls t) (run-rounds-at t) run-rounds.Post
+    run-rounds-Inv-loop run-rounds-μ-loop
+run-rounds-element-write-counters t c = search needs
+
+run-rounds-run-command-requires :
+    (t : ℕ) → run-rounds-lts.Need-run-command-requires (run-rounds-calls t) (run-rounds-at t) run-rounds.Post
+    run-rounds-Inv-loop run-rounds-μ-loop
+run-rounds-run-command-requires t c κs =
+    let entry = c .before .before .before .before .before .before .before .before .before in
+    let a = entry .args in
+    let at = c .before .before .before .before .before .before .loop in (
+      omega (arith, entry .pre .0),
+      (
+        omega (arith, at .inv .10),
+        entry .pre .1 .1,
+        length-set (at .counters)
+            (a .c - 1) (c .before .before .before .before .counter .result) ∙ at .inv .1,
+        at .inv .2,
+      ),
+    )
+
+run-rounds-add-k :
+    (t : ℕ) → run-rounds-lts.Need-add-k (run-rounds-calls t) (run-rounds-at t) run-rounds.Post run-rounds-Inv-loop
+    run-rounds-μ-loop
+run-rounds-add-k t c = search needs
+
+run-rounds-loop-less :
+    (t : ℕ) → run-rounds-lts.Need-loop-less (run-rounds-calls t) (run-rounds-at t) run-rounds.Post
+    run-rounds-Inv-loop run-rounds-μ-loop
+run-rounds-loop-less t c = search needs
+
+run-rounds-loop-again :
+    (t : ℕ) → run-rounds-lts.Need-loop-again (run-rounds-calls t) (run-rounds-at t) run-rounds.Post
+    run-rounds-Inv-loop run-rounds-μ-loop
+run-rounds-loop-again t c =
+    let at-if1 = c .before .before .before .before .before .before .before .before .before .before .before .if1 in
+    let a = c .before .before .before .before .before .before .before .before .before .before .before
+    .before .before .args in
+    let test = c .before .before .before .before .before .before .before .before .before .loop-test in
+    let at = c .before .before .before .before .before .before .before .before .before .before .loop in
+    let counter = c .before .before .before .before .before .before .before .before .counter in
+    let round = c .before .before .before .run-command in (
+      omega (arith, test .taken),
+      round .ensures .1 .0 .2,
+      round .ensures .1 .0 .3,
+      round .kept .1 .1 .1 .1 .1 .1 .1 .1 .1 .1 .1 .0 ∙ at .inv .3,
+      round .kept .1 .1 .1 .1 .1 .1 .1 .1 .1 .1 .1 .1 .0 ∙ at .inv .4,
+      round .ensures .0,
+      rounds.popped
+          (at .counters) (round .last .1 .1 .1 .0) (a .c) (counter .result) (omega (arith, at-if1 .left))
+          (round .ensures .1 .0 .0) ∙ at .inv .6,
+      round .ensures .1 .0 .1 ∙ at .inv .7,
+      round .ensures .1 .0 .4 ∙
+          at .inv .8,
+      at .inv .9,
+      at .inv .10,
+      at .inv .11,
+      rounds.turning-more (a .kinds .now) (a .numbers .now)
+          (a .at) (a .turns) (a .order) (a .n) (a .inputs .now) (a .output) (drop (a .c) (a .counters .now)) (a .c)
+          (drop (a .r) (a .regions .now)) (a .r) (a .free) (storeOf (a .cells .now) (a .bytes .now)) (a .writes)
+          (at .k) (storeOf (at .cells) (at .bytes)) (storeOf (round .last .1 .1 .1 .1 .1 .1 .1 .1 .1 .1 .1 .0)
+          (round .last .1 .1 .1 .1 .1 .1 .1 .1 .1 .1 .1 .1 .0)) (at .done) (round .result) (counter .result)
+          (test .taken) (counter .ensures .1) (counter .ensures .0) (at .inv .12) (rounds.runs-same (a .kinds .now)
+          (a .numbers .now) (a .at) (a .order) (a .inputs .now) (a .output) _
+          (counter .result ∷ (drop (a .c) (a .counters .now))) (a .c - 1) (drop (a .r) (at .regions))
+          (drop (a .r) (a .regions .now)) (a .r) (a .free) (storeOf (at .cells) (at .bytes)) (at .done .writes)
+          (storeOf (round .last .1 .1 .1 .1 .1 .1 .1 .1 .1 .1 .1 .0)
+          (round .last .1 .1 .1 .1 .1 .1 .1 .1 .1 .1 .1 .1 .0)) (round .result) (table.pushed (at .counters)
+          (a .c) (counter .result) (omega (arith, at-if1 .left)) (omega (arith, at .inv .10, at .inv .1)) ∙ ap
+          (λ (l : List ℕ). counter .result ∷ l) (at .inv .6)) (at .inv .7) (round .ensures .1 .1)),
+    )
+
+run-rounds-same-length :
+    (t : ℕ) → run-rounds-lts.Need-same-length (run-rounds-calls t) (run-rounds-at t) run-rounds.Post
+    run-rounds-Inv-loop run-rounds-μ-loop
+run-rounds-same-length t c = search needs
+
+run-rounds-same-length-2 :
+    (t : ℕ) → run-rounds-lts.Need-same-length-2 (run-rounds-calls t) (run-rounds-at t) run-rounds.Post
+    run-rounds-Inv-loop run-rounds-μ-loop
+run-rounds-same-length-2 t c = search needs
+
+run-rounds-returns-2 :
+    (t : ℕ) → run-rounds-lts.Need-returns-2 (run-rounds-calls t) (run-rounds-at t) run-rounds.Post
+    run-rounds-Inv-loop run-rounds-μ-loop
+run-rounds-returns-2 t c =
+    let a = c .before .before .before .before .args in
+    let at = c .before .loop in (
+      at .inv .5,
+      (
+        (at .inv .6, at .inv .7, at .inv .1, at .inv .2, at .inv .8),
+        rounds.turning-all (a .kinds .now)
+            (a .numbers .now) (a .at) (a .turns) (a .order) (a .n) (a .inputs .now) (a .output)
+            (drop (a .c) (a .counters .now)) (a .c) (drop (a .r) (a .regions .now)) (a .r) (a .free)
+            (storeOf (a .cells .now) (a .bytes .now)) (a .writes) (storeOf (at .cells) (at .bytes)) (at .done)
+            (subst (λ (j : ℕ). rounds.Turning (a .kinds .now) (a .numbers .now) (a .at) (a .turns) (a .order) (a .n)
+            (a .inputs .now) (a .output) (drop (a .c) (a .counters .now)) (a .c)
+            (drop (a .r) (a .regions .now)) (a .r) (a .free) (storeOf (a .cells .now) (a .bytes .now))
+            (a .writes) j (storeOf (at .cells) (at .bytes)) (at .done))
+            (omega (arith, at .inv .0, c .loop-test .left)) (at .inv .12)),
+      ),
+    )
+
+pub +run-command+run-rounds-spec : {M : Type 1} → statement M
++run-command+run-rounds-spec = close μ-run-command μ-run-rounds (λ t. run-command-lts.spec (run-command-calls t)
     (run-command-at t)
     run-command.Post
     (run-command-returns t)
@@ -730,7 +548,7 @@ pub +run-command+run-rounds-spec : {M : Type 1} → statement M
     (run-command-returns-6 t)
     (run-command-returns-7 t))
     λ t. run-rounds-lts.spec
-    (counter-reads.Asked, counter-reads.Learnt, run-command-below t, run-command.Post)
+    (run-rounds-calls t)
     (run-rounds-at t)
     run-rounds.Post
     run-rounds-Inv-loop

@@ -24,9 +24,23 @@ same-length-2 : tie.Need-same-length-2
 same-length-2 c = search needs
 
 returns : tie.Need-returns
-returns c = let a = c .before .before .before .before .before .before .before .before .before .before .before .before .args in
-    let value = c .before .before .before .before .before .before .before .before .evaluate in
-    (omega (arith, value .ensures .0), (c .before .before .before .put .ensures .1, λ v b f. (value .ensures .1 v b f .1, c .before .before .before .put .ensures .0 ∙ ap₂ (set (storeOf (a .cells .now) (a .bytes .now))) (c .before .before .before .before .before .cell .ensures) (back (value .result .number) (c .before .before .before .before .struct-told .given .0 .1) ∙ value .ensures .1 v b f .0))))
+returns c =
+    let at-put = c .before .before .before .put in
+    let a = c .before .before .before .before .before .before .before .before .before .before .before .before .args
+    in
+    let value = c .before .before .before .before .before .before .before .before .evaluate in (
+      omega (arith, value .ensures .0),
+      (
+        at-put .ensures .1,
+        λ v b f. (
+          value .ensures .1 v b f .1,
+          at-put .ensures .0
+              ∙ ap₂ (set (storeOf (a .cells .now) (a .bytes .now)))
+              (c .before .before .before .before .before .cell .ensures) (back (value .result .number)
+              (c .before .before .before .before .struct-told .given .0 .1) ∙ value .ensures .1 v b f .0),
+        ),
+      ),
+    )
 
 pub assign-spec : {M : Type 1} → statement M
 assign-spec =

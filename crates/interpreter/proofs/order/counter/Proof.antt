@@ -33,7 +33,11 @@ add-result : tie.Need-add-result
 add-result c = search needs
 
 returns-4 : tie.Need-returns-4
-returns-4 c = (omega arith, turns.turn-odd _ _ _ (c .before .before .if1 .left) (c .before .if2 .left) (c .before .before .before .pre) (c .if3 .left))
+returns-4 c = (
+  omega arith,
+  turns.turn-odd _ _ _ (c .before .before .if1 .left) (c .before .if2 .left)
+      (c .before .before .before .pre) (c .if3 .left),
+)
 
 pub counter-spec : {M : Type 1} → statement M
 counter-spec =

@@ -18,7 +18,19 @@ add-put-assign-2 : tie.Need-add-put-assign-2
 add-put-assign-2 c = search needs
 
 put-assign-requires : tie.Need-put-assign-requires
-put-assign-requires c κs = let l = few-levels (c .before .before .before .before .before .before .before .before .before .before .before .args .types .now) (c .before .before .before .before .before .before .before .before .before .before .before .args .place) (c .before .before .before .before .before .before .before .before .before .before .before .pre .0) (c .before .before .before .before .before .before .before .before .before .before .before .pre .1) in (c .before .before .before .before .before .before .before .before .before .before .before .pre .0, c .before .before .before .before .before .before .before .before .before .before .before .pre .1, omega (arith, c .before .before .before .before .before .before .before .before .before .before .before .pre .3), omega (arith, c .before .before .before .before .before .before .before .before .before .before .before .pre .3), omega (arith, l, c .before .before .before .before .before .before .before .before .before .before .before .pre .4), omega (arith, l, c .before .before .before .before .before .before .before .before .before .before .before .pre .5), c .before .before .before .before .before .before .before .before .push-reduction .ensures .next .grown .size)
+put-assign-requires c κs =
+    let entry = c .before .before .before .before .before .before .before .before .before .before .before in
+    let l = few-levels (entry .args .types .now) (entry .args .place) (entry .pre .0) (entry .pre .1) in (
+      entry .pre .0,
+      entry .pre .1,
+      omega (arith, entry .pre .3),
+      omega (arith, entry .pre .3),
+      omega
+          (arith, l, entry .pre .4),
+      omega (arith, l, entry .pre .5),
+      c .before .before .before .before .before .before .before .before .push-reduction .ensures
+          .next .grown .size,
+    )
 
 put-count-requires : tie.Need-put-count-requires
 put-count-requires c κs = search needs
@@ -27,10 +39,31 @@ put-count-requires-2 : tie.Need-put-count-requires-2
 put-count-requires-2 c κs = search needs
 
 put-region-requires-2 : tie.Need-put-region-requires-2
-put-region-requires-2 c κs = (c .before .before .before .before .before .before .before .before .before .before .before .before .before .before .before .before .before .before .before .before .pre .0, c .before .before .before .before .before .before .before .before .before .before .before .before .before .before .before .before .before .before .before .before .pre .1)
+put-region-requires-2 c κs =
+    let entry = c .before .before .before .before .before .before .before .before .before .before .before
+    .before .before .before .before .before .before .before .before .before in
+    (entry .pre .0, entry .pre .1)
 
 returns : tie.Need-returns
-returns c = (record { between = _; nodes = c .before .before .before .before .before .before .before .before .before .before .before .before .before .before .before .before .before .before .push-reduction .ensures; grown = c .before .before .before .before .before .before .before .before .before .put-assign .ensures .1 }, reduction-put (c .before .before .before .before .before .before .before .before .before .before .before .before .before .before .before .before .before .before .before .before .before .args .types .now) (c .before .before .before .before .before .before .before .before .before .before .before .before .before .before .before .before .before .before .before .before .before .args .plan .now) (c .before .before .before .before .before .before .before .before .before .before .before .before .before .before .before .before .before .before .before .before .before .args .references .now) _ (c .before .before .before .before .before .before .before .before .before .before .before .before .before .before .before .before .before .before .before .before .before .args .place) (c .before .before .before .before .before .before .before .before .before .before .before .before .before .before .before .before .before .before .before .before .before .args .array) (c .before .before .before .before .before .before .before .before .before .before .before .before .before .before .before .before .before .before .before .before .before .args .start .value) (c .before .before .before .before .before .before .before .before .before .before .before .before .before .before .before .before .before .before .before .before .before .args .counters) (c .before .before .before .before .before .before .before .before .before .before .before .before .before .before .before .before .before .before .before .before .before .args .start .regions) (c .before .before .before .before .before .before .before .before .before .before .before .before .before .before .before .before .before .before .before .before .before .args .start .len) (c .before .before .before .before .before .before .before .before .before .before .before .before .before .before .before .before .before .before .before .before .before .args .rounds) (c .before .before .before .before .before .before .before .before .before .before .before .before .before .before .before .before .before .before .push-reduction .ensures) (omega (arith, c .before .before .before .before .before .before .before .before .before .before .before .before .before .before .before .before .before .before .before .before .before .pre .4)) (omega (arith, c .before .before .before .before .before .before .before .before .before .before .before .before .before .before .before .before .before .before .before .before .before .pre .0 .few, c .before .before .before .before .before .before .before .before .before .before .before .before .before .before .before .before .before .before .before .before .before .pre .1)) (c .before .before .before .before .before .before .before .before .before .before .before .before .before .before .before .before .before .before .before .before .before .pre .2) (c .before .before .before .before .before .before .before .before .before .before .before .before .before .before .before .before .before .before .before .before .before .pre .3) (omega (arith, c .before .before .before .before .before .before .before .before .before .before .before .before .before .before .before .before .before .before .before .before .before .pre .5)) (omega (arith, c .before .before .before .before .before .before .before .before .before .before .before .before .before .before .before .before .before .before .before .before .before .pre .6)) _ _ _ _ _ _ (c .before .before .before .before .before .before .before .before .before .before .before .before .before .before .before .put-region .ensures) (c .before .before .before .before .before .before .before .before .before .put-assign .ensures .0) (c .before .before .before .before .before .before .put-count .ensures) (c .before .before .before .put-count2 .ensures) (c .put-region2 .ensures))
+returns c =
+    let entry = c .before .before .before .before .before .before .before .before .before .before .before
+    .before .before .before .before .before .before .before .before .before .before in
+    let at-push-reduction =
+    c .before .before .before .before .before .before .before .before .before .before .before
+    .before .before .before .before .before .before .before .push-reduction in
+    let at-put-assign = c .before .before .before .before .before .before .before .before .before .put-assign in (
+      record { between = _; nodes = at-push-reduction .ensures; grown = at-put-assign .ensures .1 },
+      reduction-put
+          (entry .args .types .now) (entry .args .plan .now) (entry .args .references .now) _ (entry .args .place)
+          (entry .args .array) (entry .args .start .value) (entry .args .counters) (entry .args .start .regions)
+          (entry .args .start .len) (entry .args .rounds) (at-push-reduction .ensures) (omega (arith, entry .pre .4))
+          (omega (arith, entry .pre .0 .few, entry .pre .1)) (entry .pre .2) (entry .pre .3)
+          (omega (arith, entry .pre .5)) (omega (arith, entry .pre .6)) _ _ _ _ _ _
+          (c .before .before .before .before .before .before .before .before .before .before .before
+          .before .before .before .before .put-region .ensures) (at-put-assign .ensures .0)
+          (c .before .before .before .before .before .before .put-count .ensures)
+          (c .before .before .before .put-count2 .ensures) (c .put-region2 .ensures),
+    )
 
 pub begin-reduction-spec : {M : Type 1} → statement M
 begin-reduction-spec =

@@ -43,7 +43,28 @@ add-t24 : tie.Need-add-t24
 add-t24 c = search needs
 
 returns : tie.Need-returns
-returns c = (record { nodes = record { between = _; over-value = c .before .before .before .before .before .before .before .push .ensures; over-target = c .before .before .before .before .push2 .ensures }; counters = refl; regions = refl; variables = refl; count = refl; len = refl }, map-put (c .before .before .before .before .before .before .before .before .before .before .before .before .before .before .before .args .kind) _ _ (typeAt (c .before .before .before .before .before .before .before .before .before .before .before .before .before .before .before .args .types .now) (c .before .before .before .before .before .before .before .before .before .before .before .before .before .before .before .args .place)) _ _ (c .before .before .before .before .before .before .before .before .before .before .before .before .before .map-loop .ensures) (c .before .before .before .before .before .before .before .before .before .before .array-length .ensures) (c .before .before .before .before .before .before .before .before .before .put-count .ensures))
+returns c =
+    let entry = c .before .before .before .before .before .before .before .before .before .before .before
+    .before .before .before .before in
+    let at-map-loop = c .before .before .before .before .before .before .before .before .before .before .before
+    .before .before .map-loop in
+    let at-array-length = c .before .before .before .before .before .before .before .before .before .before
+    .array-length in
+    let at-put-count = c .before .before .before .before .before .before .before .before .before .put-count in
+    let at-push = c .before .before .before .before .before .before .before .push in
+    let at-push2 = c .before .before .before .before .push2 in (
+      record {
+        nodes = record { between = _; over-value = at-push .ensures; over-target = at-push2 .ensures };
+        counters = refl;
+        regions = refl;
+        variables = refl;
+        count = refl;
+        len = refl;
+      },
+      map-put
+          (entry .args .kind) _ _ (typeAt (entry .args .types .now) (entry .args .place)) _ _ (at-map-loop .ensures)
+          (at-array-length .ensures) (at-put-count .ensures),
+    )
 
 pub enter-map-spec : {M : Type 1} → statement M
 enter-map-spec =

@@ -11,7 +11,15 @@ in-round-requires : tie.Need-in-round-requires
 in-round-requires c κs = search needs
 
 returns : tie.Need-returns
-returns c = (record { begun = c .before .begin-reduction .ensures .0; round = round-here _ _ _ _ (c .in-round .ensures) }, rows-here _ _ _ _ _ (c .in-round .ensures .end) (c .before .begin-reduction .ensures .1))
+returns c = (
+  record {
+    begun = c .before .begin-reduction .ensures .0;
+    round = round-here _ _ _ _
+        (c .in-round .ensures);
+  },
+  rows-here _ _ _ _ _ (c .in-round .ensures .end)
+      (c .before .begin-reduction .ensures .1),
+)
 
 pub enter-reduction-spec : {M : Type 1} → statement M
 enter-reduction-spec = tie.close (tie.spec begin-reduction-requires in-round-requires returns)

@@ -15,7 +15,18 @@ add-put-assign-3 : tie.Need-add-put-assign-3
 add-put-assign-3 c = search needs
 
 put-assign-requires : tie.Need-put-assign-requires
-put-assign-requires c κs = let l = few-levels (c .before .before .before .before .args .types .now) (c .before .before .before .before .args .place) (c .before .before .before .before .pre .0) (c .before .before .before .before .pre .1) in (c .before .before .before .before .pre .0, c .before .before .before .before .pre .1, omega (arith, c .before .before .before .before .pre .2), omega (arith, c .before .before .before .before .pre .2), omega (arith, l, c .before .before .before .before .pre .3), omega (arith, l, c .before .before .before .before .pre .4), c .before .before .before .before .pre .8)
+put-assign-requires c κs =
+    let entry = c .before .before .before .before in
+    let l = few-levels (entry .args .types .now) (entry .args .place) (entry .pre .0) (entry .pre .1) in (
+      entry .pre .0,
+      entry .pre .1,
+      omega (arith, entry .pre .2),
+      omega (arith, entry .pre .2),
+      omega
+          (arith, l, entry .pre .3),
+      omega (arith, l, entry .pre .4),
+      entry .pre .8,
+    )
 
 add-t16 : tie.Need-add-t16
 add-t16 c = search needs

@@ -19,7 +19,21 @@ add-t14 : tie.Need-add-t14
 add-t14 c = search needs
 
 returns : tie.Need-returns
-returns c = (record { node = pushed-as (c .before .before .before .first-part .result) (firstPart (c .before .before .before .before .before .before .before .before .args .kind)) (c .before .before .before .before .before .before .before .before .args .target) (c .before .before .before .first-part .ensures) (c .before .before .push .ensures); counters = refl; regions = refl; variables = record { variables = refl; count = refl }; len = refl }, c .before .before .before .before .before .put-count .ensures)
+returns c =
+    let entry = c .before .before .before .before .before .before .before .before in
+    let at-put-count = c .before .before .before .before .before .put-count in
+    let at-first-part = c .before .before .before .first-part in (
+      record {
+        node = pushed-as (at-first-part .result) (firstPart (entry .args .kind)) (entry .args .target)
+            (at-first-part .ensures) (c .before .before .push .ensures);
+        counters = refl;
+        regions = refl;
+        variables
+            = record { variables = refl; count = refl };
+        len = refl;
+      },
+      at-put-count .ensures,
+    )
 
 pub into-first-spec : {M : Type 1} → statement M
 into-first-spec =

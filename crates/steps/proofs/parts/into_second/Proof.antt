@@ -16,7 +16,20 @@ add-t10 : tie.Need-add-t10
 add-t10 c = search needs
 
 returns : tie.Need-returns
-returns c = (record { node = pushed-as (c .before .before .before .second-part .result) (secondPart (c .before .before .before .before .before .args .kind)) (c .before .before .before .before .before .args .target) (c .before .before .before .second-part .ensures) (c .before .before .push .ensures); counters = refl; regions = refl; variables = record { variables = refl; count = refl }; len = refl }, refl)
+returns c =
+    let entry = c .before .before .before .before .before in
+    let at-second-part = c .before .before .before .second-part in (
+      record {
+        node = pushed-as (at-second-part .result) (secondPart (entry .args .kind)) (entry .args .target)
+            (at-second-part .ensures) (c .before .before .push .ensures);
+        counters = refl;
+        regions = refl;
+        variables
+            = record { variables = refl; count = refl };
+        len = refl;
+      },
+      refl,
+    )
 
 pub into-second-spec : {M : Type 1} → statement M
 into-second-spec = tie.close (tie.spec second-part-requires push-requires add-t10 returns)

@@ -20,10 +20,31 @@ misfit-requires : tie.Need-misfit-requires
 misfit-requires c κs = search needs
 
 returns : tie.Need-returns
-returns c = found-no _ _ _ _ _ _ (c .misfit .ensures) (first-no (c .before .before .before .before .before .args .line) _ (told-no-pair (c .before .before .before .before .before .args .nodes .now) (c .before .before .before .before .before .args .place) (c .before .enum-told .given .1) (c .before .before .before .as-pair .ensures)))
+returns c =
+    let entry = c .before .before .before .before .before in
+    found-no _ _ _ _ _ _ (c .misfit .ensures) (first-no (entry .args .line) _ (told-no-pair
+    (entry .args .nodes .now) (entry .args .place) (c .before .enum-told .given .1)
+    (c .before .before .before .as-pair .ensures)))
 
 returns-2 : tie.Need-returns-2
-returns-2 c = found-type (c .before .before .before .before .before .args .nodes .now) (c .before .before .before .before .before .args .len) (c .before .before .before .before .before .args .len) (c .before .before .before .before .before .args .rows) _ _ (c .before .before .before .before .before .pre .0 .sound) (omega (arith, c .before .before .before .before .before .pre .1, told-pair (c .before .before .before .before .before .args .nodes .now) (c .before .before .before .before .before .args .place) (c .before .shape .given .1) (c .before .before .before .as-pair .ensures) .1)) (omega arith) (first-yes (c .before .before .before .before .before .args .line) _ _ _ (told-pair (c .before .before .before .before .before .args .nodes .now) (c .before .before .before .before .before .args .place) (c .before .shape .given .1) (c .before .before .before .as-pair .ensures) .0) (c .before .before .before .before .before .pre .0 .sound .each _ (omega (arith, c .before .before .before .before .before .pre .1, told-pair (c .before .before .before .before .before .args .nodes .now) (c .before .before .before .before .before .args .place) (c .before .shape .given .1) (c .before .before .before .as-pair .ensures) .1)) .within))
+returns-2 c =
+    let entry = c .before .before .before .before .before in
+    let at-as-pair = c .before .before .before .as-pair in
+    found-type (entry .args .nodes .now) (entry .args .len) (entry .args .len) (entry .args .rows) _ _
+    (entry .pre .0 .sound) (omega (
+      arith,
+      entry .pre .1,
+      told-pair (entry .args .nodes .now) (entry .args .place)
+          (c .before .shape .given .1) (at-as-pair .ensures) .1,
+    )) (omega arith) (first-yes (entry .args .line) _ _ _
+    (told-pair (entry .args .nodes .now) (entry .args .place) (c .before .shape .given .1)
+    (at-as-pair .ensures) .0) (entry .pre .0 .sound .each _ (omega (
+      arith,
+      entry .pre .1,
+      told-pair
+          (entry .args .nodes .now) (entry .args .place) (c .before .shape .given .1)
+          (at-as-pair .ensures) .1,
+    )) .within))
 
 pub first-spec : {M : Type 1} → statement M
 first-spec =

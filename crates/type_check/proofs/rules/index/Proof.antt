@@ -20,16 +20,41 @@ misfit-requires : tie.Need-misfit-requires
 misfit-requires c κs = search needs
 
 returns : tie.Need-returns
-returns c = found-no _ _ _ _ _ _ (c .misfit .ensures) (index-no (c .before .before .before .before .before .args .line) _ (c .before .before .before .before .before .args .k) (told-no-array (c .before .before .before .before .before .args .nodes .now) (c .before .before .before .before .before .args .place) (c .before .enum-told .given .1) (c .before .before .before .as-array .ensures)))
+returns c =
+    let entry = c .before .before .before .before .before in
+    found-no _ _ _ _ _ _ (c .misfit .ensures) (index-no (entry .args .line) _ (entry .args .k)
+    (told-no-array (entry .args .nodes .now) (entry .args .place) (c .before .enum-told .given .1)
+    (c .before .before .before .as-array .ensures)))
 
 misfit-requires-2 : tie.Need-misfit-requires-2
 misfit-requires-2 c κs = search needs
 
 returns-2 : tie.Need-returns-2
-returns-2 c = found-no _ _ _ _ _ _ (c .misfit2 .ensures) (index-far (c .before .before .before .before .before .before .before .args .line) _ (c .before .before .before .before .before .before .before .args .k) _ _ (told-array (c .before .before .before .before .before .before .before .args .nodes .now) (c .before .before .before .before .before .before .before .args .place) (c .before .before .before .shape .given .1) (c .before .before .before .before .before .as-array .ensures) .0) (c .before .if1 .taken))
+returns-2 c =
+    let entry = c .before .before .before .before .before .before .before in
+    found-no _ _ _ _ _ _ (c .misfit2 .ensures) (index-far (entry .args .line) _ (entry .args .k) _ _
+    (told-array (entry .args .nodes .now) (entry .args .place) (c .before .before .before .shape .given .1)
+    (c .before .before .before .before .before .as-array .ensures) .0) (c .before .if1 .taken))
 
 returns-3 : tie.Need-returns-3
-returns-3 c = found-type (c .before .before .before .before .before .before .args .nodes .now) (c .before .before .before .before .before .before .args .len) (c .before .before .before .before .before .before .args .len) (c .before .before .before .before .before .before .args .rows) _ _ (c .before .before .before .before .before .before .pre .0 .sound) (omega (arith, c .before .before .before .before .before .before .pre .1, told-array (c .before .before .before .before .before .before .args .nodes .now) (c .before .before .before .before .before .before .args .place) (c .before .before .shape .given .1) (c .before .before .before .before .as-array .ensures) .1)) (omega arith) (index-at (c .before .before .before .before .before .before .args .line) _ (c .before .before .before .before .before .before .args .k) _ _ (told-array (c .before .before .before .before .before .before .args .nodes .now) (c .before .before .before .before .before .before .args .place) (c .before .before .shape .given .1) (c .before .before .before .before .as-array .ensures) .0) (c .if1 .left) (c .before .before .before .before .before .before .pre .0 .sound .each _ (omega (arith, c .before .before .before .before .before .before .pre .1, told-array (c .before .before .before .before .before .before .args .nodes .now) (c .before .before .before .before .before .before .args .place) (c .before .before .shape .given .1) (c .before .before .before .before .as-array .ensures) .1)) .within))
+returns-3 c =
+    let entry = c .before .before .before .before .before .before in
+    let at-as-array = c .before .before .before .before .as-array in
+    let at-shape = c .before .before .shape in
+    found-type (entry .args .nodes .now) (entry .args .len) (entry .args .len) (entry .args .rows) _ _
+    (entry .pre .0 .sound) (omega (
+      arith,
+      entry .pre .1,
+      told-array (entry .args .nodes .now) (entry .args .place)
+          (at-shape .given .1) (at-as-array .ensures) .1,
+    )) (omega arith) (index-at (entry .args .line) _
+    (entry .args .k) _ _ (told-array (entry .args .nodes .now) (entry .args .place) (at-shape .given .1)
+    (at-as-array .ensures) .0) (c .if1 .left) (entry .pre .0 .sound .each _ (omega (
+      arith,
+      entry .pre .1,
+      told-array (entry .args .nodes .now) (entry .args .place)
+          (at-shape .given .1) (at-as-array .ensures) .1,
+    )) .within))
 
 pub index-spec : {M : Type 1} → statement M
 index-spec =

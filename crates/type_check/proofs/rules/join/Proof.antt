@@ -24,10 +24,22 @@ same-length : tie.Need-same-length
 same-length c = search needs
 
 returns : tie.Need-returns
-returns c = found-no _ _ _ _ _ _ (c .misfit .ensures) (join-no (c .before .before .before .before .before .before .args .line) _ (told-no-array (c .before .before .before .before .before .before .args .nodes .now) (c .before .before .before .before .before .before .args .place) (c .before .enum-told .given .1) (c .before .before .before .as-array .ensures)))
+returns c =
+    let entry = c .before .before .before .before .before .before in
+    found-no _ _ _ _ _ _ (c .misfit .ensures) (join-no (entry .args .line) _ (told-no-array
+    (entry .args .nodes .now) (entry .args .place) (c .before .enum-told .given .1)
+    (c .before .before .before .as-array .ensures)))
 
 as-array-requires-2 : tie.Need-as-array-requires-2
-as-array-requires-2 c κs = sound-below (c .before .before .before .before .before .before .before .pre .0 .sound) (omega (arith, c .before .before .before .before .before .before .before .pre .1, told-array (c .before .before .before .before .before .before .before .args .nodes .now) (c .before .before .before .before .before .before .before .args .place) (c .before .before .outer .given .1) (c .before .before .before .before .as-array .ensures) .1))
+as-array-requires-2 c κs =
+    let entry = c .before .before .before .before .before .before .before in
+    sound-below (entry .pre .0 .sound) (omega (
+      arith,
+      entry .pre .1,
+      told-array (entry .args .nodes .now)
+          (entry .args .place) (c .before .before .outer .given .1)
+          (c .before .before .before .before .as-array .ensures) .1,
+    ))
 
 enum-known-inner : tie.Need-enum-known-inner
 enum-known-inner c = search needs
@@ -42,19 +54,64 @@ same-length-2 : tie.Need-same-length-2
 same-length-2 c = search needs
 
 returns-2 : tie.Need-returns-2
-returns-2 c = found-no _ _ _ _ _ _ (c .misfit2 .ensures) (join-flat (c .before .before .before .before .before .before .before .before .before .before .before .args .line) _ _ _ (told-array (c .before .before .before .before .before .before .before .before .before .before .before .args .nodes .now) (c .before .before .before .before .before .before .before .before .before .before .before .args .place) (c .before .before .before .before .before .before .outer .given .1) (c .before .before .before .before .before .before .before .before .as-array .ensures) .0) (told-no-array (c .before .before .before .before .before .before .before .before .before .before .before .args .nodes .now) (c .before .before .before .before .before .before .outer .given .0 .1 .0) (c .before .enum-told2 .given .1) (c .before .before .before .as-array2 .ensures)))
+returns-2 c =
+    let at-before = c .before .before .before .before .before .before .before .before .before .before .before in
+    let at-as-array = c .before .before .before .before .before .before .before .before .as-array in
+    let at-outer-6 = c .before .before .before .before .before .before .outer in
+    let entry = at-before in
+    let at-outer = at-outer-6 in
+    found-no _ _ _ _ _ _ (c .misfit2 .ensures) (join-flat (entry .args .line) _ _ _ (told-array
+    (entry .args .nodes .now) (entry .args .place) (at-outer .given .1) (at-as-array .ensures) .0)
+    (told-no-array (entry .args .nodes .now) (at-outer .given .0 .1 .0) (c .before .enum-told2 .given .1)
+    (c .before .before .before .as-array2 .ensures)))
 
 mul-sized-array : tie.Need-mul-sized-array
-mul-sized-array c = let o = told-array (c .before .before .before .before .before .before .before .before .before .before .before .before .args .nodes .now) (c .before .before .before .before .before .before .before .before .before .before .before .before .args .place) (c .before .before .before .before .before .before .before .outer .given .1) (c .before .before .before .before .before .before .before .before .before .as-array .ensures) in let i = told-array (c .before .before .before .before .before .before .before .before .before .before .before .before .args .nodes .now) (c .before .before .before .before .before .before .before .outer .given .0 .1 .0) (c .before .before .inner .given .1) (c .before .before .before .before .as-array2 .ensures) in let b = product-bounds (c .before .before .before .before .before .before .before .outer .given .0 .0) (c .before .before .inner .given .0 .0) (array-bounds _ _ _ (o .0) (c .before .before .before .before .before .before .before .before .before .before .before .before .pre .0 .sound .each (c .before .before .before .before .before .before .before .before .before .before .before .before .args .place) (c .before .before .before .before .before .before .before .before .before .before .before .before .pre .1) .within)) (array-bounds _ _ _ (i .0) (c .before .before .before .before .before .before .before .before .before .before .before .before .pre .0 .sound .each (c .before .before .before .before .before .before .before .outer .given .0 .1 .0) (omega (arith, o .1, c .before .before .before .before .before .before .before .before .before .before .before .before .pre .1)) .within)) in record { fits = omega (arith, b .1) }
+mul-sized-array c =
+    let entry = c .before .before .before .before .before .before .before .before .before .before .before .before in
+    let at-outer = c .before .before .before .before .before .before .before .outer in
+    let at-inner = c .before .before .inner in
+    let o = told-array (entry .args .nodes .now) (entry .args .place) (at-outer .given .1)
+    (c .before .before .before .before .before .before .before .before .before .as-array .ensures) in
+    let i = told-array (entry .args .nodes .now) (at-outer .given .0 .1 .0) (at-inner .given .1)
+    (c .before .before .before .before .as-array2 .ensures) in
+    let b = product-bounds (at-outer .given .0 .0) (at-inner .given .0 .0) (array-bounds _ _ _ (o .0)
+    (entry .pre .0 .sound .each (entry .args .place) (entry .pre .1) .within))
+    (array-bounds _ _ _ (i .0) (entry .pre .0 .sound .each (at-outer .given .0 .1 .0)
+    (omega (arith, o .1, entry .pre .1)) .within)) in
+    record { fits = omega (arith, b .1) }
 
 sized-array-requires : tie.Need-sized-array-requires
-sized-array-requires c κs = let o = told-array (c .before .before .before .before .before .before .before .before .before .before .before .before .args .nodes .now) (c .before .before .before .before .before .before .before .before .before .before .before .before .args .place) (c .before .before .before .before .before .before .before .outer .given .1) (c .before .before .before .before .before .before .before .before .before .as-array .ensures) in let i = told-array (c .before .before .before .before .before .before .before .before .before .before .before .before .args .nodes .now) (c .before .before .before .before .before .before .before .outer .given .0 .1 .0) (c .before .before .inner .given .1) (c .before .before .before .before .as-array2 .ensures) in let b = product-bounds (c .before .before .before .before .before .before .before .outer .given .0 .0) (c .before .before .inner .given .0 .0) (array-bounds _ _ _ (o .0) (c .before .before .before .before .before .before .before .before .before .before .before .before .pre .0 .sound .each (c .before .before .before .before .before .before .before .before .before .before .before .before .args .place) (c .before .before .before .before .before .before .before .before .before .before .before .before .pre .1) .within)) (array-bounds _ _ _ (i .0) (c .before .before .before .before .before .before .before .before .before .before .before .before .pre .0 .sound .each (c .before .before .before .before .before .before .before .outer .given .0 .1 .0) (omega (arith, o .1, c .before .before .before .before .before .before .before .before .before .before .before .before .pre .1)) .within)) in (c .before .before .before .before .before .before .before .before .before .before .before .before .pre .0, omega (arith, c .before .before .before .before .before .before .before .before .before .before .before .before .pre .1, o .1, i .1), b .0, b .1)
+sized-array-requires c κs =
+    let entry = c .before .before .before .before .before .before .before .before .before .before .before .before in
+    let at-outer = c .before .before .before .before .before .before .before .outer in
+    let at-inner = c .before .before .inner in
+    let o = told-array (entry .args .nodes .now) (entry .args .place) (at-outer .given .1)
+    (c .before .before .before .before .before .before .before .before .before .as-array .ensures) in
+    let i = told-array (entry .args .nodes .now) (at-outer .given .0 .1 .0) (at-inner .given .1)
+    (c .before .before .before .before .as-array2 .ensures) in
+    let b = product-bounds (at-outer .given .0 .0) (at-inner .given .0 .0) (array-bounds _ _ _ (o .0)
+    (entry .pre .0 .sound .each (entry .args .place) (entry .pre .1) .within))
+    (array-bounds _ _ _ (i .0) (entry .pre .0 .sound .each (at-outer .given .0 .1 .0)
+    (omega (arith, o .1, entry .pre .1)) .within)) in
+    (entry .pre .0, omega (arith, entry .pre .1, o .1, i .1), b .0, b .1)
 
 same-length-3 : tie.Need-same-length-3
 same-length-3 c = search needs
 
 returns-3 : tie.Need-returns-3
-returns-3 c = found-as (c .before .before .before .before .before .before .before .before .before .before .before .before .before .before .before .args .nodes .now) (c .before .before .before .before .before .before .before .before .before .before .before .before .before .before .before .args .len) (c .before .before .sized-array .last .0) (c .before .before .before .before .before .before .before .before .before .before .before .before .before .before .before .args .len + 1) (c .before .before .before .before .before .before .before .before .before .before .before .before .before .before .before .args .len + 1) (c .before .before .before .before .before .before .before .before .before .before .before .before .before .before .before .args .rows) _ _ (c .before .before .sized-array .result) (omega arith) (join-yes (c .before .before .before .before .before .before .before .before .before .before .before .before .before .before .before .args .line) _ _ _ _ _ (told-array (c .before .before .before .before .before .before .before .before .before .before .before .before .before .before .before .args .nodes .now) (c .before .before .before .before .before .before .before .before .before .before .before .before .before .before .before .args .place) (c .before .before .before .before .before .before .before .before .before .before .outer .given .1) (c .before .before .before .before .before .before .before .before .before .before .before .before .as-array .ensures) .0) (told-array (c .before .before .before .before .before .before .before .before .before .before .before .before .before .before .before .args .nodes .now) (c .before .before .before .before .before .before .before .before .before .before .outer .given .0 .1 .0) (c .before .before .before .before .before .inner .given .1) (c .before .before .before .before .before .before .before .as-array2 .ensures) .0)) (c .before .before .sized-array .ensures)
+returns-3 c =
+    let entry = c .before .before .before .before .before .before .before .before .before .before .before
+    .before .before .before .before in
+    let at-outer = c .before .before .before .before .before .before .before .before .before .before .outer in
+    let at-sized-array = c .before .before .sized-array in
+    found-as (entry .args .nodes .now) (entry .args .len) (at-sized-array .last .0) (entry .args .len + 1)
+    (entry .args .len + 1) (entry .args .rows) _ _ (at-sized-array .result) (omega arith) (join-yes
+    (entry .args .line) _ _ _ _ _ (told-array (entry .args .nodes .now) (entry .args .place)
+    (at-outer .given .1) (c .before .before .before .before .before .before .before .before .before .before .before
+    .before .as-array .ensures) .0) (told-array (entry .args .nodes .now) (at-outer .given .0 .1 .0)
+    (c .before .before .before .before .before .inner .given .1)
+    (c .before .before .before .before .before .before .before .as-array2 .ensures) .0))
+    (at-sized-array .ensures)
 
 pub join-spec : {M : Type 1} → statement M
 join-spec =

@@ -24,16 +24,33 @@ same-length : tie.Need-same-length
 same-length c = search needs
 
 returns : tie.Need-returns
-returns c = found-no _ _ _ _ _ _ (c .misfit .ensures) (map-no (c .before .before .before .before .before .before .args .line) _ _ (told-no-array (c .before .before .before .before .before .before .args .nodes .now) (c .before .before .before .before .before .before .args .array) (c .before .enum-told .given .1) (c .before .before .before .as-array .ensures)))
+returns c =
+    let entry = c .before .before .before .before .before .before in
+    found-no _ _ _ _ _ _ (c .misfit .ensures) (map-no (entry .args .line) _ _ (told-no-array
+    (entry .args .nodes .now) (entry .args .array) (c .before .enum-told .given .1)
+    (c .before .before .before .as-array .ensures)))
 
 sized-array-requires : tie.Need-sized-array-requires
-sized-array-requires c κs = let b = array-bounds _ _ _ (told-array (c .before .before .before .before .before .before .before .args .nodes .now) (c .before .before .before .before .before .before .before .args .array) (c .before .before .shape .given .1) (c .before .before .before .before .as-array .ensures) .0) (c .before .before .before .before .before .before .before .pre .0 .sound .each (c .before .before .before .before .before .before .before .args .array) (c .before .before .before .before .before .before .before .pre .1) .within) in (c .before .before .before .before .before .before .before .pre .0, c .before .before .before .before .before .before .before .pre .2, b .0, omega (arith, b .1))
+sized-array-requires c κs =
+    let entry = c .before .before .before .before .before .before .before in
+    let b = array-bounds _ _ _ (told-array (entry .args .nodes .now) (entry .args .array)
+    (c .before .before .shape .given .1) (c .before .before .before .before .as-array .ensures) .0)
+    (entry .pre .0 .sound .each (entry .args .array) (entry .pre .1) .within) in
+    (entry .pre .0, entry .pre .2, b .0, omega (arith, b .1))
 
 same-length-2 : tie.Need-same-length-2
 same-length-2 c = search needs
 
 returns-2 : tie.Need-returns-2
-returns-2 c = found-as (c .before .before .before .before .before .before .before .before .before .before .args .nodes .now) (c .before .before .before .before .before .before .before .before .before .before .args .len) (c .before .before .sized-array .last .0) (c .before .before .before .before .before .before .before .before .before .before .args .len + 1) (c .before .before .before .before .before .before .before .before .before .before .args .len + 1) (c .before .before .before .before .before .before .before .before .before .before .args .rows) _ _ (c .before .before .sized-array .result) (omega arith) (map-yes (c .before .before .before .before .before .before .before .before .before .before .args .line) _ _ _ _ (told-array (c .before .before .before .before .before .before .before .before .before .before .args .nodes .now) (c .before .before .before .before .before .before .before .before .before .before .args .array) (c .before .before .before .before .before .shape .given .1) (c .before .before .before .before .before .before .before .as-array .ensures) .0)) (c .before .before .sized-array .ensures)
+returns-2 c =
+    let entry = c .before .before .before .before .before .before .before .before .before .before in
+    let at-sized-array = c .before .before .sized-array in
+    found-as (entry .args .nodes .now) (entry .args .len) (at-sized-array .last .0) (entry .args .len + 1)
+    (entry .args .len + 1) (entry .args .rows) _ _ (at-sized-array .result) (omega arith) (map-yes
+    (entry .args .line) _ _ _ _ (told-array (entry .args .nodes .now) (entry .args .array)
+    (c .before .before .before .before .before .shape .given .1)
+    (c .before .before .before .before .before .before .before .as-array .ensures) .0))
+    (at-sized-array .ensures)
 
 pub map-spec : {M : Type 1} → statement M
 map-spec =

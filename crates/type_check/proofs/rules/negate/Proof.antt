@@ -11,13 +11,18 @@ is-number-requires : tie.Need-is-number-requires
 is-number-requires c κs = sound-below (c .before .pre .0 .sound) (omega arith)
 
 returns : tie.Need-returns
-returns c = found-type (c .before .before .before .args .nodes .now) (c .before .before .before .args .len) (c .before .before .before .args .len) (c .before .before .before .args .rows) _ (c .before .before .before .args .place) (c .before .before .before .pre .0 .sound) (c .before .before .before .pre .1) (omega arith) (negate-yes (c .before .before .before .args .line) _ (c .before .is-number .ensures .0 (c .if1 .taken)))
+returns c =
+    let entry = c .before .before .before in
+    found-type (entry .args .nodes .now) (entry .args .len) (entry .args .len) (entry .args .rows) _
+    (entry .args .place) (entry .pre .0 .sound) (entry .pre .1) (omega arith) (negate-yes (entry .args .line) _
+    (c .before .is-number .ensures .0 (c .if1 .taken)))
 
 misfit-requires : tie.Need-misfit-requires
 misfit-requires c κs = search needs
 
 returns-2 : tie.Need-returns-2
-returns-2 c = found-no _ _ _ _ _ _ (c .misfit .ensures) (negate-no (c .before .before .before .before .args .line) _ (c .before .before .is-number .ensures .1 (c .before .if1 .left)))
+returns-2 c = found-no _ _ _ _ _ _ (c .misfit .ensures) (negate-no (c .before .before .before .before .args .line) _
+    (c .before .before .is-number .ensures .1 (c .before .if1 .left)))
 
 pub negate-spec : {M : Type 1} → statement M
 negate-spec = tie.close (tie.spec is-number-requires returns misfit-requires returns-2)

@@ -15,7 +15,9 @@ misfit-requires : tie.Need-misfit-requires
 misfit-requires c κs = search needs
 
 returns : tie.Need-returns
-returns c = found-no _ _ _ _ _ _ (c .misfit .ensures) (operation-left (c .before .before .before .before .args .line) _ _ (c .before .before .is-number .ensures .1 (not-true _ (c .before .if1 .taken))))
+returns c = found-no _ _ _ _ _ _ (c .misfit .ensures) (operation-left
+    (c .before .before .before .before .args .line) _ _ (c .before .before .is-number .ensures .1
+    (not-true _ (c .before .if1 .taken))))
 
 is-number-requires-2 : tie.Need-is-number-requires-2
 is-number-requires-2 c κs = sound-below (c .before .before .before .pre .0 .sound) (omega (arith, c .before .before .before .pre .2))
@@ -24,10 +26,16 @@ misfit-requires-2 : tie.Need-misfit-requires-2
 misfit-requires-2 c κs = search needs
 
 returns-2 : tie.Need-returns-2
-returns-2 c = found-no _ _ _ _ _ _ (c .misfit2 .ensures) (operation-right (c .before .before .before .before .before .before .args .line) _ _ (c .before .before .is-number2 .ensures .1 (not-true _ (c .before .if2 .taken))))
+returns-2 c = found-no _ _ _ _ _ _ (c .misfit2 .ensures) (operation-right (c .before .before .before .before .before .before .args .line)
+    _ _ (c .before .before .is-number2 .ensures .1 (not-true _ (c .before .if2 .taken))))
 
 returns-3 : tie.Need-returns-3
-returns-3 c = found-type (c .before .before .before .before .before .args .nodes .now) (c .before .before .before .before .before .args .len) (c .before .before .before .before .before .args .len) (c .before .before .before .before .before .args .rows) _ (c .before .before .before .before .before .args .left) (c .before .before .before .before .before .pre .0 .sound) (c .before .before .before .before .before .pre .1) (omega arith) (operation-yes (c .before .before .before .before .before .args .line) _ _ (c .before .before .before .is-number .ensures .0 (not-false _ (c .before .before .if1 .left))) (c .before .is-number2 .ensures .0 (not-false _ (c .if2 .left))))
+returns-3 c =
+    let entry = c .before .before .before .before .before in
+    found-type (entry .args .nodes .now) (entry .args .len) (entry .args .len) (entry .args .rows) _
+    (entry .args .left) (entry .pre .0 .sound) (entry .pre .1) (omega arith) (operation-yes (entry .args .line) _ _
+    (c .before .before .before .is-number .ensures .0 (not-false _ (c .before .before .if1 .left)))
+    (c .before .is-number2 .ensures .0 (not-false _ (c .if2 .left))))
 
 pub operation-spec : {M : Type 1} → statement M
 operation-spec =

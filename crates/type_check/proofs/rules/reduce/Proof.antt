@@ -8,16 +8,26 @@ use Rattle.type_check.proofs.rules.reduce.Statement.{statement}
 use Rattle.type_check.proofs.rules.reduce.Tie as tie
 
 same-requires : tie.Need-same-requires
-same-requires c κs = (sound-below (c .before .pre .0 .sound) (omega (arith, c .before .pre .2)), sound-below (c .before .pre .0 .sound) (omega (arith, c .before .pre .1)))
+same-requires c κs = (
+  sound-below (c .before .pre .0 .sound) (omega (arith, c .before .pre .2)),
+  sound-below
+      (c .before .pre .0 .sound) (omega (arith, c .before .pre .1)),
+)
 
 returns : tie.Need-returns
-returns c = found-type (c .before .before .before .args .nodes .now) (c .before .before .before .args .len) (c .before .before .before .args .len) (c .before .before .before .args .rows) _ (c .before .before .before .args .start) (c .before .before .before .pre .0 .sound) (c .before .before .before .pre .1) (omega arith) (reduce-yes (c .before .before .before .args .line) _ _ (c .before .same .ensures .0 (c .if1 .taken)) (c .before .before .before .pre .0 .sound .each (c .before .before .before .args .start) (c .before .before .before .pre .1) .within))
+returns c =
+    let entry = c .before .before .before in
+    found-type (entry .args .nodes .now) (entry .args .len) (entry .args .len) (entry .args .rows) _
+    (entry .args .start) (entry .pre .0 .sound) (entry .pre .1) (omega arith) (reduce-yes (entry .args .line) _ _
+    (c .before .same .ensures .0 (c .if1 .taken)) (entry .pre .0 .sound .each (entry .args .start)
+    (entry .pre .1) .within))
 
 misfit-requires : tie.Need-misfit-requires
 misfit-requires c κs = search needs
 
 returns-2 : tie.Need-returns-2
-returns-2 c = found-no _ _ _ _ _ _ (c .misfit .ensures) (reduce-no (c .before .before .before .before .args .line) _ _ (c .before .before .same .ensures .1 (c .before .if1 .left)))
+returns-2 c = found-no _ _ _ _ _ _ (c .misfit .ensures) (reduce-no (c .before .before .before .before .args .line) _
+    _ (c .before .before .same .ensures .1 (c .before .if1 .left)))
 
 pub reduce-spec : {M : Type 1} → statement M
 reduce-spec = tie.close (tie.spec same-requires returns misfit-requires returns-2)

@@ -13,13 +13,26 @@ cells-requires : tie.Need-cells-requires
 cells-requires c κs = sound-below (c .before .before .pre .0 .sound) (omega arith)
 
 mul-if1 : tie.Need-mul-if1
-mul-if1 c = record { fits = omega (arith, mul-le-mul (c .before .before .before .pre .3) (small (typeAt (c .before .before .before .args .nodes .now) (c .before .before .before .args .element)) (c .cells .ensures) (c .before .before .before .pre .0 .sound .each (c .before .before .before .args .element) (c .before .before .before .pre .1) .within .0))) }
+mul-if1 c =
+    let entry = c .before .before .before in
+    record {
+      fits = omega (
+        arith,
+        mul-le-mul (entry .pre .3) (small
+            (typeAt (entry .args .nodes .now) (entry .args .element)) (c .cells .ensures)
+            (entry .pre .0 .sound .each (entry .args .element) (entry .pre .1) .within .0)),
+      );
+    }
 
 same-length : tie.Need-same-length
 same-length c = search needs
 
 returns : tie.Need-returns
-returns c = many-cells (c .before .before .before .before .args .line) (array (c .before .before .before .before .args .count) (typeAt (c .before .before .before .before .args .nodes .now) (c .before .before .before .before .args .element))) (rw (c .before .cells .ensures) at (c .if1 .taken))
+returns c =
+    let entry = c .before .before .before .before in
+    many-cells (entry .args .line) (array (entry .args .count)
+    (typeAt (entry .args .nodes .now) (entry .args .element)))
+    (rw (c .before .cells .ensures) at (c .if1 .taken))
 
 levels-requires : tie.Need-levels-requires
 levels-requires c κs = sound-below (c .before .before .before .before .before .pre .0 .sound) (omega arith)
@@ -28,10 +41,28 @@ same-length-2 : tie.Need-same-length-2
 same-length-2 c = search needs
 
 returns-2 : tie.Need-returns-2
-returns-2 c = many-levels (c .before .before .before .before .before .before .before .args .line) (array (c .before .before .before .before .before .before .before .args .count) (typeAt (c .before .before .before .before .before .before .before .args .nodes .now) (c .before .before .before .before .before .before .before .args .element))) (omega (arith, c .before .levels .ensures, c .if2 .taken))
+returns-2 c =
+    let entry = c .before .before .before .before .before .before .before in
+    many-levels (entry .args .line) (array (entry .args .count)
+    (typeAt (entry .args .nodes .now) (entry .args .element)))
+    (omega (arith, c .before .levels .ensures, c .if2 .taken))
 
 put-array-requires : tie.Need-put-array-requires
-put-array-requires c κs = (c .before .before .before .before .before .before .before .before .pre .0 .sound, omega (arith, c .before .before .before .before .before .before .before .before .pre .0 .places), omega (arith, c .before .before .before .before .before .before .before .before .pre .0 .few), c .before .before .before .before .before .before .before .before .pre .1, c .before .before .before .before .before .before .before .before .pre .2, rw (c .before .before .before .before .before .cells .ensures) at (c .before .before .before .before .if1 .left), omega (arith, c .before .before .levels .ensures, c .before .if2 .left))
+put-array-requires c κs =
+    let entry = c .before .before .before .before .before .before .before .before in (
+      entry .pre .0 .sound,
+      omega (arith, entry .pre .0 .places),
+      omega (arith, entry .pre .0 .few),
+      entry .pre .1,
+      entry .pre .2,
+      rw (c .before .before .before .before .before .cells .ensures) at
+          (c .before .before .before .before .if1 .left),
+      omega (
+        arith,
+        c .before .before .levels .ensures,
+        c .before .if2 .left,
+      ),
+    )
 
 add-t10 : tie.Need-add-t10
 add-t10 c = search needs
@@ -40,7 +71,9 @@ same-length-3 : tie.Need-same-length-3
 same-length-3 c = search needs
 
 returns-3 : tie.Need-returns-3
-returns-3 c = found-put (c .before .before .before .before .before .before .before .before .before .before .before .args .line) (c .before .before .before .before .before .before .before .before .before .before .before .args .rows) (c .before .before .put-array .ensures)
+returns-3 c =
+    let entry = c .before .before .before .before .before .before .before .before .before .before .before in
+    found-put (entry .args .line) (entry .args .rows) (c .before .before .put-array .ensures)
 
 pub sized-array-spec : {M : Type 1} → statement M
 sized-array-spec =

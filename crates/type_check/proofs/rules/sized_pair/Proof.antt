@@ -15,13 +15,32 @@ cells-requires-2 : tie.Need-cells-requires-2
 cells-requires-2 c κs = sound-below (c .before .before .before .before .pre .0 .sound) (omega arith)
 
 add-if1 : tie.Need-add-if1
-add-if1 c = record { fits = omega (arith, small (typeAt (c .before .before .before .before .before .args .nodes .now) (c .before .before .before .before .before .args .first)) (c .before .before .cells .ensures) (c .before .before .before .before .before .pre .0 .sound .each (c .before .before .before .before .before .args .first) (c .before .before .before .before .before .pre .1) .within .0), small (typeAt (c .before .before .before .before .before .args .nodes .now) (c .before .before .before .before .before .args .second)) (c .cells2 .ensures) (c .before .before .before .before .before .pre .0 .sound .each (c .before .before .before .before .before .args .second) (c .before .before .before .before .before .pre .2) .within .0)) }
+add-if1 c =
+    let entry = c .before .before .before .before .before in
+    record {
+      fits = omega (
+        arith,
+        small (typeAt (entry .args .nodes .now) (entry .args .first))
+            (c .before .before .cells .ensures) (entry .pre .0 .sound .each (entry .args .first)
+            (entry .pre .1) .within .0),
+        small (typeAt (entry .args .nodes .now) (entry .args .second))
+            (c .cells2 .ensures) (entry .pre .0 .sound .each (entry .args .second) (entry .pre .2) .within .0),
+      );
+    }
 
 same-length : tie.Need-same-length
 same-length c = search needs
 
 returns : tie.Need-returns
-returns c = many-cells (c .before .before .before .before .before .before .args .line) (DataType.pair (typeAt (c .before .before .before .before .before .before .args .nodes .now) (c .before .before .before .before .before .before .args .first)) (typeAt (c .before .before .before .before .before .before .args .nodes .now) (c .before .before .before .before .before .before .args .second))) (omega (arith, c .before .before .before .cells .ensures, c .before .cells2 .ensures, c .if1 .taken))
+returns c =
+    let entry = c .before .before .before .before .before .before in
+    many-cells (entry .args .line) (DataType.pair (typeAt (entry .args .nodes .now) (entry .args .first))
+    (typeAt (entry .args .nodes .now) (entry .args .second))) (omega (
+      arith,
+      c .before .before .before .cells .ensures,
+      c .before .cells2 .ensures,
+      c .if1 .taken,
+    ))
 
 levels-requires : tie.Need-levels-requires
 levels-requires c κs = sound-below (c .before .before .before .before .before .before .before .pre .0 .sound) (omega arith)
@@ -30,19 +49,50 @@ same-length-2 : tie.Need-same-length-2
 same-length-2 c = search needs
 
 returns-2 : tie.Need-returns-2
-returns-2 c = many-levels (c .before .before .before .before .before .before .before .before .before .args .line) (DataType.pair (typeAt (c .before .before .before .before .before .before .before .before .before .args .nodes .now) (c .before .before .before .before .before .before .before .before .before .args .first)) (typeAt (c .before .before .before .before .before .before .before .before .before .args .nodes .now) (c .before .before .before .before .before .before .before .before .before .args .second))) (omega (arith, c .before .levels .ensures, c .if2 .taken))
+returns-2 c =
+    let entry = c .before .before .before .before .before .before .before .before .before in
+    many-levels (entry .args .line) (DataType.pair (typeAt (entry .args .nodes .now) (entry .args .first))
+    (typeAt (entry .args .nodes .now) (entry .args .second)))
+    (omega (arith, c .before .levels .ensures, c .if2 .taken))
 
 levels-requires-2 : tie.Need-levels-requires-2
-levels-requires-2 c κs = sound-below (c .before .before .before .before .before .before .before .before .before .before .pre .0 .sound) (omega (arith, c .before .before .before .before .before .before .before .before .before .before .pre .2))
+levels-requires-2 c κs =
+    let entry = c .before .before .before .before .before .before .before .before .before .before in
+    sound-below (entry .pre .0 .sound) (omega (arith, entry .pre .2))
 
 same-length-3 : tie.Need-same-length-3
 same-length-3 c = search needs
 
 returns-3 : tie.Need-returns-3
-returns-3 c = many-levels (c .before .before .before .before .before .before .before .before .before .before .before .before .args .line) (DataType.pair (typeAt (c .before .before .before .before .before .before .before .before .before .before .before .before .args .nodes .now) (c .before .before .before .before .before .before .before .before .before .before .before .before .args .first)) (typeAt (c .before .before .before .before .before .before .before .before .before .before .before .before .args .nodes .now) (c .before .before .before .before .before .before .before .before .before .before .before .before .args .second))) (omega (arith, c .before .levels2 .ensures, c .if3 .taken))
+returns-3 c =
+    let entry = c .before .before .before .before .before .before .before .before .before .before .before .before in
+    many-levels (entry .args .line) (DataType.pair (typeAt (entry .args .nodes .now) (entry .args .first))
+    (typeAt (entry .args .nodes .now) (entry .args .second)))
+    (omega (arith, c .before .levels2 .ensures, c .if3 .taken))
 
 put-pair-requires : tie.Need-put-pair-requires
-put-pair-requires c κs = (c .before .before .before .before .before .before .before .before .before .before .before .before .before .pre .0 .sound, omega (arith, c .before .before .before .before .before .before .before .before .before .before .before .before .before .pre .0 .places), omega (arith, c .before .before .before .before .before .before .before .before .before .before .before .before .before .pre .0 .few), c .before .before .before .before .before .before .before .before .before .before .before .before .before .pre .1, c .before .before .before .before .before .before .before .before .before .before .before .before .before .pre .2, omega (arith, c .before .before .before .before .before .before .before .before .before .before .cells .ensures, c .before .before .before .before .before .before .before .before .cells2 .ensures, c .before .before .before .before .before .before .before .if1 .left), omega (arith, c .before .before .before .before .before .levels .ensures, c .before .before .before .before .if2 .left, c .before .before .levels2 .ensures, c .before .if3 .left))
+put-pair-requires c κs =
+    let entry = c .before .before .before .before .before .before .before .before .before .before .before
+    .before .before in (
+      entry .pre .0 .sound,
+      omega (arith, entry .pre .0 .places),
+      omega (arith, entry .pre .0 .few),
+      entry .pre .1,
+      entry .pre .2,
+      omega (
+        arith,
+        c .before .before .before .before .before .before .before .before .before .before .cells .ensures,
+        c .before .before .before .before .before .before .before .before .cells2 .ensures,
+        c .before .before .before .before .before .before .before .if1 .left,
+      ),
+      omega (
+        arith,
+        c .before .before .before .before .before .levels .ensures,
+        c .before .before .before .before .if2 .left,
+        c .before .before .levels2 .ensures,
+        c .before .if3 .left,
+      ),
+    )
 
 add-t13 : tie.Need-add-t13
 add-t13 c = search needs
@@ -51,7 +101,10 @@ same-length-4 : tie.Need-same-length-4
 same-length-4 c = search needs
 
 returns-4 : tie.Need-returns-4
-returns-4 c = found-put (c .before .before .before .before .before .before .before .before .before .before .before .before .before .before .before .before .args .line) (c .before .before .before .before .before .before .before .before .before .before .before .before .before .before .before .before .args .rows) (c .before .before .put-pair .ensures)
+returns-4 c =
+    let entry = c .before .before .before .before .before .before .before .before .before .before .before
+    .before .before .before .before .before in
+    found-put (entry .args .line) (entry .args .rows) (c .before .before .put-pair .ensures)
 
 pub sized-pair-spec : {M : Type 1} → statement M
 sized-pair-spec =

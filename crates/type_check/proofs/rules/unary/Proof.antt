@@ -11,7 +11,14 @@ negate-requires : tie.Need-negate-requires
 negate-requires c κs = (room-less (c .before .before .before .pre .0) (omega arith), c .before .before .before .pre .1)
 
 split-requires : tie.Need-split-requires
-split-requires c κs = (c .before .before .before .pre .0, c .before .before .before .pre .1, c .before .before .before .pre .2 (c .before .match .keys2) .0, c .before .before .before .pre .2 (c .before .match .keys2) .1)
+split-requires c κs =
+    let entry = c .before .before .before in (
+      entry .pre .0,
+      entry .pre .1,
+      entry .pre .2 (c .before .match .keys2) .0,
+      entry .pre .2
+          (c .before .match .keys2) .1,
+    )
 
 join-requires : tie.Need-join-requires
 join-requires c κs = (room-less (c .before .before .before .pre .0) (omega arith), c .before .before .before .pre .1)
@@ -29,37 +36,68 @@ same-length : tie.Need-same-length
 same-length c = search needs
 
 returns : tie.Need-returns
-returns c = found-as (c .before .before .before .before .args .nodes .now) (c .before .before .before .before .args .len) (c .before .before .before .before .args .nodes .now) (c .before .before .before .before .args .len) (c .before .before .before .before .args .len + 2) (c .before .before .before .before .args .rows) _ _ (c .negate .result) (omega arith) (unary-neg (c .before .before .before .before .args .kind) (c .before .before .before .before .args .number) (c .before .before .before .before .args .line) _ (c .before .before .match .keys1)) (c .negate .ensures)
+returns c =
+    let entry = c .before .before .before .before in
+    found-as (entry .args .nodes .now) (entry .args .len) (entry .args .nodes .now) (entry .args .len)
+    (entry .args .len + 2) (entry .args .rows) _ _ (c .negate .result) (omega arith) (unary-neg (entry .args .kind)
+    (entry .args .number) (entry .args .line) _ (c .before .before .match .keys1)) (c .negate .ensures)
 
 same-length-2 : tie.Need-same-length-2
 same-length-2 c = search needs
 
 returns-2 : tie.Need-returns-2
-returns-2 c = found-as (c .before .before .before .before .before .before .args .nodes .now) (c .before .before .before .before .before .before .args .len) (c .before .before .split .last .0) (c .before .before .before .before .before .before .args .len + 2) (c .before .before .before .before .before .before .args .len + 2) (c .before .before .before .before .before .before .args .rows) _ _ (c .before .before .split .result) (omega arith) (unary-split (c .before .before .before .before .before .before .args .kind) (c .before .before .before .before .before .before .args .number) (c .before .before .before .before .before .before .args .line) _ (c .before .before .before .before .match .keys2)) (c .before .before .split .ensures)
+returns-2 c =
+    let entry = c .before .before .before .before .before .before in
+    let at-split = c .before .before .split in
+    found-as (entry .args .nodes .now) (entry .args .len) (at-split .last .0) (entry .args .len + 2)
+    (entry .args .len + 2) (entry .args .rows) _ _ (at-split .result) (omega arith) (unary-split (entry .args .kind)
+    (entry .args .number) (entry .args .line) _ (c .before .before .before .before .match .keys2))
+    (at-split .ensures)
 
 same-length-3 : tie.Need-same-length-3
 same-length-3 c = search needs
 
 returns-3 : tie.Need-returns-3
-returns-3 c = found-as (c .before .before .before .before .before .before .args .nodes .now) (c .before .before .before .before .before .before .args .len) (c .before .before .join .last .0) (c .before .before .before .before .before .before .args .len + 1) (c .before .before .before .before .before .before .args .len + 2) (c .before .before .before .before .before .before .args .rows) _ _ (c .before .before .join .result) (omega arith) (unary-join (c .before .before .before .before .before .before .args .kind) (c .before .before .before .before .before .before .args .number) (c .before .before .before .before .before .before .args .line) _ (c .before .before .before .before .match .keys3)) (c .before .before .join .ensures)
+returns-3 c =
+    let entry = c .before .before .before .before .before .before in
+    let at-join = c .before .before .join in
+    found-as (entry .args .nodes .now) (entry .args .len) (at-join .last .0) (entry .args .len + 1)
+    (entry .args .len + 2) (entry .args .rows) _ _ (at-join .result) (omega arith) (unary-join (entry .args .kind)
+    (entry .args .number) (entry .args .line) _ (c .before .before .before .before .match .keys3))
+    (at-join .ensures)
 
 same-length-4 : tie.Need-same-length-4
 same-length-4 c = search needs
 
 returns-4 : tie.Need-returns-4
-returns-4 c = found-as (c .before .before .before .before .args .nodes .now) (c .before .before .before .before .args .len) (c .before .before .before .before .args .nodes .now) (c .before .before .before .before .args .len) (c .before .before .before .before .args .len + 2) (c .before .before .before .before .args .rows) _ _ (c .first .result) (omega arith) (unary-first (c .before .before .before .before .args .kind) (c .before .before .before .before .args .number) (c .before .before .before .before .args .line) _ (c .before .before .match .keys4)) (c .first .ensures)
+returns-4 c =
+    let entry = c .before .before .before .before in
+    found-as (entry .args .nodes .now) (entry .args .len) (entry .args .nodes .now) (entry .args .len)
+    (entry .args .len + 2) (entry .args .rows) _ _ (c .first .result) (omega arith) (unary-first (entry .args .kind)
+    (entry .args .number) (entry .args .line) _ (c .before .before .match .keys4)) (c .first .ensures)
 
 same-length-5 : tie.Need-same-length-5
 same-length-5 c = search needs
 
 returns-5 : tie.Need-returns-5
-returns-5 c = found-as (c .before .before .before .before .args .nodes .now) (c .before .before .before .before .args .len) (c .before .before .before .before .args .nodes .now) (c .before .before .before .before .args .len) (c .before .before .before .before .args .len + 2) (c .before .before .before .before .args .rows) _ _ (c .second .result) (omega arith) (unary-second (c .before .before .before .before .args .kind) (c .before .before .before .before .args .number) (c .before .before .before .before .args .line) _ (c .before .before .match .keys5)) (c .second .ensures)
+returns-5 c =
+    let entry = c .before .before .before .before in
+    found-as (entry .args .nodes .now) (entry .args .len) (entry .args .nodes .now) (entry .args .len)
+    (entry .args .len + 2) (entry .args .rows) _ _ (c .second .result) (omega arith) (unary-second
+    (entry .args .kind) (entry .args .number) (entry .args .line) _ (c .before .before .match .keys5))
+    (c .second .ensures)
 
 same-length-6 : tie.Need-same-length-6
 same-length-6 c = search needs
 
 returns-6 : tie.Need-returns-6
-returns-6 c = found-as (c .before .before .before .before .args .nodes .now) (c .before .before .before .before .args .len) (c .before .before .before .before .args .nodes .now) (c .before .before .before .before .args .len) (c .before .before .before .before .args .len + 2) (c .before .before .before .before .args .rows) _ _ (c .index .result) (omega arith) (unary-index (c .before .before .before .before .args .kind) (c .before .before .before .before .args .number) (c .before .before .before .before .args .line) _ (c .before .before .match .rest .0 .0 .0 .0 .1) (c .before .before .match .rest .0 .0 .0 .1) (c .before .before .match .rest .0 .0 .1) (c .before .before .match .rest .0 .1) (c .before .before .match .rest .1)) (c .index .ensures)
+returns-6 c =
+    let entry = c .before .before .before .before in
+    let at-match = c .before .before .match in
+    found-as (entry .args .nodes .now) (entry .args .len) (entry .args .nodes .now) (entry .args .len)
+    (entry .args .len + 2) (entry .args .rows) _ _ (c .index .result) (omega arith) (unary-index (entry .args .kind)
+    (entry .args .number) (entry .args .line) _ (at-match .rest .0 .0 .0 .0 .1) (at-match .rest .0 .0 .0 .1)
+    (at-match .rest .0 .0 .1) (at-match .rest .0 .1) (at-match .rest .1)) (c .index .ensures)
 
 pub unary-spec : {M : Type 1} → statement M
 unary-spec =

@@ -4,7 +4,8 @@ use mathlib.Core.Path.{ap, _∙_}
 use Prim.Native.Nat.{_+_}
 use borrow.Author.Needs.{needs}
 use Rattle.type_check.proofs.RuleLaws.{zip-left, zip-right, zip-lengths, zip-yes}
-use Rattle.type_check.proofs.Found.{found-no, found-on, was-typed, was-refused, array-refused, sized-typed, array-bounds, room-less, room-grown}
+use Rattle.type_check.proofs.Found.{found-no, found-on, was-typed, was-refused, array-refused, sized-typed, array-bounds, room-less}
+use Rattle.type_check.proofs.Found.{room-grown}
 use Rattle.typing.specs.Check.{sized}
 use Rattle.type_table.specs.Table.{typeAt}
 use Rattle.type_table.specs.Laws.{sound-below, told-array, told-no-array}
@@ -28,10 +29,16 @@ same-length : tie.Need-same-length
 same-length c = search needs
 
 returns : tie.Need-returns
-returns c = found-no _ _ _ _ _ _ (c .misfit .ensures) (zip-left (c .before .before .before .before .before .before .args .line) _ _ (told-no-array (c .before .before .before .before .before .before .args .nodes .now) (c .before .before .before .before .before .before .args .left) (c .before .enum-told .given .1) (c .before .before .before .as-array .ensures)))
+returns c =
+    let entry = c .before .before .before .before .before .before in
+    found-no _ _ _ _ _ _ (c .misfit .ensures) (zip-left (entry .args .line) _ _ (told-no-array
+    (entry .args .nodes .now) (entry .args .left) (c .before .enum-told .given .1)
+    (c .before .before .before .as-array .ensures)))
 
 as-array-requires-2 : tie.Need-as-array-requires-2
-as-array-requires-2 c κs = sound-below (c .before .before .before .before .before .before .before .pre .0 .sound) (omega (arith, c .before .before .before .before .before .before .before .pre .2))
+as-array-requires-2 c κs =
+    let entry = c .before .before .before .before .before .before .before in
+    sound-below (entry .pre .0 .sound) (omega (arith, entry .pre .2))
 
 enum-known-other : tie.Need-enum-known-other
 enum-known-other c = search needs
@@ -46,7 +53,13 @@ same-length-2 : tie.Need-same-length-2
 same-length-2 c = search needs
 
 returns-2 : tie.Need-returns-2
-returns-2 c = found-no _ _ _ _ _ _ (c .misfit2 .ensures) (zip-right (c .before .before .before .before .before .before .before .before .before .before .before .args .line) _ _ _ _ (told-array (c .before .before .before .before .before .before .before .before .before .before .before .args .nodes .now) (c .before .before .before .before .before .before .before .before .before .before .before .args .left) (c .before .before .before .before .before .before .one .given .1) (c .before .before .before .before .before .before .before .before .as-array .ensures) .0) (told-no-array (c .before .before .before .before .before .before .before .before .before .before .before .args .nodes .now) (c .before .before .before .before .before .before .before .before .before .before .before .args .right) (c .before .enum-told2 .given .1) (c .before .before .before .as-array2 .ensures)))
+returns-2 c =
+    let entry = c .before .before .before .before .before .before .before .before .before .before .before in
+    found-no _ _ _ _ _ _ (c .misfit2 .ensures) (zip-right (entry .args .line) _ _ _ _
+    (told-array (entry .args .nodes .now) (entry .args .left) (c .before .before .before .before .before .before .one .given .1)
+    (c .before .before .before .before .before .before .before .before .as-array .ensures) .0)
+    (told-no-array (entry .args .nodes .now) (entry .args .right) (c .before .enum-told2 .given .1)
+    (c .before .before .before .as-array2 .ensures)))
 
 misfit-requires-3 : tie.Need-misfit-requires-3
 misfit-requires-3 c κs = search needs
@@ -55,10 +68,38 @@ same-length-3 : tie.Need-same-length-3
 same-length-3 c = search needs
 
 returns-3 : tie.Need-returns-3
-returns-3 c = found-no _ _ _ _ _ _ (c .misfit3 .ensures) (zip-lengths (c .before .before .before .before .before .before .before .before .before .before .before .before .before .args .line) _ _ _ _ _ _ (told-array (c .before .before .before .before .before .before .before .before .before .before .before .before .before .args .nodes .now) (c .before .before .before .before .before .before .before .before .before .before .before .before .before .args .left) (c .before .before .before .before .before .before .before .before .one .given .1) (c .before .before .before .before .before .before .before .before .before .before .as-array .ensures) .0) (told-array (c .before .before .before .before .before .before .before .before .before .before .before .before .before .args .nodes .now) (c .before .before .before .before .before .before .before .before .before .before .before .before .before .args .right) (c .before .before .before .other .given .1) (c .before .before .before .before .before .as-array2 .ensures) .0) (c .before .if1 .taken))
+returns-3 c =
+    let at-before = c .before .before .before .before .before .before .before .before .before .before .before
+    .before .before in
+    let at-as-array = c .before .before .before .before .before .before .before .before .before .before .as-array in
+    let at-one = c .before .before .before .before .before .before .before .before .one in
+    let at-as-array2 = c .before .before .before .before .before .as-array2 in
+    let entry = at-before in
+    found-no _ _ _ _ _ _ (c .misfit3 .ensures) (zip-lengths (entry .args .line) _ _ _ _ _ _ (told-array
+    (entry .args .nodes .now) (entry .args .left) (at-one .given .1) (at-as-array .ensures) .0) (told-array
+    (entry .args .nodes .now) (entry .args .right) (c .before .before .before .other .given .1)
+    (at-as-array2 .ensures) .0) (c .before .if1 .taken))
 
 sized-pair-requires : tie.Need-sized-pair-requires
-sized-pair-requires c κs = (room-less (c .before .before .before .before .before .before .before .before .before .before .before .before .before .pre .0) (omega arith), omega (arith, c .before .before .before .before .before .before .before .before .before .before .before .before .before .pre .1, told-array (c .before .before .before .before .before .before .before .before .before .before .before .before .before .args .nodes .now) (c .before .before .before .before .before .before .before .before .before .before .before .before .before .args .left) (c .before .before .before .before .before .before .before .before .one .given .1) (c .before .before .before .before .before .before .before .before .before .before .as-array .ensures) .1), omega (arith, c .before .before .before .before .before .before .before .before .before .before .before .before .before .pre .2, told-array (c .before .before .before .before .before .before .before .before .before .before .before .before .before .args .nodes .now) (c .before .before .before .before .before .before .before .before .before .before .before .before .before .args .right) (c .before .before .before .other .given .1) (c .before .before .before .before .before .as-array2 .ensures) .1))
+sized-pair-requires c κs =
+    let entry = c .before .before .before .before .before .before .before .before .before .before .before
+    .before .before in (
+      room-less (entry .pre .0) (omega arith),
+      omega (
+        arith,
+        entry .pre .1,
+        told-array (entry .args .nodes .now)
+            (entry .args .left) (c .before .before .before .before .before .before .before .before .one .given .1)
+            (c .before .before .before .before .before .before .before .before .before .before .as-array .ensures)
+            .1,
+      ),
+      omega (
+        arith,
+        entry .pre .2,
+        told-array (entry .args .nodes .now) (entry .args .right)
+            (c .before .before .before .other .given .1) (c .before .before .before .before .before .as-array2 .ensures) .1,
+      ),
+    )
 
 enum-known-pair : tie.Need-enum-known-pair
 enum-known-pair c = search needs
@@ -70,16 +111,81 @@ same-length-4 : tie.Need-same-length-4
 same-length-4 c = search needs
 
 returns-4 : tie.Need-returns-4
-returns-4 c = found-no _ _ _ _ _ _ (c .enum-told3 .given .1) (zip-yes (c .before .before .before .before .before .before .before .before .before .before .before .before .before .before .before .before .before .before .args .line) _ _ _ _ _ _ (told-array (c .before .before .before .before .before .before .before .before .before .before .before .before .before .before .before .before .before .before .args .nodes .now) (c .before .before .before .before .before .before .before .before .before .before .before .before .before .before .before .before .before .before .args .left) (c .before .before .before .before .before .before .before .before .before .before .before .before .before .one .given .1) (c .before .before .before .before .before .before .before .before .before .before .before .before .before .before .before .as-array .ensures) .0) (told-array (c .before .before .before .before .before .before .before .before .before .before .before .before .before .before .before .before .before .before .args .nodes .now) (c .before .before .before .before .before .before .before .before .before .before .before .before .before .before .before .before .before .before .args .right) (c .before .before .before .before .before .before .before .before .other .given .1) (c .before .before .before .before .before .before .before .before .before .before .as-array2 .ensures) .0) (c .before .before .before .before .before .before .if1 .left) ∙ array-refused (c .before .before .before .before .before .before .before .before .before .before .before .before .before .before .before .before .before .before .args .line) (c .before .before .before .before .before .before .before .before .before .before .before .before .before .one .given .0 .0) (DataType.pair (typeAt (c .before .before .before .before .before .before .before .before .before .before .before .before .before .before .before .before .before .before .args .nodes .now) (c .before .before .before .before .before .before .before .before .before .before .before .before .before .one .given .0 .1 .0)) (typeAt (c .before .before .before .before .before .before .before .before .before .before .before .before .before .before .before .before .before .before .args .nodes .now) (c .before .before .before .before .before .before .before .before .other .given .0 .1 .0))) _ (array-bounds (c .before .before .before .before .before .before .before .before .before .before .before .before .before .one .given .0 .0) (typeAt (c .before .before .before .before .before .before .before .before .before .before .before .before .before .before .before .before .before .before .args .nodes .now) (c .before .before .before .before .before .before .before .before .before .before .before .before .before .one .given .0 .1 .0)) (typeAt (c .before .before .before .before .before .before .before .before .before .before .before .before .before .before .before .before .before .before .args .nodes .now) (c .before .before .before .before .before .before .before .before .before .before .before .before .before .before .before .before .before .before .args .left)) (told-array (c .before .before .before .before .before .before .before .before .before .before .before .before .before .before .before .before .before .before .args .nodes .now) (c .before .before .before .before .before .before .before .before .before .before .before .before .before .before .before .before .before .before .args .left) (c .before .before .before .before .before .before .before .before .before .before .before .before .before .one .given .1) (c .before .before .before .before .before .before .before .before .before .before .before .before .before .before .before .as-array .ensures) .0) (c .before .before .before .before .before .before .before .before .before .before .before .before .before .before .before .before .before .before .pre .0 .sound .each (c .before .before .before .before .before .before .before .before .before .before .before .before .before .before .before .before .before .before .args .left) (c .before .before .before .before .before .before .before .before .before .before .before .before .before .before .before .before .before .before .pre .1) .within) .0) (was-refused (c .before .before .before .before .before .before .before .before .before .before .before .before .before .before .before .before .before .before .args .nodes .now) (c .before .before .before .before .before .before .before .before .before .before .before .before .before .before .before .before .before .before .args .len) (c .before .before .before .before .sized-pair .last .0) (c .before .before .before .before .before .before .before .before .before .before .before .before .before .before .before .before .before .before .args .len + 1) (c .before .before .before .before .before .before .before .before .before .before .before .before .before .before .before .before .before .before .args .rows) (sized (c .before .before .before .before .before .before .before .before .before .before .before .before .before .before .before .before .before .before .args .line) (DataType.pair (typeAt (c .before .before .before .before .before .before .before .before .before .before .before .before .before .before .before .before .before .before .args .nodes .now) (c .before .before .before .before .before .before .before .before .before .before .before .before .before .one .given .0 .1 .0)) (typeAt (c .before .before .before .before .before .before .before .before .before .before .before .before .before .before .before .before .before .before .args .nodes .now) (c .before .before .before .before .before .before .before .before .other .given .0 .1 .0)))) (c .enum-told3 .given .1) (c .before .before .before .before .sized-pair .ensures)))
+returns-4 c =
+    let entry = c .before .before .before .before .before .before .before .before .before .before .before
+    .before .before .before .before .before .before .before in
+    let at-as-array = c .before .before .before .before .before .before .before .before .before .before .before
+    .before .before .before .before .as-array in
+    let at-one = c .before .before .before .before .before .before .before .before .before .before .before
+    .before .before .one in
+    let at-other = c .before .before .before .before .before .before .before .before .other in
+    let at-sized-pair = c .before .before .before .before .sized-pair in
+    found-no _ _ _ _ _ _ (c .enum-told3 .given .1) (zip-yes (entry .args .line) _ _ _ _ _ _
+    (told-array (entry .args .nodes .now) (entry .args .left) (at-one .given .1) (at-as-array .ensures) .0)
+    (told-array (entry .args .nodes .now) (entry .args .right) (at-other .given .1)
+    (c .before .before .before .before .before .before .before .before .before .before .as-array2 .ensures)
+    .0) (c .before .before .before .before .before .before .if1 .left) ∙ array-refused (entry .args .line)
+    (at-one .given .0 .0) (DataType.pair (typeAt (entry .args .nodes .now) (at-one .given .0 .1 .0))
+    (typeAt (entry .args .nodes .now) (at-other .given .0 .1 .0))) _ (array-bounds (at-one .given .0 .0)
+    (typeAt (entry .args .nodes .now) (at-one .given .0 .1 .0))
+    (typeAt (entry .args .nodes .now) (entry .args .left)) (told-array (entry .args .nodes .now)
+    (entry .args .left) (at-one .given .1) (at-as-array .ensures) .0) (entry .pre .0 .sound .each
+    (entry .args .left) (entry .pre .1) .within) .0) (was-refused (entry .args .nodes .now)
+    (entry .args .len) (at-sized-pair .last .0) (entry .args .len + 1) (entry .args .rows)
+    (sized (entry .args .line) (DataType.pair (typeAt (entry .args .nodes .now) (at-one .given .0 .1 .0))
+    (typeAt (entry .args .nodes .now) (at-other .given .0 .1 .0)))) (c .enum-told3 .given .1)
+    (at-sized-pair .ensures)))
 
 sized-array-requires : tie.Need-sized-array-requires
-sized-array-requires c κs = let w = was-typed (c .before .before .before .before .before .before .before .before .before .before .before .before .before .before .before .before .before .before .before .before .args .nodes .now) (c .before .before .before .before .before .before .before .before .before .before .before .before .before .before .before .before .before .before .before .before .args .len) (c .before .before .before .before .before .before .sized-pair .last .0) (c .before .before .before .before .before .before .before .before .before .before .before .before .before .before .before .before .before .before .before .before .args .len + 1) (c .before .before .before .before .before .before .before .before .before .before .before .before .before .before .before .before .before .before .before .before .args .rows) (sized (c .before .before .before .before .before .before .before .before .before .before .before .before .before .before .before .before .before .before .before .before .args .line) (DataType.pair (typeAt (c .before .before .before .before .before .before .before .before .before .before .before .before .before .before .before .before .before .before .before .before .args .nodes .now) (c .before .before .before .before .before .before .before .before .before .before .before .before .before .before .before .one .given .0 .1 .0)) (typeAt (c .before .before .before .before .before .before .before .before .before .before .before .before .before .before .before .before .before .before .before .before .args .nodes .now) (c .before .before .before .before .before .before .before .before .before .before .other .given .0 .1 .0)))) (c .before .before .pair .given .1) (c .before .before .before .before .before .before .sized-pair .ensures) in let b = array-bounds _ _ _ (told-array (c .before .before .before .before .before .before .before .before .before .before .before .before .before .before .before .before .before .before .before .before .args .nodes .now) (c .before .before .before .before .before .before .before .before .before .before .before .before .before .before .before .before .before .before .before .before .args .left) (c .before .before .before .before .before .before .before .before .before .before .before .before .before .before .before .one .given .1) (c .before .before .before .before .before .before .before .before .before .before .before .before .before .before .before .before .before .as-array .ensures) .0) (c .before .before .before .before .before .before .before .before .before .before .before .before .before .before .before .before .before .before .before .before .pre .0 .sound .each (c .before .before .before .before .before .before .before .before .before .before .before .before .before .before .before .before .before .before .before .before .args .left) (c .before .before .before .before .before .before .before .before .before .before .before .before .before .before .before .before .before .before .before .before .pre .1) .within) in (room-grown 2 1 (c .before .before .before .before .before .before .before .before .before .before .before .before .before .before .before .before .before .before .before .before .pre .0) (w .4) (omega (arith, w .3)), w .2, b .0, omega (arith, b .1))
+sized-array-requires c κs =
+    let entry = c .before .before .before .before .before .before .before .before .before .before .before
+    .before .before .before .before .before .before .before .before .before in
+    let at-one = c .before .before .before .before .before .before .before .before .before .before .before
+    .before .before .before .before .one in
+    let at-sized-pair = c .before .before .before .before .before .before .sized-pair in
+    let w = was-typed (entry .args .nodes .now) (entry .args .len) (at-sized-pair .last .0) (entry .args .len + 1)
+    (entry .args .rows) (sized (entry .args .line) (DataType.pair
+    (typeAt (entry .args .nodes .now) (at-one .given .0 .1 .0)) (typeAt (entry .args .nodes .now)
+    (c .before .before .before .before .before .before .before .before .before .before .other
+    .given .0 .1 .0)))) (c .before .before .pair .given .1) (at-sized-pair .ensures) in
+    let b = array-bounds _ _ _ (told-array (entry .args .nodes .now) (entry .args .left) (at-one .given .1)
+    (c .before .before .before .before .before .before .before .before .before .before .before
+    .before .before .before .before .before .before .as-array .ensures) .0) (entry .pre .0 .sound .each
+    (entry .args .left) (entry .pre .1) .within) in
+    (room-grown 2 1 (entry .pre .0) (w .4) (omega (arith, w .3)), w .2, b .0, omega (arith, b .1))
 
 same-length-5 : tie.Need-same-length-5
 same-length-5 c = search needs
 
 returns-5 : tie.Need-returns-5
-returns-5 c = let w = was-typed (c .before .before .before .before .before .before .before .before .before .before .before .before .before .before .before .before .before .before .before .before .before .before .before .args .nodes .now) (c .before .before .before .before .before .before .before .before .before .before .before .before .before .before .before .before .before .before .before .before .before .before .before .args .len) (c .before .before .before .before .before .before .before .before .before .sized-pair .last .0) (c .before .before .before .before .before .before .before .before .before .before .before .before .before .before .before .before .before .before .before .before .before .before .before .args .len + 1) (c .before .before .before .before .before .before .before .before .before .before .before .before .before .before .before .before .before .before .before .before .before .before .before .args .rows) (sized (c .before .before .before .before .before .before .before .before .before .before .before .before .before .before .before .before .before .before .before .before .before .before .before .args .line) (DataType.pair (typeAt (c .before .before .before .before .before .before .before .before .before .before .before .before .before .before .before .before .before .before .before .before .before .before .before .args .nodes .now) (c .before .before .before .before .before .before .before .before .before .before .before .before .before .before .before .before .before .before .one .given .0 .1 .0)) (typeAt (c .before .before .before .before .before .before .before .before .before .before .before .before .before .before .before .before .before .before .before .before .before .before .before .args .nodes .now) (c .before .before .before .before .before .before .before .before .before .before .before .before .before .other .given .0 .1 .0)))) (c .before .before .before .before .before .pair .given .1) (c .before .before .before .before .before .before .before .before .before .sized-pair .ensures) in found-on (c .before .before .before .before .before .before .before .before .before .before .before .before .before .before .before .before .before .before .before .before .before .before .before .args .nodes .now) (c .before .before .before .before .before .before .before .before .before .before .before .before .before .before .before .before .before .before .before .before .before .before .before .args .len) (c .before .before .before .before .before .before .before .before .before .sized-pair .last .0) (c .before .before .before .before .before .pair .given .0 .1 .1 .0) (c .before .before .sized-array .last .0) (c .before .before .before .before .before .pair .given .0 .1 .1 .0 + 1) (c .before .before .before .before .before .before .before .before .before .before .before .before .before .before .before .before .before .before .before .before .before .before .before .args .len + 2) (c .before .before .before .before .before .before .before .before .before .before .before .before .before .before .before .before .before .before .before .before .before .before .before .args .rows) _ _ (c .before .before .sized-array .result) (w .4) (omega (arith, w .3)) (zip-yes (c .before .before .before .before .before .before .before .before .before .before .before .before .before .before .before .before .before .before .before .before .before .before .before .args .line) _ _ _ _ _ _ (told-array (c .before .before .before .before .before .before .before .before .before .before .before .before .before .before .before .before .before .before .before .before .before .before .before .args .nodes .now) (c .before .before .before .before .before .before .before .before .before .before .before .before .before .before .before .before .before .before .before .before .before .before .before .args .left) (c .before .before .before .before .before .before .before .before .before .before .before .before .before .before .before .before .before .before .one .given .1) (c .before .before .before .before .before .before .before .before .before .before .before .before .before .before .before .before .before .before .before .before .as-array .ensures) .0) (told-array (c .before .before .before .before .before .before .before .before .before .before .before .before .before .before .before .before .before .before .before .before .before .before .before .args .nodes .now) (c .before .before .before .before .before .before .before .before .before .before .before .before .before .before .before .before .before .before .before .before .before .before .before .args .right) (c .before .before .before .before .before .before .before .before .before .before .before .before .before .other .given .1) (c .before .before .before .before .before .before .before .before .before .before .before .before .before .before .before .as-array2 .ensures) .0) (c .before .before .before .before .before .before .before .before .before .before .before .if1 .left) ∙ ap (λ (u : DataType). sized (c .before .before .before .before .before .before .before .before .before .before .before .before .before .before .before .before .before .before .before .before .before .before .before .args .line) (array (c .before .before .before .before .before .before .before .before .before .before .before .before .before .before .before .before .before .before .one .given .0 .0) u)) (sized-typed (c .before .before .before .before .before .before .before .before .before .before .before .before .before .before .before .before .before .before .before .before .before .before .before .args .line) (DataType.pair (typeAt (c .before .before .before .before .before .before .before .before .before .before .before .before .before .before .before .before .before .before .before .before .before .before .before .args .nodes .now) (c .before .before .before .before .before .before .before .before .before .before .before .before .before .before .before .before .before .before .one .given .0 .1 .0)) (typeAt (c .before .before .before .before .before .before .before .before .before .before .before .before .before .before .before .before .before .before .before .before .before .before .before .args .nodes .now) (c .before .before .before .before .before .before .before .before .before .before .before .before .before .other .given .0 .1 .0))) (typeAt (c .before .before .before .before .before .before .before .before .before .sized-pair .last .0) (c .before .before .before .before .before .pair .given .0 .0)) (w .0))) (c .before .before .sized-array .ensures)
+returns-5 c =
+    let entry = c .before .before .before .before .before .before .before .before .before .before .before
+    .before .before .before .before .before .before .before .before .before .before .before .before in
+    let at-one = c .before .before .before .before .before .before .before .before .before .before .before
+    .before .before .before .before .before .before .before .one in
+    let at-other = c .before .before .before .before .before .before .before .before .before .before .before
+    .before .before .other in
+    let at-sized-pair = c .before .before .before .before .before .before .before .before .before .sized-pair in
+    let at-pair = c .before .before .before .before .before .pair in
+    let at-sized-array = c .before .before .sized-array in
+    let w = was-typed (entry .args .nodes .now) (entry .args .len) (at-sized-pair .last .0) (entry .args .len + 1)
+    (entry .args .rows) (sized (entry .args .line) (DataType.pair
+    (typeAt (entry .args .nodes .now) (at-one .given .0 .1 .0)) (typeAt (entry .args .nodes .now)
+    (at-other .given .0 .1 .0)))) (at-pair .given .1) (at-sized-pair .ensures) in
+    found-on (entry .args .nodes .now) (entry .args .len) (at-sized-pair .last .0) (at-pair .given .0 .1 .1 .0)
+    (at-sized-array .last .0) (at-pair .given .0 .1 .1 .0 + 1) (entry .args .len + 2) (entry .args .rows) _ _
+    (at-sized-array .result) (w .4) (omega (arith, w .3)) (zip-yes (entry .args .line) _ _ _ _ _ _ (told-array
+    (entry .args .nodes .now) (entry .args .left) (at-one .given .1)
+    (c .before .before .before .before .before .before .before .before .before .before .before
+    .before .before .before .before .before .before .before .before .before .as-array .ensures) .0)
+    (told-array (entry .args .nodes .now) (entry .args .right) (at-other .given .1)
+    (c .before .before .before .before .before .before .before .before .before .before .before
+    .before .before .before .before .as-array2 .ensures) .0)
+    (c .before .before .before .before .before .before .before .before .before .before .before .if1 .left) ∙ ap
+    (λ (u : DataType). sized (entry .args .line) (array (at-one .given .0 .0) u)) (sized-typed
+    (entry .args .line) (DataType.pair (typeAt (entry .args .nodes .now) (at-one .given .0 .1 .0)) (typeAt
+    (entry .args .nodes .now) (at-other .given .0 .1 .0)))
+    (typeAt (at-sized-pair .last .0) (at-pair .given .0 .0)) (w .0))) (at-sized-array .ensures)
 
 pub zip-spec : {M : Type 1} → statement M
 zip-spec =

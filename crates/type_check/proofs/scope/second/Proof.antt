@@ -13,7 +13,15 @@ is-map-requires : tie.Need-is-map-requires
 is-map-requires c κs = search needs
 
 returns : tie.Need-returns
-returns c = (plain-opens (c .before .before .before .args .nodes .now) (c .before .before .before .args .kind) (typeAt (c .before .before .before .args .nodes .now) (c .before .before .before .args .place)) (sym (c .before .is-map .ensures) ∙ not-true _ (c .if1 .taken)), λ m I Γ e h F. plain-scope (c .before .before .before .args .nodes .now) (c .before .before .before .args .kind) (typeAt (c .before .before .before .args .nodes .now) (c .before .before .before .args .place)) m (c .before .before .before .args .scope) I Γ (sym (c .before .is-map .ensures) ∙ not-true _ (c .if1 .taken)) F)
+returns c =
+    let entry = c .before .before .before in (
+      plain-opens (entry .args .nodes .now) (entry .args .kind)
+          (typeAt (entry .args .nodes .now) (entry .args .place)) (sym (c .before .is-map .ensures) ∙ not-true _
+          (c .if1 .taken)),
+      λ m I Γ e h F. plain-scope (entry .args .nodes .now) (entry .args .kind)
+          (typeAt (entry .args .nodes .now) (entry .args .place)) m (entry .args .scope) I Γ
+          (sym (c .before .is-map .ensures) ∙ not-true _ (c .if1 .taken)) F,
+    )
 
 as-array-requires : tie.Need-as-array-requires
 as-array-requires c κs = search needs
@@ -25,13 +33,50 @@ enum-told : tie.Need-enum-told
 enum-told c = search needs
 
 returns-2 : tie.Need-returns-2
-returns-2 c = (map-closed (c .before .before .before .before .before .before .args .nodes .now) (c .before .before .before .before .before .before .args .kind) (typeAt (c .before .before .before .before .before .before .args .nodes .now) (c .before .before .before .before .before .before .args .place)) (sym (c .before .before .before .before .is-map .ensures) ∙ not-false _ (c .before .before .before .if1 .left)) (told-no-array (c .before .before .before .before .before .before .args .nodes .now) (c .before .before .before .before .before .before .args .place) (c .enum-told .given .1) (c .before .before .as-array .ensures)), λ m I Γ e h F. never-true e)
+returns-2 c =
+    let entry = c .before .before .before .before .before .before in (
+      map-closed (entry .args .nodes .now) (entry .args .kind)
+          (typeAt (entry .args .nodes .now) (entry .args .place)) (sym
+          (c .before .before .before .before .is-map .ensures) ∙ not-false _
+          (c .before .before .before .if1 .left)) (told-no-array (entry .args .nodes .now) (entry .args .place)
+          (c .enum-told .given .1) (c .before .before .as-array .ensures)),
+      λ m I Γ e h F. never-true e,
+    )
 
 with-variable-requires : tie.Need-with-variable-requires
-with-variable-requires c κs = (c .before .before .before .before .before .before .before .pre .1 (sym (c .before .before .before .before .before .is-map .ensures) ∙ not-false _ (c .before .before .before .before .if1 .left)), omega (arith, c .before .before .before .before .before .before .before .pre .0 .few, told-array (c .before .before .before .before .before .before .before .args .nodes .now) (c .before .before .before .before .before .before .before .args .place) (c .before .shape .given .1) (c .before .before .before .as-array .ensures) .1))
+with-variable-requires c κs =
+    let entry = c .before .before .before .before .before .before .before in (
+      entry .pre .1 (sym (c .before .before .before .before .before .is-map .ensures) ∙ not-false _
+          (c .before .before .before .before .if1 .left)),
+      omega (
+        arith,
+        entry .pre .0 .few,
+        told-array
+            (entry .args .nodes .now) (entry .args .place) (c .before .shape .given .1)
+            (c .before .before .before .as-array .ensures) .1,
+      ),
+    )
 
 returns-3 : tie.Need-returns-3
-returns-3 c = (map-opens (c .before .before .before .before .before .before .before .before .args .nodes .now) (c .before .before .before .before .before .before .before .before .args .kind) (typeAt (c .before .before .before .before .before .before .before .before .args .nodes .now) (c .before .before .before .before .before .before .before .before .args .place)) _ _ (sym (c .before .before .before .before .before .before .is-map .ensures) ∙ not-false _ (c .before .before .before .before .before .if1 .left)) (told-array (c .before .before .before .before .before .before .before .before .args .nodes .now) (c .before .before .before .before .before .before .before .before .args .place) (c .before .before .shape .given .1) (c .before .before .before .before .as-array .ensures) .0), λ m I Γ e h F. map-scope (c .before .before .before .before .before .before .before .before .args .nodes .now) (c .before .before .before .before .before .before .before .before .args .kind) (typeAt (c .before .before .before .before .before .before .before .before .args .nodes .now) (c .before .before .before .before .before .before .before .before .args .place)) _ _ m (c .with-variable .result) I Γ (sym (c .before .before .before .before .before .before .is-map .ensures) ∙ not-false _ (c .before .before .before .before .before .if1 .left)) (told-array (c .before .before .before .before .before .before .before .before .args .nodes .now) (c .before .before .before .before .before .before .before .before .args .place) (c .before .before .shape .given .1) (c .before .before .before .before .as-array .ensures) .0) (c .with-variable .ensures .1 (c .before .before .before .before .before .before .before .before .args .nodes .now) m I Γ F (omega (arith, told-array (c .before .before .before .before .before .before .before .before .args .nodes .now) (c .before .before .before .before .before .before .before .before .args .place) (c .before .before .shape .given .1) (c .before .before .before .before .as-array .ensures) .1))))
+returns-3 c =
+    let entry = c .before .before .before .before .before .before .before .before in
+    let at-is-map = c .before .before .before .before .before .before .is-map in
+    let at-if1 = c .before .before .before .before .before .if1 in
+    let at-as-array = c .before .before .before .before .as-array in
+    let at-shape = c .before .before .shape in (
+      map-opens (entry .args .nodes .now) (entry .args .kind) (typeAt (entry .args .nodes .now) (entry .args .place))
+          _ _ (sym (at-is-map .ensures) ∙ not-false _ (at-if1 .left)) (told-array (entry .args .nodes .now)
+          (entry .args .place) (at-shape .given .1) (at-as-array .ensures) .0),
+      λ m I Γ e h F. map-scope
+          (entry .args .nodes .now) (entry .args .kind) (typeAt (entry .args .nodes .now) (entry .args .place)) _ _ m
+          (c .with-variable .result) I Γ (sym (at-is-map .ensures) ∙ not-false _ (at-if1 .left))
+          (told-array (entry .args .nodes .now) (entry .args .place) (at-shape .given .1) (at-as-array .ensures) .0)
+          (c .with-variable .ensures .1 (entry .args .nodes .now) m I Γ F (omega (
+            arith,
+            told-array
+                (entry .args .nodes .now) (entry .args .place) (at-shape .given .1) (at-as-array .ensures) .1,
+          ))),
+    )
 
 pub second-spec : {M : Type 1} → statement M
 second-spec =

@@ -18,16 +18,46 @@ enum-told : tie.Need-enum-told
 enum-told c = search needs
 
 returns : tie.Need-returns
-returns c = (sym (no-array _ (told-no-array (c .before .before .before .before .args .nodes .now) (c .before .before .before .before .args .array) (c .enum-told .given .1) (c .before .before .as-array .ensures))), λ m I Γ e h k F. never-true e)
+returns c =
+    let entry = c .before .before .before .before in (
+      sym (no-array _ (told-no-array (entry .args .nodes .now) (entry .args .array) (c .enum-told .given .1)
+          (c .before .before .as-array .ensures))),
+      λ m I Γ e h k F. never-true e,
+    )
 
 with-variable-requires : tie.Need-with-variable-requires
-with-variable-requires c κs = (omega (arith, c .before .before .before .before .before .pre .2), omega (arith, c .before .before .before .before .before .pre .1 .few, told-array (c .before .before .before .before .before .args .nodes .now) (c .before .before .before .before .before .args .array) (c .before .shape .given .1) (c .before .before .before .as-array .ensures) .1))
+with-variable-requires c κs =
+    let entry = c .before .before .before .before .before in (
+      omega (arith, entry .pre .2),
+      omega (
+        arith,
+        entry .pre .1 .few,
+        told-array (entry .args .nodes .now)
+            (entry .args .array) (c .before .shape .given .1) (c .before .before .before .as-array .ensures) .1,
+      ),
+    )
 
 with-variable-requires-2 : tie.Need-with-variable-requires-2
-with-variable-requires-2 c κs = (omega (arith, c .before .before .before .before .before .before .pre .2, c .with-variable .ensures .0), omega (arith, c .before .before .before .before .before .before .pre .0 .few))
+with-variable-requires-2 c κs =
+    let entry = c .before .before .before .before .before .before in
+    (omega (arith, entry .pre .2, c .with-variable .ensures .0), omega (arith, entry .pre .0 .few))
 
 returns-2 : tie.Need-returns-2
-returns-2 c = (array-opens _ _ _ (told-array (c .before .before .before .before .before .before .before .args .nodes .now) (c .before .before .before .before .before .before .before .args .array) (c .before .before .before .shape .given .1) (c .before .before .before .before .before .as-array .ensures) .0), λ m I Γ e h k F. rw (told-array (c .before .before .before .before .before .before .before .args .nodes .now) (c .before .before .before .before .before .before .before .args .array) (c .before .before .before .shape .given .1) (c .before .before .before .before .before .as-array .ensures) .0) (c .with-variable2 .ensures .1 (c .before .before .before .before .before .before .before .args .nodes .now) m I _ (c .before .with-variable .ensures .1 (c .before .before .before .before .before .before .before .args .nodes .now) m I Γ F (omega (arith, told-array (c .before .before .before .before .before .before .before .args .nodes .now) (c .before .before .before .before .before .before .before .args .array) (c .before .before .before .shape .given .1) (c .before .before .before .before .before .as-array .ensures) .1))) h))
+returns-2 c =
+    let entry = c .before .before .before .before .before .before .before in
+    let at-as-array = c .before .before .before .before .before .as-array in
+    let at-shape = c .before .before .before .shape in (
+      array-opens _ _ _ (told-array (entry .args .nodes .now) (entry .args .array) (at-shape .given .1)
+          (at-as-array .ensures) .0),
+      λ m I Γ e h k F. rw (told-array (entry .args .nodes .now)
+          (entry .args .array) (at-shape .given .1) (at-as-array .ensures) .0) (c .with-variable2 .ensures .1
+          (entry .args .nodes .now) m I _ (c .before .with-variable .ensures .1 (entry .args .nodes .now) m I Γ F
+          (omega (
+            arith,
+            told-array (entry .args .nodes .now) (entry .args .array) (at-shape .given .1)
+                (at-as-array .ensures) .1,
+          ))) h),
+    )
 
 pub third-spec : {M : Type 1} → statement M
 third-spec =

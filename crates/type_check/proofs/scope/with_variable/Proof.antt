@@ -18,7 +18,9 @@ add-t7 : tie.Need-add-t7
 add-t7 c = search needs
 
 returns : tie.Need-returns
-returns c = (refl, λ T m I Γ F h. one-more T m (c .before .before .args .scope) I Γ (c .before .before .args .place) F h (c .before .before .pre .0))
+returns c =
+    let entry = c .before .before in
+    (refl, λ T m I Γ F h. one-more T m (entry .args .scope) I Γ (entry .args .place) F h (entry .pre .0))
 
 pub with-variable-spec : {M : Type 1} → statement M
 with-variable-spec =

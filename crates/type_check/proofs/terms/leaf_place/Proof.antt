@@ -8,49 +8,44 @@ use Rattle.type_check.proofs.terms.leaf_place.Tie as tie
 use Rattle.type_check.proofs.terms.leaf_place.Reads as reads
 use Rattle.type_check.proofs.terms.leaf_place.Lts as lts
 
--- src/terms.rt:92:16
 mul-result : tie.Need-mul-result
 mul-result c = record { fits = omega (arith, c .before .pre .0 (c .if1 .taken)) }
 
--- src/terms.rt:92:16
 element-copy-out-result : tie.Need-element-copy-out-result
 element-copy-out-result c = omega (arith, c .before .pre .0 (c .if1 .taken))
 
--- src/terms.rt:92:16
 cast-result : tie.Need-cast-result
 cast-result c = search needs
 
--- src/terms.rt:92:9
 returns : tie.Need-returns
 returns c = rw (c .before .if1 .taken)
 
--- src/terms.rt:95:47
 add-result : tie.Need-add-result
 add-result c = record { fits = omega (arith, c .before .before .pre .1 (c .if2 .taken), c .before .before .pre .2) }
 
--- src/terms.rt:95:32
 sub-result : tie.Need-sub-result
 sub-result c = omega (arith, c .before .before .pre .1 (c .if2 .taken), c .before .before .pre .2)
 
--- src/terms.rt:95:16
 mul-result-2 : tie.Need-mul-result-2
 mul-result-2 c = record { fits = omega (arith, c .before .before .pre .1 (c .if2 .taken), c .before .before .pre .2) }
 
--- src/terms.rt:95:16
 element-copy-out-result-2 : tie.Need-element-copy-out-result-2
 element-copy-out-result-2 c = omega (arith, c .before .before .pre .1 (c .if2 .taken), c .before .before .pre .2)
 
--- src/terms.rt:95:16
 cast-result-2 : tie.Need-cast-result-2
 cast-result-2 c = search needs
 
--- src/terms.rt:95:9
 returns-2 : tie.Need-returns-2
 returns-2 c = rw (c .before .if2 .taken)
 
--- src/terms.rt:87:1
 returns-3 : tie.Need-returns-3
-returns-3 c = rw (ne-eqb (c .before .before .args .kind) word-in (c .before .if1 .left), ne-eqb (c .before .before .args .kind) word-var (c .if2 .left))
+returns-3 c =
+    let entry = c .before .before in
+    rw (
+      ne-eqb (entry .args .kind) word-in (c .before .if1 .left),
+      ne-eqb (entry .args .kind) word-var
+          (c .if2 .left),
+    )
 
 pub leaf-place-spec : {M : Type 1} → statement M
 leaf-place-spec =

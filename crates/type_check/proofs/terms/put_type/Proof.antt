@@ -9,37 +9,37 @@ use Rattle.type_check.proofs.terms.put_type.Tie as tie
 use Rattle.type_check.proofs.terms.put_type.Reads as reads
 use Rattle.type_check.proofs.terms.put_type.Lts as lts
 
--- src/terms.rt:65:9
 enum-known-answer : tie.Need-enum-known-answer
 enum-known-answer c = search needs
 
--- src/terms.rt:70:9
 enum-told : tie.Need-enum-told
 enum-told c = search needs
 
--- src/terms.rt:70:9
 returns : tie.Need-returns
 returns c = search needs
 
--- src/terms.rt:72:18
 cast-types : tie.Need-cast-types
-cast-types c = record { fits = subst (λ (a : Typing). placeFound a < 65536) (c .before .answer .given .1) (c .before .before .before .pre .1) }
+cast-types c = record {
+  fits = subst (λ (a : Typing). placeFound a < 65536) (c .before .answer .given .1)
+      (c .before .before .before .pre .1);
+}
 
--- src/terms.rt:72:5
 mul-types : tie.Need-mul-types
 mul-types c = search needs
 
--- src/terms.rt:72:5
 slice-write-types : tie.Need-slice-write-types
 slice-write-types c = search needs
 
--- src/terms.rt:60:1
 same-length : tie.Need-same-length
 same-length c = search needs
 
--- src/terms.rt:60:1
 returns-2 : tie.Need-returns-2
-returns-2 c = (sym (c .before .answer .given .1), ap (withType (c .before .before .before .args .types .now) (c .before .before .before .args .row)) (sym (c .before .answer .given .1)))
+returns-2 c =
+    let entry = c .before .before .before in (
+      sym (c .before .answer .given .1),
+      ap (withType (entry .args .types .now) (entry .args .row))
+          (sym (c .before .answer .given .1)),
+    )
 
 pub put-type-spec : {M : Type 1} → statement M
 put-type-spec =
