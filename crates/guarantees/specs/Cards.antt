@@ -1,13 +1,12 @@
--- The bench cards P1 to P10 of document 01: one list, from the plans' texts, and one proof.
--- "P1 to P10 form one list with a single proof".
+-- The cards P1 to P10, [15.1] and [15.2]: one list, from the plans' texts, and one proof.
 --
--- It rests on these definitions, which are what the entries promise for every input:
+-- It is computed from the definitions that the contracts of the entries name:
 --   typing      checkText: `check_text` of `plans`
 --   translate   makeText, planIn, rowsMade; textOf of `lines`: `translate_text`
 --   loops       checkText: `check_text`
 --   run         runText: `run_text`
---   refusals    numberOf, lineOf: document 01's number and line of a refusal
--- "Where arrays differ in length only, the fact is shown for every length": `split-any-length` (P3), `index-any-length` (P4) and
+--   refusals    numberOf, lineOf: the number and the line of a refusal
+-- Where arrays differ in length only, the fact is shown for every length: `split-any-length` (P3), `index-any-length` (P4) and
 -- `cells-any-length` (P9) of `typing`, Theorems.
 use mathlib.Core.Path.{_≡_, refl}
 use mathlib.Core.Bool.{cond}
@@ -22,6 +21,7 @@ use Rattle.refusals.specs.Refusals.{numberOf, lineOf}
 use Rattle.words.specs.Words.{bytes, table, words, sameLetters, lookFrom, operandsOf}
 use Rattle.numerals.specs.Numerals.{allDigits, value, leadingZero, unsigned, notBelowZero, belowZero, numberOf as numeralOf, lastDigits, digits, decimal}
 use Rattle.lines.specs.Reading.{linesOf, placeOf, lineOf as rowOf, rowsIn, formed, reading}
+use Rattle.lines.specs.Lent.{textRows}
 use Rattle.lines.specs.Printing.{written, textOf}
 use Rattle.meaning.specs.Loops.{Loops}
 use Rattle.meaning.specs.Layout.{allCells, room, firstRoom, secondRoom, roundRoom, regionRoom, bodyRoom, need}
@@ -49,9 +49,12 @@ use Rattle.run.specs.declared.Ran.{Ran}
 use Rattle.run.specs.declared.Ran.the-variants as ran
 use Rattle.run.specs.Run.{Outcome, askedRun, runText}
 use Rattle.interpreter.specs.Orders.{runOf}
-use Rattle.guarantees.specs.Demand3.{loopsIn}
 
 -- ---- what is asked and what is answered
+
+-- the loops whose rows a text's lines are
+abbrev loopsIn : List ℕ → Loops
+loopsIn u = loopsOf (textRows words u)
 
 -- a text's lines, written with blanks between them
 abbrev text : String → List ℕ
@@ -93,7 +96,7 @@ abbrev ofTranslation : List ℕ → Made → Answered
 ofTranslation u (make.Rows n) = ofLoops u n (checkLoopsText words u)
 ofTranslation u (make.Refused q) = refused (numberOf q) (lineOf q)
 
--- "inputs, output, and every `new` row's cells once. The store holds them in that order"
+-- [7.5] the output cells, which lie behind the inputs
 abbrev outputCells : Loops → List ℤ → List ℤ
 outputCells L s = take (L .output) (drop (allCells (L .inputs)) s)
 
@@ -122,7 +125,7 @@ eachOrder name s store a = (name, run s 0 store, a) ∷ (name, run s 1 store, a)
 abbrev numbers : List ℕ → List ℤ
 numbers l = map pos l
 
--- document 01's example
+-- [15.1] P1: its plan, and the loops made of it
 abbrev example : String
 example = "plan,1 arr,2 num,0 redseq,0 lit,0 in,0 add,0 var,0 var,1"
 
@@ -139,31 +142,24 @@ exchange = "plan,1 arr,1 num,0 redseq,0 pair,0 lit,1 lit,2 in,0 pair,0 snd,0 var
 
 abbrev pub cards : List Card
 cards =
-    -- "(P1) 32 lines, 6 writes, need 5. With these loops and the values `0,4` `1,5` the runner prints `0,9` `writes,6`."
+    -- [15.1] 32 lines, 6 writes and a need of 5 cells; and of 4 and 5 comes 9
     ("P1", translated example, made (text exampleLoops) 32 6 5)
     ∷ eachOrder "P1" example (numbers (4 ∷ 5 ∷ 0 ∷ 0 ∷ 0 ∷ [])) (finished 6 (numbers (9 ∷ [])))
-    -- "P2 `split,2` over 10..15, groups summed: 21, 25, 29."
+    -- [15.2] P2 to P10
     ++ eachOrder "P2" groups (numbers (10 ∷ 11 ∷ 12 ∷ 13 ∷ 14 ∷ 15 ∷ 0 ∷ 0 ∷ 0 ∷ 0 ∷ 0 ∷ []))
     (finished 18 (numbers (21 ∷ 25 ∷ 29 ∷ [])))
-    -- "P3 `split,3` of 7: 7."
     ++ ("P3", checked "plan,1 arr,7 num,0 split,3 in,0", refused 7 4)
-    -- "P4 `idx,1` of two passes, `idx,2`: 7."
     ∷ ("P4", checked "plan,1 arr,2 num,0 idx,1 in,0", passes)
     ∷ ("P4", checked "plan,1 arr,2 num,0 idx,2 in,0", refused 7 4)
-    -- "P5 −7 `div` 2 = −3; 7 `div` 0 = 0."; `negsuc n` is −(n + 1)
+    -- `negsuc n` is −(n + 1)
     ∷ eachOrder "P5" "plan,0 div,0 lit,-7 lit,2" (numbers (0 ∷ [])) (finished 1 (negsuc 2 ∷ []))
     ++ eachOrder "P5" "plan,0 div,0 lit,7 lit,0" (numbers (0 ∷ [])) (finished 1 (numbers (0 ∷ [])))
-    -- "P6 −2,147,483,648 `div` −1 = 2,147,483,647."
     ++ eachOrder "P6" "plan,0 div,0 lit,-2147483648 lit,-1" (numbers (0 ∷ [])) (finished 1 (numbers (2147483647 ∷ [])))
-    -- "P7 total (1,2), body (second, first), one round: (2,1)."
     ++ eachOrder "P7" exchange (numbers (0 ∷ 0 ∷ 0 ∷ 0 ∷ 0 ∷ 0 ∷ 0 ∷ [])) (finished 8 (numbers (2 ∷ 1 ∷ [])))
-    -- "P8 store 5 runs P1, 4: 14."
     ++ eachOrder "P8" example (numbers (4 ∷ 5 ∷ 1 ∷ 2 ∷ 3 ∷ [])) (finished 6 (numbers (9 ∷ [])))
     ++ eachOrder "P8" example (numbers (4 ∷ 5 ∷ 0 ∷ 0 ∷ [])) (refused 14 0)
-    -- "P9 64 × 64 cells pass, 65 × 64: 8."
     ++ ("P9", checked "plan,1 arr,64 arr,64 num,0 in,0", passes)
     ∷ ("P9", checked "plan,1 arr,65 arr,64 num,0 in,0", refused 8 2)
-    -- "P10 `lit,-0`: 2."
     ∷ ("P10", checked "plan,0 lit,-0", refused 2 2)
     ∷ []
 

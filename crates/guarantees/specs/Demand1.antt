@@ -1,166 +1,171 @@
--- Demand 1, whole: every entry answers every input, each refusal is given exactly on its condition, and a refusal leaves everything lent as
--- it was. "Each entry puts those that concern it, in this order; the first "no" gives the number. .. All lent buffers keep their bytes."
+-- Demand 1, [10.16], [10.17] and [10.22]: every entry answers every input, each refusal exactly on its condition, and a refusal leaves
+-- everything lent as it was.
 --
--- Each field below begins with what one public entry promises of its answer and of what is lent, for every input and with no `requires`: an
--- equation whose right side is a total function of the input, so that there is always one answer. It rests on these definitions:
---   refusals    Refusal, with numberOf and lineOf: document 01's number and line of each
---   typing      FirstNo: a refusal is the first "no" of a list of questions; textQuestions: 1 to 8 as one list; checkText
---   plans       PlanInto
---   translate   lentTextQuestions, tableQuestions: 1 to 8 and 10 to 12 as one list; TextInto, RowsInto
---   loops       FirstNoOfText, FirstNoOfTable, FirstNoOfReading: the first "no" of 1 to 6, 9, 11 and 12; checkText, checkTable, needOf, LoopsInto
---   run         runText, runTable
---   values      FillInto
---   store       storeOf, frameOf: a store of cells and bytes
---   Questions   the questions that come after another crate's
-use mathlib.Core.Path.{_≡_, sym, ap, _∙_, subst}
-use mathlib.Core.List.{List}
-use mathlib.Core.Logic.{_↔_}
+-- Each field begins with the contract of one public entry, which is proved of its code for every input and has no `requires`. It rests on
+--   Told       number and line of a refusal, or the value, for every type of answer
+--   Answers    the first "no" is told and what is lent is kept; or the value is told, and what is lent is left as said
+--   Questions  which questions an entry asks, in order; with `planQuestions` of `typing`, `madeQuestions` of `translate`
+--   Runs       the run in which every `par` takes the order named
+--   meaning    Plan, Loops and their rows; translation, commandWrites, need; store: cells and bytes as a store; values: valueOf
+use mathlib.Core.Bool.{false}
+use mathlib.Core.Path.{_≡_}
+use mathlib.Core.List.{List, [], _++_, map}
 use Prim.Native.Nat.{ℕ}
 use lib.IntN.{ℤ}
-use lib.ListN.{length}
+use lib.ListN.{length, drop}
 use Rattle.refusals.specs.declared.Refusal.{Refusal}
-use Rattle.words.specs.Kinds.{Row}
-use Rattle.words.specs.Words.{words}
+use Rattle.words.specs.Kinds.{Row, rowsOf}
+use Rattle.lines.specs.Lent.{textRows}
+use Rattle.lines.specs.Printing.{textOf}
+use Rattle.lines.specs.Reading.{linesOf, kindsOf, numbersOf}
 use Rattle.lines.specs.declared.Printing.{Printing}
-use Rattle.lines.specs.declared.Printing.the-variants as print
 use Rattle.lines.specs.declared.Reading.{Reading}
-use Rattle.lines.specs.declared.Reading.the-variants as read
+use Rattle.meaning.specs.Terms.{Plan}
+use Rattle.meaning.specs.Loops.{Loops}
+use Rattle.meaning.specs.Layout.{allCells, need}
+use Rattle.meaning.specs.Rows.{planRows, loopsRows}
+use Rattle.meaning.specs.Counts.{commandWrites}
+use Rattle.meaning.specs.Sequence.{upFrom}
 use Rattle.syntax.specs.declared.Answer.{Answer}
-use Rattle.syntax.specs.declared.Answer.the-variants as plan
-use Rattle.syntax.specs.Reading.{loopsOf}
-use Rattle.typing.specs.Questions.{FirstNo}
-use Rattle.typing.specs.EntryQuestions.{textQuestions}
-use Rattle.typing.specs.Entry.{checkText}
-use Rattle.plans.specs.Reading.{PlanInto}
-use Rattle.typing.specs.Theorems as plans
+use Rattle.typing.specs.Questions.{Question, AllYes}
+use Rattle.typing.specs.TypeQuestions.{planQuestions}
+use Rattle.plans.specs.Contracts.{ChecksPlan, ReadsPlan}
 use Rattle.loops.specs.declared.Checked.{Checked}
-use Rattle.loops.specs.declared.Checked.the-variants as check
 use Rattle.loops.specs.declared.Needed.{Needed}
-use Rattle.loops.specs.declared.Needed.the-variants as need
-use Rattle.loops.specs.Check.{checkTable, needOf, checkText as checkLoopsText}
-use Rattle.loops.specs.Reading.{LoopsInto}
-use Rattle.loops.specs.TextTheorems.{FirstNoOfText, FirstNoOfReading, text-refused-exactly, put-refused-exactly}
-use Rattle.loops.specs.TableTheorems.{FirstNoOfTable, table-refused-exactly}
+use Rattle.loops.specs.Contracts.{ChecksLoops, ChecksTable, TellsNeed, ReadsLoops}
 use Rattle.translate.specs.declared.Made.{Made}
-use Rattle.translate.specs.declared.Made.the-variants as make
-use Rattle.translate.specs.Entry.{rowsMade, makeText, RowsInto, TextInto}
-use Rattle.translate.specs.Questions.{tableQuestions, lentTextQuestions}
-use Rattle.translate.specs.Theorems as translate
+use Rattle.translate.specs.Entry.{madeRows}
+use Rattle.translate.specs.Questions.{madeQuestions}
+use Rattle.translate.specs.Contracts.{TranslatesRows, TranslatesText}
 use Rattle.run.specs.declared.Ran.{Ran}
-use Rattle.run.specs.declared.Ran.the-variants as ran
-use Rattle.run.specs.Run.{Outcome, outcome, runTable, runText}
-use Rattle.run.specs.Theorems as run
-use Rattle.store.specs.BytesLaws.{AllBytes}
+use Rattle.run.specs.Contracts.{KeepsFrame, RunsText, RunsRows}
+use Rattle.store.specs.Cells.{AllBytes}
 use Rattle.store.specs.Store.{storeOf, frameOf}
-use Rattle.values.specs.Values.{FillInto}
-use Rattle.guarantees.specs.Demand3.{loopsIn}
-use Rattle.guarantees.specs.Questions.{planTableQuestions, FirstNoOfRun, FirstNoOfFilling}
-use Rattle.guarantees.specs.Laws.{plan-table-refused, need-refused, run-refused, store-same, filling-refused}
+use Rattle.values.specs.Values.{valueOf, valueRows}
+use Rattle.values.specs.Contracts.{FillsStore}
+use Rattle.programs.specs.Printed.{refusalLine}
+use Rattle.programs.specs.Runner.{withValues, outputCells, finishedText}
+use Rattle.programs.specs.Contracts.{PrintsLoops, PrintsRun, SaysValuesRead}
+use Rattle.vazhdumir.specs.Contracts.{ChecksPlanForC, TranslatesForC, ChecksLoopsForC, TellsNeedForC}
+use Rattle.vazhdumir.specs.Contracts.{ReadsLoopsForC, RunsTextForC, RunsRowsForC}
+use Rattle.guarantees.specs.Told.{Told, refusal, toldAnswer, toldReading, toldPrinting, toldMade, toldWrites, toldNeed, toldNeeded, toldRan}
+use Rattle.guarantees.specs.Told.{toldAccepted, ToldToC}
+use Rattle.guarantees.specs.Answers.{Answers, AnswersOf}
+use Rattle.guarantees.specs.Questions.{planDoor, loopsDoor, tableDoor, loopsQuestions, tableRoom, textRoom, runQuestions, fillQuestions}
+use Rattle.guarantees.specs.Questions.{storeRoom, valuesQuestions, outputRoom}
+use Rattle.guarantees.specs.Runs.{runInOrder}
 
--- The answer r is a refusal, which `refused` makes an answer, exactly on its condition.
-abbrev pub Exactly : {A : Type 0} → (Refusal → A) → (Refusal → Type 0) → A → Type 0
-Exactly refused condition r = (q : Refusal) → (r ≡ refused q) ↔ condition q
+-- ---- the plan, or the loops, that a text or a table is asked about
 
--- Where the answer r is a refusal, a fact about what is lent.
-abbrev pub WhereRefused : {A : Type 0} → (Refusal → A) → A → Type 0 → Type 0
-WhereRefused refused r fact = (q : Refusal) → r ≡ refused q → fact
+abbrev pub OfPlan : List (List ℕ) → List ℕ → (Plan → List Question) → (Plan → ℕ) → Type 0 → (Plan → Type 0) → Told → Type 0
+OfPlan ws t = AnswersOf planRows (textRows ws t) (planDoor ws t)
 
-pub record Demand1 : Type 0 where
-  -- `plans::check_text`
-  pub check-plan : (t : List ℕ) (r : Answer) → r ≡ checkText words t → Exactly plan.Refused (FirstNo (textQuestions words t)) r
-  -- `plans::read_text`
-  pub read-plan : (t kinds kinds′ : List ℕ) (numbers numbers′ : List ℤ) (r : Reading) → PlanInto words t kinds numbers r kinds′ numbers′
-      → Exactly read.Refused (FirstNo (planTableQuestions t (length kinds) (length numbers))) r
-      × WhereRefused read.Refused r ((kinds′ ≡ kinds) × (numbers′ ≡ numbers))
-  -- `translate::translate_rows`
-  pub translate-rows : (t kinds kinds′ : List ℕ) (numbers numbers′ : List ℤ) (r : Made)
-      → RowsInto (makeText words t) (rowsMade words t) kinds numbers r kinds′ numbers′
-      → Exactly make.Refused (FirstNo (tableQuestions words t (length kinds) (length numbers))) r
-      × WhereRefused make.Refused r ((kinds′ ≡ kinds) × (numbers′ ≡ numbers))
-  -- `translate::translate_text`
-  pub translate-text : (t lent lent′ : List ℕ) (r : Printing) → TextInto words (makeText words t) (rowsMade words t) lent r lent′
-      → Exactly print.Refused (FirstNo (lentTextQuestions words t (length lent))) r × WhereRefused print.Refused r (lent′ ≡ lent)
-  -- `loops::check_text`
-  pub check-loops : (t : List ℕ) (r : Checked) → r ≡ checkLoopsText words t → Exactly check.Refused (FirstNoOfText words t) r
-  -- `loops::check_table`
-  pub check-table : (R : List Row) (r : Checked) → r ≡ checkTable R → Exactly check.Refused (FirstNoOfTable R) r
-  -- `loops::need_text`
-  pub need-loops : (t : List ℕ) (r : Needed) → r ≡ needOf (checkLoopsText words t) → Exactly need.Refused (FirstNoOfText words t) r
-  -- `loops::read_text`
-  pub read-loops : (t kinds kinds′ : List ℕ) (numbers numbers′ : List ℤ) (r : Reading) → LoopsInto words t kinds numbers r kinds′ numbers′
-      → Exactly read.Refused (FirstNoOfReading words t (length kinds) (length numbers)) r
-      × WhereRefused read.Refused r ((kinds′ ≡ kinds) × (numbers′ ≡ numbers))
-  -- `run::run_text`, on a store of cells and bytes
-  pub run-text : (t : List ℕ) (order : ℕ) (cells cells′ : List ℤ) (bytes bytes′ : List ℕ) (r : Ran) → AllBytes bytes → AllBytes bytes′
-      → frameOf cells′ bytes′ ≡ frameOf cells bytes → outcome r (storeOf cells′ bytes′) ≡ runText words t order (storeOf cells bytes)
-      → Exactly ran.Refused (FirstNoOfRun (FirstNoOfText words t) (checkLoopsText words t) order (length (storeOf cells bytes))) r
-      × WhereRefused ran.Refused r ((cells′ ≡ cells) × (bytes′ ≡ bytes))
-  -- `run::run_rows`
-  pub run-rows : (R : List Row) (order : ℕ) (cells cells′ : List ℤ) (bytes bytes′ : List ℕ) (r : Ran) → AllBytes bytes → AllBytes bytes′
-      → frameOf cells′ bytes′ ≡ frameOf cells bytes → outcome r (storeOf cells′ bytes′) ≡ runTable R order (storeOf cells bytes)
-      → Exactly ran.Refused (FirstNoOfRun (FirstNoOfTable R) (checkTable R) order (length (storeOf cells bytes))) r
-      × WhereRefused ran.Refused r ((cells′ ≡ cells) × (bytes′ ≡ bytes))
-  -- `values::fill`
-  pub fill : (t : List ℕ) (n : ℕ) (store store′ : List ℤ) (r : Reading) → FillInto words t n store r store′
-      → Exactly read.Refused (FirstNoOfFilling t n (length store)) r × WhereRefused read.Refused r (store′ ≡ store)
+abbrev pub OfLoops : List (List ℕ) → List ℕ → (Loops → List Question) → (Loops → ℕ) → Type 0 → (Loops → Type 0) → Told → Type 0
+OfLoops ws t = AnswersOf loopsRows (textRows ws t) (loopsDoor ws t)
 
--- ---- the proof
+abbrev pub OfTable : List Row → (Loops → List Question) → (Loops → ℕ) → Type 0 → (Loops → Type 0) → Told → Type 0
+OfTable R = AnswersOf loopsRows R (tableDoor R)
 
--- an answer that is a definition's is a refusal when that is
-by-answer : {A : Type 0} (refused : Refusal → A) (condition : Refusal → Type 0) (r v : A) → r ≡ v → Exactly refused condition v → Exactly refused condition r
-by-answer refused condition r v e h = subst (Exactly refused condition) (sym e) h
+-- nothing is lent
+abbrev pub Nothing : {A : Type 0} → A → Type 0
+Nothing x = Unit {0}
 
-by-check : (c : Checked) (condition : Refusal → Type 0) → Exactly check.Refused condition c → Exactly need.Refused condition (needOf c)
-by-check c condition h q = (λ e. h q .0 (need-refused c q .0 e), λ x. need-refused c q .1 (h q .1 x))
+-- ---- what is lent: as it was; or with what was put in front, and the rest as it was
 
--- what the outcome of a run is, as answer and as store
-module _ (cells cells′ : List ℤ) (bytes bytes′ : List ℕ) (a : AllBytes bytes) (a′ : AllBytes bytes′) (r : Ran)
-    (f : frameOf cells′ bytes′ ≡ frameOf cells bytes) (o : Outcome) (e : outcome r (storeOf cells′ bytes′) ≡ o) where
-  run-kept : ((q : Refusal) → o .answer ≡ ran.Refused q → o .store ≡ storeOf cells bytes)
-      → WhereRefused ran.Refused r ((cells′ ≡ cells) × (bytes′ ≡ bytes))
-  run-kept h q g =
-      store-same cells cells′ bytes bytes′ a a′ f
-      (ap (λ (x : Outcome). x .store) e ∙ h q (sym (ap (λ (x : Outcome). x .answer) e) ∙ g))
+abbrev pub TableKept : List ℕ → List ℕ → List ℤ → List ℤ → Type 0
+TableKept kinds kinds′ numbers numbers′ = (kinds′ ≡ kinds) × (numbers′ ≡ numbers)
 
-  run-judged : (condition : Refusal → Type 0) → Exactly ran.Refused condition (o .answer)
-      → ((q : Refusal) → o .answer ≡ ran.Refused q → o .store ≡ storeOf cells bytes)
-      → Exactly ran.Refused condition r × WhereRefused ran.Refused r ((cells′ ≡ cells) × (bytes′ ≡ bytes))
-  run-judged condition x h = (by-answer ran.Refused condition r (o .answer) (ap (λ (y : Outcome). y .answer) e) x, run-kept h)
+abbrev pub TableLeft : List Row → List ℕ → List ℕ → List ℤ → List ℤ → Type 0
+TableLeft R kinds kinds′ numbers numbers′ =
+    (kinds′ ≡ kindsOf R ++ drop (length R) kinds) × (numbers′ ≡ numbersOf R ++ drop (length R) numbers)
 
-pub demand-1 : Demand1
-unfolding runText runTable
-demand-1 = record {
-  check-plan = λ t r e. by-answer plan.Refused _ r _ e (plans.text-refused words t);
-  read-plan = λ t k k′ n n′ r I. (
-    by-answer read.Refused _ r _ (I .answer) (plan-table-refused t (length k) (length n)),
-    λ q e. let J = subst (λ (x : Reading). PlanInto words t k n x k′ n′) e I in (J .kinds-left, J .numbers-left),
-  );
-  translate-rows = λ t k k′ n n′ r I. (
-    by-answer make.Refused _ r _ (I .answer) (translate.table-refused words t (length k) (length n)),
-    λ q e.
-        translate.table-kept t k k′ n n′ q (subst (λ (x : Made). RowsInto (makeText words t) (rowsMade words t) k n x k′ n′) e I),
-  );
-  translate-text = λ t u u′ r I. (
-    by-answer print.Refused _ r _ (I .answer) (translate.text-refused words t (length u)),
-    λ q e. translate.text-kept t u u′ q (subst (λ (x : Printing). TextInto words (makeText words t) (rowsMade words t) u x u′) e I),
-  );
-  check-loops = λ t r e. by-answer check.Refused _ r _ e (text-refused-exactly words t);
-  check-table = λ R r e. by-answer check.Refused _ r _ e (table-refused-exactly R);
-  need-loops = λ t r e. by-answer need.Refused _ r _ e (by-check (checkLoopsText words t) _ (text-refused-exactly words t));
-  read-loops = λ t k k′ n n′ r I. (
-    by-answer read.Refused _ r _ (I .answer) (put-refused-exactly words t (length k) (length n)),
-    λ q e. let J = subst (λ (x : Reading). LoopsInto words t k n x k′ n′) e I in (J .kinds-left, J .numbers-left),
-  );
-  run-text = λ t order c c′ b b′ r a a′ f e.
-      run-judged c c′ b b′ a a′ r f _ e _
-      (run-refused (loopsIn t) order (storeOf c b) (FirstNoOfText words t) (checkLoopsText words t) (text-refused-exactly words t))
-      (run.text-kept words t order (storeOf c b));
-  run-rows = λ R order c c′ b b′ r a a′ f e.
-      run-judged c c′ b b′ a a′ r f _ e _
-      (run-refused (loopsOf R) order (storeOf c b) (FirstNoOfTable R) (checkTable R) (table-refused-exactly R))
-      (run.table-kept R order (storeOf c b));
-  fill = λ t n s s′ r I. (
-    by-answer read.Refused _ r _ (I .answer) (filling-refused t n (length s)),
-    λ q e. subst (λ (x : Reading). FillInto words t n s x s′) e I .store-left,
-  );
-}
+abbrev pub TextLeft : {A : Type 0} → List A → List A → List A → Type 0
+TextLeft text lent lent′ = lent′ ≡ text ++ drop (length text) lent
+
+-- a store of cells and bytes, once the loops L have been run in the order named
+abbrev pub StoreLeft : ℕ → List ℤ → List ℕ → List ℤ → List ℕ → Loops → Type 0
+StoreLeft order cells bytes cells′ bytes′ L =
+    (storeOf cells′ bytes′ ≡ runInOrder order L (storeOf cells bytes) .store) × (frameOf cells′ bytes′ ≡ frameOf cells bytes)
+
+abbrev pub writesMade : ℕ → List ℤ → List ℕ → Loops → ℕ
+writesMade order cells bytes L = runInOrder order L (storeOf cells bytes) .writes
+
+-- ---- what the programs print
+
+-- [11.8] a refusal's line, `no,number,line`
+abbrev pub ShowsRefusal : Told → List ℕ → Type 0
+ShowsRefusal told text = (q : Refusal) × (told ≡ refusal q) × (text ≡ refusalLine q)
+
+-- [11.6] [11.7] The run of the loops L in order 0, on the store s with the values v in its input cells: the store left, and the output
+-- cells and writes as a text.
+abbrev pub ShowsRun : List (List ℕ) → List ℕ → List ℤ → List ℤ → List ℕ → Loops → Type 0
+ShowsRun ws v s s′ text L =
+    let end = runInOrder 0 L (withValues ws v (allCells (L .inputs)) s) in
+    (s′ ≡ end .store) × (text ≡ finishedText (outputCells L (end .store)) (end .writes))
+
+-- ---- the entries
+
+-- ws is the table of words that texts are read and printed with.
+pub record Demand1 (ws : List (List ℕ)) : Type 0 where
+  -- `plans::check_text`, `plans::read_text`
+  pub check-plan : (t : List ℕ) (r : Answer) → ChecksPlan ws t r
+      → OfPlan ws t planQuestions (λ P. length (textRows ws t)) (Unit {0}) Nothing (toldAnswer r)
+  pub read-plan : (t k k′ : List ℕ) (n n′ : List ℤ) (r : Reading) → ReadsPlan ws t k n r k′ n′
+      → OfPlan ws t (λ P. planQuestions P ++ tableRoom (length (textRows ws t)) (length k) (length n)) (λ P. length (textRows ws t))
+      (TableKept k k′ n n′) (λ P. TableLeft (textRows ws t) k k′ n n′) (toldReading r)
+  -- `translate::translate_rows`, `translate::translate_text`
+  pub translate-rows : (t k k′ : List ℕ) (n n′ : List ℤ) (r : Made) → TranslatesRows ws t k n r k′ n′
+      → OfPlan ws t (λ P. planQuestions P ++ (madeQuestions P ++ tableRoom (length (madeRows P)) (length k) (length n))) (λ P. length (madeRows P))
+      (TableKept k k′ n n′) (λ P. TableLeft (madeRows P) k k′ n n′) (toldMade r)
+  pub translate-text : (t u u′ : List ℕ) (r : Printing) → TranslatesText ws t u r u′
+      → OfPlan ws t (λ P. planQuestions P ++ (madeQuestions P ++ textRoom (textOf ws (madeRows P)) (length u)))
+      (λ P. length (textOf ws (madeRows P))) (u′ ≡ u) (λ P. TextLeft (textOf ws (madeRows P)) u u′) (toldPrinting r)
+  -- `loops::check_text`, `loops::check_table`: their writes, and their need
+  pub check-loops : (t : List ℕ) (r : Checked) → ChecksLoops ws t r
+      → OfLoops ws t loopsQuestions (λ L. commandWrites (L .command)) (Unit {0}) Nothing (toldWrites r)
+      × OfLoops ws t loopsQuestions need (Unit {0}) Nothing (toldNeed r)
+  pub check-table : (k : List ℕ) (n : List ℤ) (r : Checked) → ChecksTable k n r
+      → OfTable (rowsOf k n) loopsQuestions (λ L. commandWrites (L .command)) (Unit {0}) Nothing (toldWrites r)
+      × OfTable (rowsOf k n) loopsQuestions need (Unit {0}) Nothing (toldNeed r)
+  -- `loops::need_text`, `loops::read_text`
+  pub need-loops : (t : List ℕ) (r : Needed) → TellsNeed ws t r → OfLoops ws t loopsQuestions need (Unit {0}) Nothing (toldNeeded r)
+  pub read-loops : (t k k′ : List ℕ) (n n′ : List ℤ) (r : Reading) → ReadsLoops ws t k n r k′ n′
+      → OfLoops ws t (λ L. loopsQuestions L ++ tableRoom (length (textRows ws t)) (length k) (length n)) (λ L. length (textRows ws t))
+      (TableKept k k′ n n′) (λ L. TableLeft (textRows ws t) k k′ n n′) (toldReading r)
+  -- `run::run_text`, `run::run_rows`, on a store of cells c and bytes b
+  pub run-text : (t : List ℕ) (order : ℕ) (c c′ : List ℤ) (b b′ : List ℕ) (r : Ran) → AllBytes b → AllBytes b′
+      → KeepsFrame c b c′ b′ → RunsText ws t order c b r c′ b′
+      → OfLoops ws t (λ L. loopsQuestions L ++ runQuestions order (length (storeOf c b)) L) (writesMade order c b)
+      ((c′ ≡ c) × (b′ ≡ b)) (StoreLeft order c b c′ b′) (toldRan r)
+  pub run-rows : (k : List ℕ) (n : List ℤ) (order : ℕ) (c c′ : List ℤ) (b b′ : List ℕ) (r : Ran) → AllBytes b → AllBytes b′
+      → KeepsFrame c b c′ b′ → RunsRows k n order c b r c′ b′
+      → OfTable (rowsOf k n) (λ L. loopsQuestions L ++ runQuestions order (length (storeOf c b)) L) (writesMade order c b)
+      ((c′ ≡ c) × (b′ ≡ b)) (StoreLeft order c b c′ b′) (toldRan r)
+  -- `values::fill`: the first n cells
+  pub fill : (t : List ℕ) (n : ℕ) (s s′ : List ℤ) (r : Reading) → FillsStore ws t n s r s′
+      → Answers (fillQuestions ws t n (length s)) (length (linesOf t)) (s′ ≡ s)
+      (TextLeft (map (valueOf (valueRows ws t)) (upFrom 0 n)) s s′) (toldReading r)
+  -- `programs::translator` and `programs::runner`: the text that the program prints, put into a lent one
+  pub print-loops : (t u u′ : List ℕ) (r : Printing) → PrintsLoops ws t u r u′
+      → (told : Told) × (text : List ℕ) × Answers (textRoom text (length u)) (length text) (u′ ≡ u) (TextLeft text u u′) (toldPrinting r)
+      × OfPlan ws t (λ P. planQuestions P ++ madeQuestions P) (λ P. length (madeRows P)) (ShowsRefusal told text)
+      (λ P. text ≡ textOf ws (madeRows P)) told
+  pub print-run : (t v : List ℕ) (s s′ : List ℤ) (u u′ : List ℕ) (r : Printing) → PrintsRun ws t v s u r s′ u′
+      → (told : Told) × (text : List ℕ) × Answers (outputRoom (length u)) (length text) ((u′ ≡ u) × (s′ ≡ s))
+      (TextLeft text u u′ × OfLoops ws t (λ L. loopsQuestions L ++ (storeRoom (length s) L ++ valuesQuestions ws v (length s) L))
+      (λ L. runInOrder 0 L (withValues ws v (allCells (L .inputs)) s) .writes) (ShowsRefusal told text × (s′ ≡ s)) (ShowsRun ws v s s′ text) told)
+      (toldPrinting r)
+  -- [11.5] `programs::reads_values`: where it says no, loops that walk well have no inputs, so that the values play no part
+  pub values-unread : (t : List ℕ) → SaysValuesRead t false → AllYes (loopsDoor ws t) → (L : Loops) → textRows ws t ≡ loopsRows L → L .inputs ≡ []
+  -- [12.1] to [12.4] The entries for C tell what the library's entries tell: a value below 2^56, or a number and a line. Their stores are
+  -- bytes [9.11].
+  pub check-plan-c : (t : List ℕ) (r : ℕ) → ChecksPlanForC ws t r → ToldToC (ChecksPlan ws t) toldAccepted r
+  pub translate-c : (t u u′ : List ℕ) (r : ℕ) → TranslatesForC ws t u r u′ → ToldToC (λ a. TranslatesText ws t u a u′) toldPrinting r
+  pub check-loops-c : (t : List ℕ) (r : ℕ) → ChecksLoopsForC ws t r → ToldToC (ChecksLoops ws t) toldWrites r
+  pub need-loops-c : (t : List ℕ) (r : ℕ) → TellsNeedForC ws t r → ToldToC (TellsNeed ws t) toldNeeded r
+  pub read-loops-c : (t k k′ : List ℕ) (n n′ : List ℤ) (r : ℕ) → ReadsLoopsForC ws t k n r k′ n′
+      → ToldToC (λ a. ReadsLoops ws t k n a k′ n′) toldReading r
+  pub run-text-c : (t : List ℕ) (order : ℕ) (b b′ : List ℕ) (r : ℕ) → RunsTextForC ws t order b r b′
+      → ToldToC (λ a. RunsText ws t order [] b a [] b′ × KeepsFrame [] b [] b′) toldRan r
+  pub run-rows-c : (k : List ℕ) (n : List ℤ) (order : ℕ) (b b′ : List ℕ) (r : ℕ) → RunsRowsForC k n order b r b′
+      → ToldToC (λ a. RunsRows k n order [] b a [] b′ × KeepsFrame [] b [] b′) toldRan r

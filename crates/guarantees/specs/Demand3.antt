@@ -1,68 +1,98 @@
--- Demand 3, whole: from the plan's text to the last write, for the text that the translator prints and the store that the run is lent.
--- "It is one claim about whole runs, from the plan to the last write, and not one for each term, loop or order."
+-- Demand 3, [9.8]: from a plan's text to the last write, by every way through the entries, on every store, in every order of rounds. It is
+-- one claim about whole runs, and not one for each term, loop or order.
 --
--- It rests on these definitions:
---   translate     TextInto, what `translate_text` promises for every input; makeText, planIn
---   run           runText, what `run_text` promises for every input; finished
---   lines, words  linesOf, rowsIn: a text's rows; words: the table
---   syntax        loopsOf: the loops whose rows these are
---   meaning       RunOf: every order of each `par`'s rounds at each visit; Outcome and planValue of Demand3: the plan's value "as
---                 read from its formulas alone", written without the loops; need, planWrites; and what its Demand3 lists
-use mathlib.Core.Path.{_≡_, sym, ap, subst, _∙_}
-use mathlib.Core.List.{List}
+-- It rests on
+--   Demand2    PlanAccepted: the one plan whose rows the text's lines are; Ways: how loops are had from the text
+--   Runs       IsRun: every run; Permutes: an arbiter that names, at each visit of each `par`, each round once;
+--              runNamed: the run that takes what it names
+--   meaning    planValue: the value, read from the plan's formulas alone; Outcome: what a run must have come to; Shaped; translation,
+--              planWrites, need; and what those are made of
+--   Told       what an entry tells; store: cells and bytes as a store; programs: the lines that the runner prints
+use mathlib.Core.Path.{_≡_}
+use mathlib.Core.List.{List, [], map}
 use Prim.Native.Nat.{ℕ, _≤_}
 use lib.IntN.{ℤ}
 use lib.ListN.{length, take}
-use Rattle.words.specs.Words.{words}
-use Rattle.lines.specs.Reading.{linesOf, rowsIn, headOf}
-use Rattle.lines.specs.declared.Heads.the-variants.{Words}
-use Rattle.lines.specs.declared.Printing.the-variants.{Bytes}
+use Rattle.lines.specs.declared.Printing.{Printing}
+use Rattle.meaning.specs.Types.{cells}
 use Rattle.meaning.specs.Terms.{Plan}
 use Rattle.meaning.specs.Numbers.{clamped32}
-use Rattle.meaning.specs.Loops.{Loops}
-use Rattle.meaning.specs.Layout.{need}
-use Rattle.meaning.specs.Runs.{State, RunOf}
-use Rattle.meaning.specs.Translation.{translation}
-use Rattle.meaning.specs.Demand3.{Outcome}
-use Rattle.meaning.specs.Theorems.{demand-3-on-cells}
-use Rattle.syntax.specs.Reading.{loopsOf}
-use Rattle.syntax.specs.Theorems.{loops-read}
-use Rattle.translate.specs.Entry.{planIn, makeText, rowsMade, TextInto}
-use Rattle.translate.specs.Theorems.{text-put}
-use Rattle.run.specs.Run.{finished, runText}
-use Rattle.interpreter.specs.Orders.{runOf}
-use Rattle.run.specs.Theorems.{run-is-run, text-finished}
+use Rattle.meaning.specs.Values.{flatten}
+use Rattle.meaning.specs.Shapes.{Shaped}
+use Rattle.meaning.specs.Layout.{allCells, need}
+use Rattle.meaning.specs.Runs.{State}
+use Rattle.meaning.specs.Arbiters.{Arbiter}
+use Rattle.meaning.specs.Translation.{planType, translation}
+use Rattle.meaning.specs.Counts.{planWrites}
+use Rattle.meaning.specs.Demand3.{planValue, Outcome}
+use Rattle.typing.specs.Questions.{AllYes}
+use Rattle.loops.specs.declared.Needed.{Needed}
+use Rattle.loops.specs.Contracts.{TellsNeed}
+use Rattle.run.specs.declared.Ran.{Ran}
+use Rattle.run.specs.Contracts.{KeepsFrame, RunsText, RunsRows}
+use Rattle.store.specs.Store.{storeOf, frameOf}
+use Rattle.programs.specs.Runner.{withValues, finishedText}
+use Rattle.programs.specs.Contracts.{PrintsRun}
+use Rattle.vazhdumir.specs.Contracts.{TellsNeedForC, RunsTextForC, RunsRowsForC}
+use Rattle.guarantees.specs.Told.{Told, toldNeeded, toldPrinting, toldRan, toldCode}
+use Rattle.guarantees.specs.Questions.{valuesQuestions, outputRoom}
+use Rattle.guarantees.specs.Runs.{IsRun, Permutes, runNamed}
+use Rattle.guarantees.specs.Ways.{MadeText, MadeTable, Translated}
+use Rattle.guarantees.specs.Demand1.{TextLeft}
+use Rattle.guarantees.specs.Demand2.{PlanAccepted}
 
--- the loops whose rows a text's lines are
-abbrev pub loopsIn : List ℕ → Loops
-loopsIn u = loopsOf (rowsIn (headOf words Words) (linesOf u))
+-- [3.2] how many input cells there are, and those of a store
+abbrev pub inputCount : Plan → ℕ
+inputCount P = allCells (map cells (P .inputs))
 
--- What is promised of a plan P, the loops' text u made from it, and a store s at least as long as the need.
-pub record Delivered (P : Plan) (u : List ℕ) (s : List ℤ) : Type 0 where
-  -- The run ends: there is one.
-  pub ends : (st : State clamped32) × RunOf clamped32 (loopsIn u) s st
-  -- Every run, whatever order each `par` takes at each visit, comes to the outcome: the output cells hold the plan's value, the inputs and
-  -- the cells past the need are as they were, and the writes made are those counted from the plan.
-  pub every : (st : State clamped32) → RunOf clamped32 (loopsIn u) s st → Outcome clamped32 P s st
-  -- What the run entry answers and leaves is such a run: it reports that run's writes.
-  pub entry : (order : ℕ) → order ≤ 2
-      → (st : State clamped32) × RunOf clamped32 (loopsIn u) s st × (runText words u order s ≡ finished st)
+abbrev pub inputCells : Plan → List ℤ → List ℤ
+inputCells P s = take (inputCount P) s
 
--- For every plan's text t that is translated without refusal into a lent text, every store at least as long as the need.
-pub demand-3 : (t lent lent′ : List ℕ) (n : ℕ) → TextInto words (makeText words t) (rowsMade words t) lent (Bytes n) lent′
-    → (s : List ℤ) → need (translation (planIn words t)) ≤ length s
-    → Delivered (planIn words t) (take n lent′) s
-demand-3 t lent lent′ n I s long =
-    let P = planIn words t in
-    let M = text-put t lent lent′ n I in
-    let same : loopsIn (take n lent′) ≡ translation P = ap loopsOf (M .rows) ∙ loops-read (translation P) in
-    let d = demand-3-on-cells P (M .plan .type) (M .plan .well-typed) s long in
-    record {
-      ends = (d .0 .0, subst (λ (L : Loops). RunOf clamped32 L s (d .0 .0)) (sym same) (d .0 .1));
-      every = λ st r. d .1 st (subst (λ (L : Loops). RunOf clamped32 L s st) same r);
-      entry = λ order h. (
-        runOf (loopsIn (take n lent′)) order s,
-        run-is-run (loopsIn (take n lent′)) order s,
-        text-finished words (take n lent′) _ _ order s (M .passes) h long,
-      );
-    }
+-- [9.8] What an entry that ran the loops of P on a store of cells c and bytes b told and left: the writes counted from the plan; output
+-- cells that hold its value; inputs, cells past the need and left-over bytes [9.11] as they were.
+pub record RanRightly (P : Plan) (c : List ℤ) (b : List ℕ) (r : Told) (c′ : List ℤ) (b′ : List ℕ) : Type 0 where
+  pub told : r ≡ Told.value (planWrites P)
+  pub outcome : Outcome clamped32 P (storeOf c b) (record { store = storeOf c′ b′; writes = planWrites P })
+  pub others : frameOf c′ b′ ≡ frameOf c b
+
+-- [11.7] What the runner told and left, lent a text l, of a run of the loops of P that began on the store s: the lines of the plan's value,
+-- and of the writes counted from it.
+abbrev pub PrintedRightly : Plan → List ℤ → List ℕ → Told → List ℤ → List ℕ → Type 0
+PrintedRightly P s l r s′ l′ =
+    let text = finishedText (flatten (planValue clamped32 P s)) (planWrites P) in
+    (r ≡ Told.value (length text)) × TextLeft text l l′ × Outcome clamped32 P s (record { store = s′; writes = planWrites P })
+
+pub record Delivered (ws : List (List ℕ)) (t : List ℕ) (P : Plan) : Type 0 where
+  -- [8.1] The value depends on the numbers in the input cells and on nothing else, and has the shape of its type.
+  pub value-of-inputs : (s s′ : List ℤ) → inputCells P s ≡ inputCells P s′ → planValue clamped32 P s ≡ planValue clamped32 P s′
+  pub value-shaped : (s : List ℤ) → Shaped (planType P) (planValue clamped32 P s)
+  -- [9.5] Whatever order is named at each visit of each `par`, there is the run that takes it; [9.8] on a store of at least the need it
+  -- comes to the outcome; and there is no other run.
+  pub run-taken : (π : Arbiter) → Permutes π → (s : List ℤ) → IsRun (translation P) s (runNamed π (translation P) s)
+  pub run-outcome : (π : Arbiter) → Permutes π → (s : List ℤ) → need (translation P) ≤ length s
+      → Outcome clamped32 P s (runNamed π (translation P) s)
+  pub no-other-run : (s : List ℤ) (st : State clamped32) → IsRun (translation P) s st
+      → (π : Arbiter) × Permutes π × (st ≡ runNamed π (translation P) s)
+  -- [7.4] That need is what the need entries tell.
+  pub need-told : (u : List ℕ) → MadeText ws t u → (r : Needed) → TellsNeed ws u r → toldNeeded r ≡ Told.value (need (translation P))
+  pub need-told-c : (u : List ℕ) → MadeText ws t u → (r : ℕ) → TellsNeedForC ws u r → toldCode r ≡ Told.value (need (translation P))
+  -- [9.10] Each run entry, on every store of at least the need, in each order that can be named.
+  pub text-run : (u : List ℕ) → MadeText ws t u → (order : ℕ) → order ≤ 2 → (c c′ : List ℤ) (b b′ : List ℕ) (r : Ran)
+      → need (translation P) ≤ length (storeOf c b) → KeepsFrame c b c′ b′ → RunsText ws u order c b r c′ b′
+      → RanRightly P c b (toldRan r) c′ b′
+  pub table-run : (k : List ℕ) (n : List ℤ) → MadeTable ws t k n → (order : ℕ) → order ≤ 2 → (c c′ : List ℤ) (b b′ : List ℕ) (r : Ran)
+      → need (translation P) ≤ length (storeOf c b) → KeepsFrame c b c′ b′ → RunsRows k n order c b r c′ b′
+      → RanRightly P c b (toldRan r) c′ b′
+  pub text-run-c : (u : List ℕ) → MadeText ws t u → (order : ℕ) → order ≤ 2 → (b b′ : List ℕ) (r : ℕ)
+      → need (translation P) ≤ length (storeOf [] b) → RunsTextForC ws u order b r b′ → RanRightly P [] b (toldCode r) [] b′
+  pub table-run-c : (k : List ℕ) (n : List ℤ) → MadeTable ws t k n → (order : ℕ) → order ≤ 2 → (b b′ : List ℕ) (r : ℕ)
+      → need (translation P) ≤ length (storeOf [] b) → RunsRowsForC k n order b r b′ → RanRightly P [] b (toldCode r) [] b′
+  -- The runner, on a store of at least the need, lent room enough and values that pass.
+  pub printed-run : (u : List ℕ) → MadeText ws t u → (v : List ℕ) (s s′ : List ℤ) (l l′ : List ℕ) (r : Printing) → PrintsRun ws u v s l r s′ l′
+      → AllYes (outputRoom (length l)) → need (translation P) ≤ length s → AllYes (valuesQuestions ws v (length s) (translation P))
+      → PrintedRightly P (withValues ws v (inputCount P) s) l (toldPrinting r) s′ l′
+
+-- [9.8] For every plan's text that is translated without refusal there is one plan whose rows are the text's, it is well typed within the
+-- limits, and of it all that holds.
+abbrev pub Demand3 : List (List ℕ) → Type 0
+Demand3 ws = (t : List ℕ) → Translated ws t → (P : Plan) × PlanAccepted ws t P × Delivered ws t P

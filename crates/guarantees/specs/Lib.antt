@@ -1,13 +1,21 @@
--- The three demands over the public entries, and the bench cards: document 01, its opening demands and 'Bench cards'.
+-- The three demands over the public entries, and the cards: demand 1 is [10.16], [10.17] and [10.22], demand 2 [10.21], part 6, [1.9] and
+-- [9.9], demand 3 [9.8]; the cards are [15.1] and [15.2].
+-- Numbers in brackets, here and in every file, are those of the rules in docs/REQUIREMENTS.md.
 
--- The definitions that the entries' crates lack: what a reader has to believe
+-- The demands, and the definitions that the crates of the entries lack
+pub mod Told
+pub mod Answers
 pub mod Questions
--- Laws
-pub mod Laws
--- What is proved
+pub mod Runs
+pub mod Ways
 pub mod Demand1
 pub mod Demand2
 pub mod Demand3
+pub mod Demands
+-- Laws, and what is proved
+pub mod Laws
+pub mod Theorems
+-- The cards P1 to P10, computed
 pub mod Cards
 -- Computed tests of the translation, clause by clause, and of the value and the runs
 pub mod Tests

@@ -1,47 +1,118 @@
--- Document 01's questions in order for entries that ask some after another crate's: 12 of a lent table, 13 and 14 of a run, 14 and 15 of
--- values. "in this order; the first "no" gives the number". Definitions only; assumes nothing.
-use mathlib.Core.Bool.{_&&_}
-use mathlib.Core.Path.{_≡_}
+-- The questions of each entry, in the order of [10.16]. Those of lines, rows and types stand in `typing`, 10 and 11 of a plan in
+-- `translate`; here are those of loops, of what is lent, of a run and of values. None of them speaks of a check. ws is the table of words.
+-- Definitions only; assumes nothing.
+use mathlib.Core.Bool.{cond, _&&_}
 use mathlib.Core.List.{List, [], _∷_, _++_}
-use mathlib.Core.Logic.{_⊎_}
-use Prim.Native.Nat.{ℕ}
-use lib.Dec.{leb}
+use Prim.Native.Nat.{ℕ, _+_}
+use lib.Dec.{eqb, leb, ltb}
 use lib.ListN.{length}
-use Rattle.refusals.specs.declared.Refusal.{Refusal}
-use Rattle.refusals.specs.declared.Refusal.the-variants.{LentSize, UnknownOrder, StoreSize, ValueLines}
-use Rattle.words.specs.Words.{words}
-use Rattle.lines.specs.Reading.{headOf, reading, valuesLimits, kindsOf}
-use Rattle.lines.specs.declared.Heads.the-variants.{Cells}
-use Rattle.lines.specs.declared.Reading.the-variants.{Rows, Refused}
-use Rattle.typing.specs.Questions.{Question, question, FirstNo}
-use Rattle.typing.specs.EntryQuestions.{textQuestions}
+use Rattle.refusals.specs.declared.Refusal.the-variants.{LineCount, OffsetBound, WriteCount, LentSize, UnknownOrder, StoreSize, ValueLines}
+use Rattle.words.specs.Kinds.{Row}
+use Rattle.words.specs.declared.Sort.{Sort}
+use Rattle.words.specs.declared.Sort.the-variants as sort
 use Rattle.lines.specs.Lent.{textRows}
-use Rattle.loops.specs.declared.Checked.{Checked}
-use Rattle.loops.specs.declared.Checked.the-variants.{Passes}
+use Rattle.lines.specs.Reading.{headOf, planLimits, loopsLimits, kindsOf}
+use Rattle.lines.specs.declared.Heads.the-variants.{Words, Cells}
+use Rattle.lines.specs.declared.Limits.{Limits}
+use Rattle.meaning.specs.Loops.{Offset, Place, Value, Command, Loops, seq, loop, new}
+use Rattle.meaning.specs.Layout.{allCells, need}
+use Rattle.meaning.specs.Runs.{entry}
+use Rattle.meaning.specs.Rows.{placeRows, valueRows as rowsOfValue, commandRows}
+use Rattle.meaning.specs.Counts.{commandWrites}
+use Rattle.meaning.specs.Limits.{bound, counterBound}
+use Rattle.syntax.specs.Names.{noNames}
+use Rattle.syntax.specs.Operands.{due}
+use Rattle.bounds.specs.Bounds.{everyRowBounded}
+use Rattle.typing.specs.Questions.{Question, question}
+use Rattle.typing.specs.EntryQuestions.{formQuestions, readQuestions, kindQuestions, walkQuestions}
 use Rattle.values.specs.Values.{oneLineEach, valueRows}
 
--- A plan read into a lent table: 1 to 8, then "Has each lent table at least the rows .. that are to be put in it? 12"
-abbrev pub planTableQuestions : List ℕ → ℕ → ℕ → List Question
-planTableQuestions t kinds numbers =
-    textQuestions words t
-    ++ (question (leb (length (textRows words t)) kinds && leb (length (textRows words t)) numbers) LentSize ∷ [])
+-- ---- 1 to 6: a plan's text, a loops' text, a table
 
--- "Order: 0 forward, 1 backward, 2 ..? 13", "Store at least the need? 14"
-abbrev pub runQuestions : ℕ → ℕ → ℕ → List Question
-runQuestions need order cells = question (leb order 2) UnknownOrder ∷ question (leb need cells) StoreSize ∷ []
+-- [10.4] to [10.6], from the top
+abbrev pub rowsDoor : Sort → List Row → List Question
+rowsDoor s R = walkQuestions 0 (due s noNames ∷ []) R
 
--- A run: the first "no" of the check c of loops, or, where they pass and need n cells, of the run's own questions.
-abbrev pub FirstNoOfRun : (Refusal → Type 0) → Checked → ℕ → ℕ → Refusal → Type 0
-FirstNoOfRun ofCheck c order cells q =
-    ofCheck q ⊎ ((w : ℕ) × (n : ℕ) × (c ≡ Passes w n) × FirstNo (runQuestions n order cells) q)
+abbrev pub textDoor : List (List ℕ) → Sort → Limits → List ℕ → List Question
+textDoor ws s limits t = readQuestions (headOf ws Words) limits t ++ rowsDoor s (textRows ws t)
 
--- "Store at least the need? 14" of a store that is to hold n input cells, "Exactly one value line per input cell, and no other line? 15"
-abbrev pub fillQuestions : List ℕ → ℕ → ℕ → List Question
-fillQuestions t n cells =
-    question (leb n cells) StoreSize ∷ question (oneLineEach n (kindsOf (valueRows words t))) ValueLines ∷ []
+abbrev pub planDoor : List (List ℕ) → List ℕ → List Question
+planDoor ws t = textDoor ws sort.Plan planLimits t
 
--- A values file: the first "no" of 1 and 2, or else of these.
-abbrev pub FirstNoOfFilling : List ℕ → ℕ → ℕ → Refusal → Type 0
-FirstNoOfFilling t n cells q =
-    (reading (headOf words Cells) valuesLimits t ≡ Refused q)
-    ⊎ ((m : ℕ) × (reading (headOf words Cells) valuesLimits t ≡ Rows m) × FirstNo (fillQuestions t n cells) q)
+abbrev pub loopsDoor : List (List ℕ) → List ℕ → List Question
+loopsDoor ws t = textDoor ws sort.Loops loopsLimits t
+
+-- a table that was not read from a text: [10.2] of its kinds, [10.3] of its rows
+abbrev pub tableDoor : List Row → List Question
+tableDoor R = kindQuestions 0 R ++ (question (leb (length R) 4096) LineCount ∷ rowsDoor sort.Loops R)
+
+-- ---- 9 and 11: loops
+
+-- [10.9] The offset of a place or a reading on this line, which goes into so many cells; c are the counters' bounds.
+abbrev pub offsetQuestion : (ℕ → ℕ) → ℕ → ℕ → Offset → Question
+offsetQuestion c cells line o = question (everyRowBounded c o && ltb (bound c o) cells) (OffsetBound line)
+
+-- [10.9] In the order of lines: the readings of a value whose first row stands on this line, where the inputs have the cells `ins` and the
+-- regions in force m.
+unfoldable pub valueQuestions : List ℕ → (ℕ → ℕ) → (ℕ → ℕ) → ℕ → Value → List Question
+valueQuestions ins c m line (Value.input k o) = offsetQuestion c (entry ins k) line o ∷ []
+valueQuestions ins c m line (Value.region d o) = offsetQuestion c (m d) line o ∷ []
+valueQuestions ins c m line (Value.literal z) = []
+valueQuestions ins c m line (Value.negate v) = valueQuestions ins c m (line + 1) v
+valueQuestions ins c m line (Value.operation o v w) =
+    valueQuestions ins c m (line + 1) v ++ valueQuestions ins c m (line + (1 + length (rowsOfValue v))) w
+
+abbrev pub placeQuestion : ℕ → (ℕ → ℕ) → (ℕ → ℕ) → ℕ → Place → Question
+placeQuestion out c m line (Place.output o) = offsetQuestion c out line o
+placeQuestion out c m line (Place.region d o) = offsetQuestion c (m d) line o
+
+-- a command whose first row stands on this line, under loops of ns rounds and regions of rs cells, innermost first
+unfoldable pub commandQuestions : List ℕ → ℕ → List ℕ → List ℕ → ℕ → Command → List Question
+commandQuestions ins out ns rs line (Command.assignment p v) =
+    placeQuestion out (counterBound ns) (entry rs) (line + 1) p
+    ∷ valueQuestions ins (counterBound ns) (entry rs) (line + 1 + length (placeRows p)) v
+commandQuestions ins out ns rs line (seq c d) =
+    commandQuestions ins out ns rs (line + 1) c ++ commandQuestions ins out ns rs (line + (1 + length (commandRows c))) d
+commandQuestions ins out ns rs line (loop kind n b) = commandQuestions ins out (n ∷ ns) rs (line + 1) b
+commandQuestions ins out ns rs line (new n b) = commandQuestions ins out ns (n ∷ rs) (line + 1) b
+
+-- The command stands behind the first row and the `cells` rows of inputs and output. Behind its offsets come the writes: [10.11], [13.15].
+unfoldable pub loopsQuestions : Loops → List Question
+loopsQuestions L =
+    commandQuestions (L .inputs) (L .output) [] [] (3 + length (L .inputs)) (L .command)
+    ++ (question (leb (commandWrites (L .command)) 16777216) WriteCount ∷ [])
+
+-- ---- 12: what is lent
+
+-- [10.12] A lent table of kinds and numbers, and a lent text: is it long enough?
+abbrev pub tableRoom : ℕ → ℕ → ℕ → List Question
+tableRoom rows kinds numbers = question (leb rows kinds && leb rows numbers) LentSize ∷ []
+
+abbrev pub textRoom : List ℕ → ℕ → List Question
+textRoom text bytes = question (leb (length text) bytes) LentSize ∷ []
+
+-- ---- 13 and 14: a run; 14 and 15: values
+
+-- [10.13] the order, and [10.14] the store
+abbrev pub runQuestions : ℕ → ℕ → Loops → List Question
+runQuestions order cells L = question (leb order 2) UnknownOrder ∷ question (leb (need L) cells) StoreSize ∷ []
+
+-- [10.14] alone
+abbrev pub storeRoom : ℕ → Loops → List Question
+storeRoom cells L = question (leb (need L) cells) StoreSize ∷ []
+
+-- [10.16] The text of values, [10.1] with the limit of [13.3], and [10.2]; [10.14] of a store that is to hold n input cells; and [10.15].
+abbrev pub fillQuestions : List (List ℕ) → List ℕ → ℕ → ℕ → List Question
+fillQuestions ws t n cells =
+    formQuestions (headOf ws Cells) 65536 t
+    ++ (question (leb n cells) StoreSize ∷ question (oneLineEach n (kindsOf (valueRows ws t))) ValueLines ∷ [])
+
+-- ---- the runner
+
+-- [11.5] Loops without inputs need no values.
+abbrev pub valuesQuestions : List (List ℕ) → List ℕ → ℕ → Loops → List Question
+valuesQuestions ws v cells L = cond (eqb (allCells (L .inputs)) 0) [] (fillQuestions ws v (allCells (L .inputs)) cells)
+
+-- [11.9] 12, first of all: is there room for the longest output [13.17]?
+abbrev pub outputRoom : ℕ → List Question
+outputRoom bytes = question (leb 69648 bytes) LentSize ∷ []

@@ -1,6 +1,6 @@
--- Computed tests of the definitions of `meaning`: document 01's example P1 row by row, P2 and P7 run in all three orders, each clause of the
--- translation, and the cards on types, need and limits. Rows are compared as text, so that they stand here as
--- document 01 prints them.
+-- Computed tests of the definitions of `meaning`: the card P1 row by row, P2 and P7 run in all three orders, each clause of the
+-- translation, and the cards on types, need and limits [15.1], [15.2]. Rows are compared as text, so that they stand here as a user
+-- sees them.
 use mathlib.Core.Path.{_≡_, refl}
 use mathlib.Core.List.{List, [], _∷_, _++_, map}
 use mathlib.Core.Option.{none, some}
@@ -58,7 +58,7 @@ listOf l = arrayOf (map (λ n. Datum.number (pos n)) l)
 abbrev total : Term
 total = Term.operation Operation.addition (Term.variable 0) (Term.variable 1)
 
--- P1, the example
+-- [15.1] P1
 
 abbrev P1 : Plan
 P1 = plan (array 2 number ∷ []) (Term.reduce (Term.literal (pos 0)) (Term.input 0) total)
@@ -75,7 +75,7 @@ unfolding _prints_ lined _⌢_ words table textOf written decimal digits lastDig
     translation writeTerm useTerm writeMap useReduce assign useWritten
 p1-loops = refl
 
--- "32 lines, 6 writes, need 5"
+-- [15.1] its lines, writes and need
 p1-counts : (length (loopsRows (translation P1)) ≡ 32) × (planWrites P1 ≡ 6) × (need (translation P1) ≡ 5)
 unfolding need room loopsRows allCellsRows commandRows placeRows valueRows offsetRows
     translation writeTerm useTerm writeMap useReduce assign useWritten
@@ -92,7 +92,7 @@ unfolding runLoops run always forward operate sum clamp room firstRoom secondRoo
     translation writeTerm useTerm writeMap useReduce assign useWritten
 p1-run = refl
 
--- P2: "`split,2` over 10..15, groups summed: 21, 25, 29", in every order that the runner offers
+-- [15.2] P2: the sums of 10 to 15 in groups of 2, in every order that can be named
 
 abbrev P2 : Plan
 P2 =
@@ -119,7 +119,7 @@ unfolding p2-output runLoops run always forward backward evensThenOdds evens odd
     translation writeTerm useTerm writeMap useReduce assign useWritten
 p2-runs = refl
 
--- P7: "total (1,2), body (second, first), one round: (2,1)"
+-- [15.2] P7: the total (1, 2) and its parts exchanged, one round
 
 abbrev P7 : Plan
 P7 =
@@ -145,7 +145,7 @@ p7-run = refl
 
 clauses : List (Plan × String)
 clauses =
-    -- `seq` follows the clauses: a pair in a pair's first part, and a pair total
+    -- [6.16] `seq` follows the clauses: a pair in a pair's first part, and a pair total
     (
       plan [] (Term.pair (Term.pair (Term.literal (pos 1)) (Term.literal (pos 2))) (Term.literal (pos 3))),
       "seq,0 seq,0 set,0 out,0 lit,0 lit,1 set,0 out,0 lit,1 lit,2 set,0 out,0 lit,2 lit,3",
@@ -157,12 +157,12 @@ clauses =
           ⌢ "set,0 loc,0 lit,0 loc,1 lit,0 set,0 loc,0 lit,1 loc,1 lit,1 seq,0 set,0 loc,1 lit,0 loc,0 lit,0"
           ⌢ "set,0 loc,1 lit,1 loc,0 lit,1 seq,0 set,0 out,0 lit,0 loc,0 lit,0 set,0 out,0 lit,1 loc,0 lit,1",
     )
-    -- `plus` joins the sum so far with the next
+    -- [6.20] `plus`: the sum so far, then the next summand
     ∷ (
       plan (array 2 (array 2 (array 2 number)) ∷ []) (Term.index 1 (Term.index 0 (Term.index 1 (Term.input 0)))),
       "set,0 out,0 lit,0 in,0 plus,0 plus,0 times,4 lit,1 times,2 lit,0 times,1 lit,1",
     )
-    -- nothing is simplified: groups of one
+    -- [6.21] nothing is simplified: groups of one
     ∷ (
       plan (array 2 number ∷ []) (Term.index 0 (Term.split 1 (Term.input 0))),
       "par,1 set,0 out,0 times,1 ctr,0 in,0 times,1 plus,0 times,1 lit,0 ctr,0",
@@ -171,7 +171,7 @@ clauses =
       plan (array 2 number ∷ []) (Term.split 1 (Term.input 0)),
       "par,2 set,0 out,0 plus,0 times,1 over,1 ctr,0 times,1 rest,1 ctr,0 in,0 times,1 ctr,0",
     )
-    -- an empty sum is `lit,0`; a first part adds nothing, a second part `lit,f`
+    -- [6.20] a sum of nothing is `lit,0`; [6.18] a first part adds nothing, a second part `lit,f`
     ∷ (
       plan (DataType.pair (DataType.pair number number) number ∷ []) (Term.first (Term.first (Term.input 0))),
       "set,0 out,0 lit,0 in,0 lit,0",
@@ -184,13 +184,13 @@ clauses =
       plan (DataType.pair number (DataType.pair number number) ∷ []) (Term.second (Term.second (Term.input 0))),
       "set,0 out,0 lit,0 in,0 plus,0 lit,1 lit,1",
     )
-    -- the sum goes from outside in
+    -- [6.18] the outermost step first
     ∷ (
       plan (array 2 (DataType.pair number (array 3 number)) ∷ [])
           (Term.index 2 (Term.second (Term.index 1 (Term.input 0)))),
       "set,0 out,0 lit,0 in,0 plus,0 plus,0 times,4 lit,1 lit,1 times,1 lit,2",
     )
-    -- c and f are those of the type as it lies in the store: a `zip` written, and a `zip` read
+    -- [6.19] c and f are those of what is stored: a `zip` written, and a `zip` read
     ∷ (
       plan (array 2 number ∷ array 2 (array 3 number) ∷ []) (Term.zip (Term.input 0) (Term.input 1)),
       "seq,0 par,2 set,0 out,0 times,4 ctr,0 in,0 times,1 ctr,0 par,2 par,3 set,0 out,0 plus,0 plus,0"
@@ -201,7 +201,7 @@ clauses =
           (Term.second (Term.index 1 (Term.zip (Term.input 0) (Term.input 1)))),
       "set,0 out,0 lit,0 in,1 times,1 lit,1",
     )
-    -- the regrouped index goes inside one `times,c`: groups read, and a flattened one read
+    -- [6.22] the regrouped index goes inside one `times,c`: groups read, and a flattened one read
     ∷ (
       plan (array 4 (array 3 number) ∷ []) (Term.index 1 (Term.index 1 (Term.split 2 (Term.input 0)))),
       "par,3 set,0 out,0 times,1 ctr,0 in,0 plus,0 times,3 plus,0 times,2 lit,1 lit,1 times,1 ctr,0",
@@ -211,7 +211,7 @@ clauses =
       "par,3 set,0 out,0 times,1 ctr,0 in,0 plus,0 plus,0 times,6 over,2 lit,3 times,3 rest,2 lit,3"
           ⌢ "times,1 ctr,0",
     )
-    -- n is the group's length: `join` read at an index, `join` written, `split` written
+    -- [6.22] n is the length of a group: `join` read at an index, `join` written, `split` written
     ∷ (
       plan (array 2 (array 3 number) ∷ []) (Term.index 4 (Term.join (Term.input 0))),
       "set,0 out,0 lit,0 in,0 plus,0 times,3 over,3 lit,4 times,1 rest,3 lit,4",
@@ -225,7 +225,7 @@ clauses =
       plan (array 6 number ∷ []) (Term.split 2 (Term.input 0)),
       "par,6 set,0 out,0 plus,0 times,2 over,2 ctr,0 times,1 rest,2 ctr,0 in,0 times,1 ctr,0",
     )
-    -- `split` writes its operand; `fst` uses its operand and assigns the part
+    -- [6.10] `split` writes its operand; [6.11] `fst` uses its operand and assigns the part
     ∷ (
       plan (array 1 (array 4 number) ∷ []) (Term.split 2 (Term.index 0 (Term.input 0))),
       "par,4 set,0 out,0 plus,0 times,2 over,2 ctr,0 times,1 rest,2 ctr,0 in,0 plus,0 times,4 lit,0"
@@ -236,7 +236,7 @@ clauses =
       "par,2 par,2 set,0 out,0 plus,0 times,2 ctr,1 times,1 ctr,0 in,0 times,1 plus,0 times,2 ctr,1"
           ⌢ "ctr,0",
     )
-    -- assign by type: an array of pairs; a `zip` is two writes
+    -- [6.3] an array of pairs is assigned; [6.9] a `zip` is two writes
     ∷ (
       plan (array 2 (DataType.pair number number) ∷ []) (Term.input 0),
       "par,2 seq,0 set,0 out,0 times,2 ctr,0 in,0 times,2 ctr,0 set,0 out,0 plus,0 times,2 ctr,0 lit,1"
@@ -247,13 +247,13 @@ clauses =
       "seq,0 par,2 set,0 out,0 times,2 ctr,0 in,0 times,1 ctr,0 par,2 set,0 out,0 plus,0 times,2 ctr,0"
           ⌢ "lit,1 in,1 times,1 ctr,0",
     )
-    -- an array is assigned by `par`, also in a `mapseq`
+    -- [6.3] an array is assigned by `par`, also in a `mapseq`
     ∷ (
       plan (array 1 (array 2 number) ∷ []) (Term.map LoopKind.sequential (Term.input 0) (Term.variable 0)),
       "for,1 par,2 set,0 out,0 plus,0 times,2 ctr,1 times,1 ctr,0 in,0 plus,0 times,2 ctr,1 times,1"
           ⌢ "ctr,0",
     )
-    -- a reduction uses the array, then the start
+    -- [6.14] a reduction uses the array, then the start
     ∷ (
       plan (array 1 number ∷ [])
           (Term.reduce (Term.reduce (Term.literal (pos 3)) (Term.input 0) (Term.variable 0))
@@ -263,7 +263,7 @@ clauses =
           ⌢ "loc,0 lit,0 loc,1 lit,0 seq,0 for,1 new,1 seq,0 set,0 loc,0 lit,0 loc,1 lit,0 set,0 loc,1 lit,0"
           ⌢ "loc,0 lit,0 set,0 out,0 lit,0 loc,0 lit,0",
     )
-    -- a map used: its `new` first, the array's own regions inside
+    -- [6.13] a map used: its `new` first, the array's own regions inside
     ∷ (
       plan (array 1 number ∷ [])
           (Term.index 0
@@ -272,7 +272,7 @@ clauses =
       "new,1 seq,0 new,1 seq,0 for,1 set,0 loc,0 times,1 ctr,0 lit,1 par,1 set,0 loc,1 times,1 ctr,0"
           ⌢ "lit,2 set,0 out,0 lit,0 loc,0 times,1 lit,0",
     )
-    -- variables are expressions and no copies; operations grow inline
+    -- [6.12] variables are expressions and no copies; [6.6] operations grow inline
     ∷ (
       plan (array 1 number ∷ [])
           (Term.map LoopKind.parallel (Term.input 0)
@@ -281,7 +281,7 @@ clauses =
           (Term.negate (Term.variable 0)))),
       "par,1 set,0 out,0 times,1 ctr,0 mul,0 add,0 in,0 times,1 ctr,0 lit,1 neg,0 in,0 times,1 ctr,0",
     )
-    -- `fst` of a `pair` with a map in it: what is thrown away is still computed
+    -- [6.15] `fst` of a `pair` with a map in it: what is not read is used all the same
     ∷ (
       plan (array 1 number ∷ [])
           (Term.first
@@ -289,24 +289,24 @@ clauses =
           (Term.index 0 (Term.map LoopKind.parallel (Term.input 0) (Term.literal (pos 2)))))),
       "new,1 seq,0 par,1 set,0 loc,0 times,1 ctr,0 lit,2 set,0 out,0 lit,0 lit,1",
     )
-    -- `idx,k` used and written; `neg`
+    -- [6.21] `idx,k` used and written; [6.6] `neg`
     ∷ (
       plan (array 3 number ∷ []) (Term.negate (Term.index 2 (Term.input 0))),
       "set,0 out,0 lit,0 neg,0 in,0 times,1 lit,2",
     )
-    -- `pair` written: first part, then second
+    -- [6.9] `pair` written: first part, then second
     ∷ (
       plan (number ∷ array 2 number ∷ []) (Term.pair (Term.input 0) (Term.input 1)),
       "seq,0 set,0 out,0 lit,0 in,0 lit,0 par,2 set,0 out,0 plus,0 lit,1 times,1 ctr,0 in,1 times,1"
           ⌢ "ctr,0",
     )
-    -- a flattened one read in a map
+    -- [6.22] a flattened one read in a map
     ∷ (
       plan (array 3 (array 2 number) ∷ [])
           (Term.map LoopKind.sequential (Term.join (Term.input 0)) (Term.negate (Term.variable 0))),
       "for,6 set,0 out,0 times,1 ctr,0 neg,0 in,0 plus,0 times,2 over,2 ctr,0 times,1 rest,2 ctr,0",
     )
-    -- an array total
+    -- [6.14] an array total
     ∷ (
       plan (array 2 (array 3 number) ∷ [])
           (Term.reduce (Term.index 0 (Term.input 0)) (Term.input 0) (Term.variable 1)),
@@ -322,14 +322,14 @@ unfolding clauses _prints_ lined _⌢_ words table textOf written decimal digits
     commandRows placeRows valueRows offsetRows translation writeTerm useTerm writeMap useReduce assign useWritten
 clauses-translated = refl
 
--- the head: `cells` of each input, also of one never read, then of the output
+-- [6.1] the head: `cells` of each input, also of one never read, then of the output
 head-translated : loopsRows (translation (plan (array 2 number ∷ DataType.pair number number ∷ []) (Term.literal (pos 7))))
     prints "loops,2 cells,2 cells,2 cells,1 set,0 out,0 lit,0 lit,7"
 unfolding _prints_ lined _⌢_ words table textOf written decimal digits lastDigits
     loopsRows allCellsRows commandRows placeRows valueRows offsetRows translation writeTerm assign
 head-translated = refl
 
--- the start is used and then assigned: a start that is a map costs a region and a copy
+-- [6.14] the start is used and then assigned: a start that is a map costs a region and a copy
 abbrev mapStart : Plan
 mapStart =
     plan (array 3 number ∷ [])
@@ -342,7 +342,7 @@ unfolding need room loopsRows allCellsRows commandRows placeRows valueRows offse
     translation writeTerm useTerm writeMap useReduce assign useWritten
 map-start-counts = (refl, refl, refl)
 
--- variable 0 is the running total, 1 the element
+-- [3.10] variable 0 is the total so far, 1 the element
 total-first : value clamped32 (listOf (5 ∷ 7 ∷ []) ∷ [])
     (Term.reduce (Term.literal (pos 100)) (Term.input 0)
     (Term.operation Operation.subtraction (Term.variable 0) (Term.variable 1))) []
@@ -350,7 +350,7 @@ total-first : value clamped32 (listOf (5 ∷ 7 ∷ []) ∷ [])
 unfolding value operate difference clamp
 total-first = refl
 
--- Types: P3, `split,3` of 7; P4, `idx,1` and `idx,2` of two; `zip` of 3 and 4
+-- [15.2] Types: P3, `split,3` of 7; P4, `idx,1` and `idx,2` of two; `zip` of 3 and 4
 
 types-checked : (infer (array 2 number ∷ []) [] (P1 .term) ≡ some number)
     × (infer (array 7 number ∷ []) [] (Term.split 3 (Term.input 0)) ≡ none)
@@ -360,7 +360,7 @@ types-checked : (infer (array 2 number ∷ []) [] (P1 .term) ≡ some number)
 unfolding infer wellTyped? native.Mathlib.Decide.decLt native.Mathlib.Decide.ℕ-discrete
 types-checked = (refl, refl, refl, refl, refl)
 
--- Limits: P9, 64 × 64 cells pass and 65 × 64 do not; nine levels do not
+-- [15.2] Limits: P9, 64 × 64 cells pass and 65 × 64 do not; nine levels do not
 
 limits-checked : CellsWithin (array 64 (array 64 number))
     × (CellsWithin (array 65 (array 64 number)) → ⊥)
