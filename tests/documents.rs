@@ -1,39 +1,189 @@
-// Checks the examples of the documents with the second implementation: a block `plan` is followed by the block `loops` that is
-// made of it, or a block `plan` or `loops` by the `answer` that refuses it. In a block, lines may stand behind one another.
+// Checks the examples of the documents: blocks that stand behind one another with no line between them are one example. In a block,
+// lines may stand behind one another.
 //
-//   documents FILE..
+//   plan loops             the loops made of the plan; then, with values or without, what the runner prints
+//   plan answer            what the translator prints
+//   loops values printed   what the runner prints; values may be missing
+//   loops answer           what the runner prints without values
+//   plan|loops rows answer a reading into a table of so many rows
+//   plan bytes answer      a translation into a text of so many bytes
+//   loops order answer     a run in this order, on a store of the need
+//   console                commands behind `$ `, each with the lines that it prints
+//   NAME.EXTENSION         a file for the commands: the first word of each line
+//
+// The programs, the library and the second implementation are asked, each that can be. Commands are typed in one folder, from the
+// first page on.
+//
+//   documents TARGET FILE..
+use std::path::{Path, PathBuf};
+use std::process::Command;
+
+#[allow(dead_code)]
+mod entries;
+mod process;
 #[allow(dead_code)]
 mod reference;
 
-// The blocks of a page: their names and their words.
-fn blocks(page: &str) -> Vec<(String, String)> {
-    let mut found = Vec::new();
+use process::output;
+
+// A block: its name and its lines as they stand.
+type Block = (String, Vec<String>);
+
+fn examples(page: &str) -> Vec<Vec<Block>> {
+    let mut found: Vec<Vec<Block>> = Vec::new();
+    let mut joins = false;
     let mut lines = page.lines();
     while let Some(line) = lines.next() {
-        let Some(name) = line.strip_prefix("```") else { continue };
-        let inside: Vec<&str> = lines.by_ref().take_while(|l| *l != "```").flat_map(|l| l.split_whitespace()).collect();
-        found.push((name.to_string(), inside.iter().map(|word| format!("{word}\n")).collect()));
+        let Some(name) = line.strip_prefix("```") else {
+            joins = false;
+            continue;
+        };
+        let inside = lines.by_ref().take_while(|l| *l != "```").map(String::from).collect();
+        if !joins {
+            found.push(Vec::new());
+        }
+        found.last_mut().unwrap().push((name.into(), inside));
+        joins = true;
     }
     found
 }
 
-fn main() {
-    let mut checked = 0;
-    for file in std::env::args().skip(1) {
-        let page = std::fs::read_to_string(&file).unwrap();
-        for pair in blocks(&page).windows(2) {
-            let question = match (pair[0].0.as_str(), pair[1].0.as_str()) {
-                ("plan", "loops") | ("plan", "answer") => "translate",
-                ("loops", "answer") => "loops",
-                _ => continue,
-            };
-            let answer = reference::reply(&[question.into()], pair[0].1.as_bytes());
-            if answer != pair[1].1 {
-                println!("{file}: of\n{}\nit is\n{answer}", pair[0].1);
-                std::process::exit(1);
-            }
-            checked += 1;
+// The words of a block, one a line.
+fn text(block: &Block) -> String {
+    block.1.iter().flat_map(|l| l.split_whitespace()).map(|word| format!("{word}\n")).collect()
+}
+
+fn number(block: &Block) -> usize {
+    text(block).trim_end().parse().unwrap()
+}
+
+fn same(what: &str, of: &str, found: &str, shown: &str) {
+    if found.trim_end() != shown.trim_end() {
+        println!("{what} of\n{}\nis\n{found}\nand not\n{shown}", of.trim_end());
+        std::process::exit(1);
+    }
+}
+
+struct Tester {
+    target: PathBuf,
+    folder: PathBuf,
+    commands: usize,
+}
+
+impl Tester {
+    fn translated(&self, plan: &str, shown: &str) {
+        same("the translation", plan, &reference::reply(&["translate".into()], plan.as_bytes()), shown);
+        same("the translator's answer", plan, &output(Command::new(self.target.join("bin/translator")), plan.as_bytes()), shown);
+    }
+
+    fn ran(&self, loops: &str, values: &str, shown: &str) {
+        same("the run", loops, &reference::runner(loops.as_bytes(), values.as_bytes()), shown);
+        let folder = self.folder.join("run");
+        std::fs::create_dir_all(&folder).unwrap();
+        std::fs::write(folder.join("loops.txt"), loops).unwrap();
+        std::fs::write(folder.join("values.txt"), values).unwrap();
+        let mut runner = Command::new(self.target.join("bin/runner"));
+        runner.current_dir(&folder);
+        same("the runner's answer", loops, &output(runner, b""), shown);
+    }
+
+    // The lines that each command prints; they go up to the next command.
+    fn typed(&mut self, lines: &[String]) {
+        let mut rest = lines;
+        while let Some((first, behind)) = rest.split_first() {
+            let command = first.strip_prefix("$ ").expect("a console begins with a command");
+            let printed = behind.iter().take_while(|l| !l.starts_with("$ ")).count();
+            let mut shell = Command::new("sh");
+            shell.args(["-c", command]).current_dir(&self.folder);
+            same("what is printed", first, &output(shell, b""), &behind[..printed].join("\n"));
+            self.commands += 1;
+            rest = &behind[printed..];
         }
     }
+
+    fn check(&mut self, example: &[Block]) {
+        let names: Vec<&str> = example.iter().map(|b| b.0.as_str()).collect();
+        let first = text(&example[0]);
+        let last = text(&example[example.len() - 1]);
+        match names[..] {
+            ["plan", "answer"] => self.translated(&first, &last),
+            ["plan", "loops"] => self.translated(&first, &last),
+            ["plan", "loops", ..] => {
+                self.translated(&first, &text(&example[1]));
+                self.check(&example[1..]);
+            }
+            ["loops", "answer"] | ["loops", "printed"] => self.ran(&first, "", &last),
+            ["loops", "values", "printed"] => self.ran(&first, &text(&example[1]), &last),
+            ["plan", "rows", "answer"] => same("a table", &first, &reference::read_plan(first.as_bytes(), number(&example[1])), &last),
+            ["loops", "rows", "answer"] => read(&first, number(&example[1]), &last),
+            ["plan", "bytes", "answer"] => lent(&first, number(&example[1]), &last),
+            ["loops", "order", "answer"] => ordered(&first, number(&example[1]) as u32, &last),
+            ["console"] => self.typed(&example[0].1),
+            [name] if name.contains('.') => {
+                let rows = example[0].1.iter().filter_map(|l| l.split_whitespace().next());
+                std::fs::write(self.folder.join(name), rows.map(|row| format!("{row}\n")).collect::<String>()).unwrap();
+            }
+            _ => panic!("no such example: {names:?}"),
+        }
+    }
+}
+
+// Loops read into a table of so many rows.
+fn read(loops: &str, rows: usize, shown: &str) {
+    let (mut kinds, mut numbers) = (vec![0; rows], vec![0; rows]);
+    same("a table", loops, &reference::read_loops(loops.as_bytes(), &mut kinds, &mut numbers), shown);
+    same("a table", loops, &entries::read_loops(loops.as_bytes(), &mut kinds, &mut numbers), shown);
+}
+
+// A plan translated into a text of so many bytes.
+fn lent(plan: &str, bytes: usize, shown: &str) {
+    let made = reference::reply(&["tr".into(), "4096".into(), bytes.to_string()], plan.as_bytes());
+    let wanted = if made.starts_with("no,") { made } else { made.len().to_string() };
+    same("a lent text", plan, &wanted, shown);
+    same("a lent text", plan, &entries::translate(plan.as_bytes(), &mut vec![0; bytes]), shown);
+}
+
+// A run in this order.
+fn ordered(loops: &str, order: u32, shown: &str) {
+    let need: usize = entries::need(loops.as_bytes()).parse().unwrap();
+    same("a run", loops, &reference::run_text(loops.as_bytes(), order, &mut vec![0; 4 * need]), shown);
+    same("a run", loops, &entries::run(loops.as_bytes(), order, &mut vec![0; 4 * need]), shown);
+}
+
+// The words that stand in examples that are run.
+fn words_run(page: &str) -> Vec<String> {
+    let run = |e: &Vec<Block>| e.last().unwrap().0 == "printed";
+    let rows = examples(page).into_iter().filter(run).flatten().flat_map(|b| text(&b).lines().map(String::from).collect::<Vec<_>>());
+    rows.filter_map(|row| Some(row.split_once(',')?.0.to_string())).collect()
+}
+
+fn main() {
+    let args: Vec<String> = std::env::args().collect();
+    let folder = std::env::temp_dir().join(format!("vazhdumir-documents-{}", std::process::id()));
+    std::fs::create_dir_all(&folder).unwrap();
+    let target = Path::new(&args[1]).canonicalize().unwrap();
+    std::os::unix::fs::symlink(&target, folder.join("target")).unwrap();
+    let mut tester = Tester { target, folder, commands: 0 };
+    let mut checked = 0;
+    for file in &args[2..] {
+        let page = std::fs::read_to_string(file).unwrap();
+        let before = tester.commands;
+        for example in examples(&page) {
+            tester.check(&example);
+            checked += 1;
+        }
+        if file.ends_with("README.md") {
+            println!("the walk of {file}: {} commands print what it shows", tester.commands - before);
+        }
+        if file.ends_with("GUIDE.md") {
+            let run = words_run(&page);
+            let missing: Vec<&str> = reference::WORDS.into_iter().filter(|w| !run.iter().any(|r| r == w)).collect();
+            assert!(missing.is_empty(), "{file} has no value for {missing:?}");
+        }
+    }
+    let garage = std::fs::read_to_string(tester.folder.join("garage.plan")).unwrap();
+    same("the garage's plan", "README.md", &garage, &std::fs::read_to_string("examples/garage.plan").unwrap());
+    println!("README.md has the plan of examples/garage.plan");
+    std::fs::remove_dir_all(&tester.folder).unwrap();
     println!("{checked} examples of the documents hold");
 }

@@ -1,28 +1,14 @@
 // The static library beside the second implementation: random plans, whole and damaged, are checked and translated by both; what is
-// translated is run by the library in its three orders on a random store, and the output is compared with the plan's value as the
-// second implementation finds it from the formulas. Damaged loops are checked by both.
+// translated is run by the library in its three orders ([9.10]) on a random store, and the output is compared with the plan's value
+// ([9.8]) as the second implementation finds it from the formulas. Damaged loops are checked by both.
 //
 //   library COUNT
+#[allow(dead_code)]
+mod entries;
+#[allow(dead_code)]
 mod plans;
 #[allow(dead_code)]
 mod reference;
-
-#[link(name = "vazhdumir", kind = "static")]
-extern "C" {
-    fn vazhdumir_check_plan(plan: *const u8, plan_len: usize) -> u64;
-    fn vazhdumir_translate(plan: *const u8, plan_len: usize, loops: *mut u8, loops_len: usize) -> u64;
-    fn vazhdumir_check_loops(loops: *const u8, loops_len: usize) -> u64;
-    fn vazhdumir_need(loops: *const u8, loops_len: usize) -> u64;
-    fn vazhdumir_run(loops: *const u8, loops_len: usize, order: u32, store: *mut u8, store_len: usize) -> u64;
-}
-
-// An answer as the programs print it: the refusal, or the value.
-fn said(answer: u64) -> String {
-    match answer >> 56 {
-        0 => answer.to_string(),
-        number => format!("no,{number},{}", answer & 0x00ff_ffff_ffff_ffff),
-    }
-}
 
 fn reply(question: &str, text: &[u8]) -> String {
     reference::reply(&[question.into()], text).trim_end().into()
@@ -38,14 +24,14 @@ fn same(what: &str, text: &[u8], found: String, wanted: String) {
 // Translates by both, and answers the loops' text, if there is one.
 fn translated(plan: &[u8]) -> Option<Vec<u8>> {
     let mut lent = vec![b'?'; 65536];
-    let bytes = unsafe { vazhdumir_translate(plan.as_ptr(), plan.len(), lent.as_mut_ptr(), lent.len()) };
+    let answer = entries::translate(plan, &mut lent);
     let wanted = reply("translate", plan);
-    if bytes >> 56 != 0 {
-        same("translation", plan, said(bytes), wanted);
+    let Ok(bytes) = answer.parse() else {
+        same("translation", plan, answer, wanted);
         assert!(lent.iter().all(|b| *b == b'?'), "a refusal has changed the lent text");
         return None;
-    }
-    let behind = lent.split_off(bytes as usize);
+    };
+    let behind = lent.split_off(bytes);
     assert!(behind.iter().all(|b| *b == b'?'), "bytes behind the loops have changed");
     same("translation", plan, String::from_utf8_lossy(&lent).trim_end().into(), wanted);
     Some(lent)
@@ -55,8 +41,8 @@ fn translated(plan: &[u8]) -> Option<Vec<u8>> {
 fn run(plan: &[u8], loops: &[u8], numbers: &mut plans::Numbers) {
     let counts = reply("count", plan);
     let counts: Vec<&str> = counts.split_whitespace().collect();
-    let need = unsafe { vazhdumir_need(loops.as_ptr(), loops.len()) } as usize;
-    same("need", plan, need.to_string(), counts[5].into());
+    same("need", plan, entries::need(loops), counts[5].into());
+    let need: usize = counts[5].parse().unwrap();
     let cells: Vec<i32> = (0..need + 3).map(|_| numbers.below(2001) as i32 - 1000).collect();
     let mut before: Vec<u8> = cells.iter().flat_map(|c| c.to_le_bytes()).collect();
     before.extend([7, 8, 9]);
@@ -68,16 +54,14 @@ fn run(plan: &[u8], loops: &[u8], numbers: &mut plans::Numbers) {
     let value: Vec<i32> = value.split_whitespace().map(|v| v.parse().unwrap()).collect();
     for order in 0..3 {
         let mut store = before.clone();
-        let writes = unsafe { vazhdumir_run(loops.as_ptr(), loops.len(), order, store.as_mut_ptr(), store.len()) };
-        same("writes", plan, said(writes), counts[3].into());
+        same("writes", plan, entries::run(loops, order, &mut store), counts[3].into());
         let after: Vec<i32> = store.chunks_exact(4).map(|b| i32::from_le_bytes(b.try_into().unwrap())).collect();
         assert_eq!(after[inputs..inputs + value.len()], value, "order {order} of\n{}", String::from_utf8_lossy(plan));
         assert_eq!(after[..inputs], cells[..inputs], "an input has changed");
         assert_eq!(store[4 * need..], before[4 * need..], "a cell past the need has changed");
     }
     let mut short = before[..4 * need - 1].to_vec();
-    let answer = unsafe { vazhdumir_run(loops.as_ptr(), loops.len(), 0, short.as_mut_ptr(), short.len()) };
-    same("a store too short", plan, said(answer), "no,14,0".into());
+    same("a store too short", plan, entries::run(loops, 0, &mut short), "no,14,0".into());
     assert_eq!(short[..], before[..4 * need - 1], "a refusal has changed the store");
 }
 
@@ -86,18 +70,15 @@ fn main() {
     let (mut texts, mut runs) = (0, 0);
     for seed in 0..count {
         for plan in [plans::plan(seed), plans::damaged(seed)] {
-            let checked = unsafe { vazhdumir_check_plan(plan.as_ptr(), plan.len()) };
-            let accepted = if checked == 0 { "ok".into() } else { said(checked) };
-            same("check of a plan", &plan, accepted, reply("plan", &plan));
+            let checked = entries::check_plan(&plan);
+            same("check of a plan", &plan, if checked == "0" { "ok".into() } else { checked }, reply("plan", &plan));
             texts += 1;
             let Some(loops) = translated(&plan) else { continue };
             let mut numbers = plans::Numbers::new(seed ^ 0xabcd);
             run(&plan, &loops, &mut numbers);
             runs += 3;
             let broken = plans::damage(&loops, &mut numbers);
-            let answer = unsafe { vazhdumir_check_loops(broken.as_ptr(), broken.len()) };
-            let found = if answer >> 56 == 0 { "ok".into() } else { said(answer) };
-            same("check of loops", &broken, found, reply("loops", &broken));
+            same("check of loops", &broken, entries::check_loops(&broken), reference::writes(&broken));
             texts += 1;
         }
     }

@@ -1,5 +1,5 @@
-// Random plans of every shape, the same for the same seed: terms grown from the type that they are to have, and texts damaged in
-// one place.
+// Random plans of every shape, the same for the same seed: terms grown from the type that they are to have; texts damaged in
+// one place, and texts of a given size.
 
 // A generator of numbers (xorshift with a multiplier).
 pub struct Numbers(u64);
@@ -20,7 +20,7 @@ impl Numbers {
         self.next() % n
     }
 
-    fn one_of<'a, T>(&mut self, list: &'a [T]) -> &'a T {
+    pub fn one_of<'a, T>(&mut self, list: &'a [T]) -> &'a T {
         &list[self.below(list.len() as u64) as usize]
     }
 }
@@ -230,7 +230,7 @@ impl Grower {
     }
 }
 
-fn text(rows: &[(&'static str, i64)]) -> Vec<u8> {
+pub fn text(rows: &[(&'static str, i64)]) -> Vec<u8> {
     rows.iter().map(|(word, number)| format!("{word},{number}\n")).collect::<String>().into_bytes()
 }
 
@@ -279,4 +279,13 @@ pub fn damage(whole: &[u8], numbers: &mut Numbers) -> Vec<u8> {
         }
     }
     lines.concat()
+}
+
+// A text of so many bytes: copies of a line, the last of them with zeros behind its number.
+pub fn filled(size: usize, line: &str) -> Vec<u8> {
+    let mut text = line.repeat(size / line.len()).into_bytes();
+    text.pop();
+    text.resize(size - 1, b'0');
+    text.push(b'\n');
+    text
 }

@@ -1,21 +1,17 @@
-// From a plan's text to the amperes: random plans go through the translator and the runner, and what the runner prints is compared
-// with the plan's value and writes as the second implementation finds them from the formulas.
+// From a plan's text to the amperes: random plans go through the translator and the runner, and what the runner prints ([11.7]) is
+// compared with the plan's value and writes ([9.8]) as the second implementation finds them from the formulas.
 //
 //   runner TRANSLATOR RUNNER COUNT
-use std::io::Write;
 use std::path::Path;
-use std::process::{Command, Stdio};
+use std::process::Command;
 
 #[allow(dead_code)]
 mod plans;
+mod process;
 #[allow(dead_code)]
 mod reference;
 
-fn output(mut command: Command, text: &[u8]) -> String {
-    let mut child = command.stdin(Stdio::piped()).stdout(Stdio::piped()).spawn().unwrap();
-    let _ = child.stdin.take().unwrap().write_all(text);
-    String::from_utf8(child.wait_with_output().unwrap().stdout).unwrap()
-}
+use process::output;
 
 // How many cells the inputs of loops have.
 fn input_cells(loops: &str) -> usize {

@@ -1,0 +1,360 @@
+// The worked examples, each put to everything that can answer it: the static library, the two programs and the second implementation.
+// Every answer is compared with the stored one. examples/README.md says how an example is written.
+//
+//   examples FOLDER TRANSLATOR RUNNER
+//
+// The second implementation answers every question. Beside it answer:
+//   check      of a plan, vazhdumir_check_plan, and the translator where it asks the same; of loops, vazhdumir_check_loops, and
+//              vazhdumir_need and vazhdumir_read_loops, which refuse alike
+//   read       vazhdumir_check_plan, up to question 12: no entry for C reads a plan into a table
+//   translate  vazhdumir_translate into a text of the bytes lent, then vazhdumir_read_loops into a table of the rows lent; the
+//              translator, if nothing is said to be lent
+//   command    the same, without the head
+//   count      the lines that vazhdumir_translate puts, vazhdumir_check_loops and vazhdumir_need
+//   value      the output cells behind a run of the translated loops, in each of the three orders
+//   need       vazhdumir_need
+//   run        vazhdumir_run, and vazhdumir_read_loops with vazhdumir_run_rows
+//   fill       the runner, of loops that copy the input cells to the output
+//   runner     the runner
+use std::collections::BTreeMap;
+use std::path::{Path, PathBuf};
+use std::process::Command;
+
+#[allow(dead_code)]
+mod entries;
+mod process;
+#[allow(dead_code)]
+mod reference;
+
+use process::output;
+
+// ---- how an example is written
+
+struct Example {
+    name: String,
+    // What is given, and last the question with its answer.
+    lines: Vec<(String, String)>,
+}
+
+impl Example {
+    // What is given under a name; the question is none of that.
+    fn given(&self, name: &str) -> Option<&str> {
+        let given = &self.lines[..self.lines.len() - 1];
+        given.iter().find(|line| line.0 == name).map(|line| line.1.as_str())
+    }
+
+    fn number(&self, name: &str) -> Option<usize> {
+        self.given(name).map(|number| number.parse().unwrap())
+    }
+
+    fn text(&self, name: &str) -> Vec<u8> {
+        text(self.given(name).unwrap())
+    }
+
+    // What is asked, of which text.
+    fn question(&self) -> (&str, &str) {
+        (&self.lines[0].0, &self.lines[self.lines.len() - 1].0)
+    }
+
+    fn answer(&self) -> &str {
+        &self.lines[self.lines.len() - 1].1
+    }
+
+    fn store(&self) -> Vec<u8> {
+        match self.given("store bytes") {
+            Some(bytes) => bytes.split_whitespace().map(|byte| u8::from_str_radix(byte, 16).unwrap()).collect(),
+            None => stored(&cells(self.given("store").unwrap())),
+        }
+    }
+
+    // The store as the example shows it: by cells or by bytes.
+    fn shown(&self, store: &[u8]) -> String {
+        if self.given("store bytes").is_some() { joined(store.iter().map(|byte| format!("{byte:02x}"))) } else { joined(held(store)) }
+    }
+}
+
+fn examples(section: &str, page: &str) -> Vec<Example> {
+    let mut found: Vec<Example> = Vec::new();
+    for line in page.lines().filter(|line| !line.is_empty() && !line.starts_with('#')) {
+        if !line.starts_with(' ') {
+            found.push(Example { name: format!("{section}/{line}"), lines: Vec::new() });
+            continue;
+        }
+        let lines = &mut found.last_mut().unwrap().lines;
+        if line.starts_with("    ") {
+            lines.last_mut().unwrap().1 += &line[3..];
+        } else {
+            let (name, rest) = line.split_once(':').unwrap();
+            lines.push((name.trim().into(), rest.trim().into()));
+        }
+    }
+    found
+}
+
+// One line of a text, `""` and `\x20` written out.
+fn line(written: &str) -> Vec<u8> {
+    let mut parts = written.trim_matches('"').split("\\x");
+    let mut bytes = parts.next().unwrap().as_bytes().to_vec();
+    for part in parts {
+        bytes.push(u8::from_str_radix(&part[..2], 16).unwrap());
+        bytes.extend(part[2..].bytes());
+    }
+    bytes.push(b'\n');
+    bytes
+}
+
+fn text(written: &str) -> Vec<u8> {
+    let (lines, ended) = written.strip_suffix(" $").map_or((written, true), |lines| (lines, false));
+    let (mut bytes, mut bracket) = (Vec::new(), 0);
+    for word in lines.replace('(', "( ").replace(')', " )").split_whitespace() {
+        let (row, times) = word.split_once('*').map_or((word, 1), |(row, times)| (row, times.parse().unwrap()));
+        match row {
+            "(" => bracket = bytes.len(),
+            ")" => {
+                let inside = bytes.split_off(bracket);
+                bytes.extend(inside.repeat(times));
+            }
+            _ => bytes.extend(line(row).repeat(times)),
+        }
+    }
+    if !ended {
+        bytes.pop();
+    }
+    bytes
+}
+
+fn cells(written: &str) -> Vec<i32> {
+    written.split_whitespace().map(|cell| cell.parse().unwrap()).collect()
+}
+
+fn stored(cells: &[i32]) -> Vec<u8> {
+    cells.iter().flat_map(|cell| cell.to_le_bytes()).collect()
+}
+
+fn held(store: &[u8]) -> Vec<i32> {
+    store.chunks_exact(4).map(|four| i32::from_le_bytes(four.try_into().unwrap())).collect()
+}
+
+fn joined<T: ToString>(parts: impl IntoIterator<Item = T>) -> String {
+    parts.into_iter().map(|part| part.to_string()).collect::<Vec<_>>().join(" ")
+}
+
+// ---- the static library
+
+fn refused(answer: &str) -> bool {
+    answer.starts_with("no,")
+}
+
+// The refusal, or `ok`.
+fn accepted(answer: String) -> String {
+    if refused(&answer) { answer } else { "ok".into() }
+}
+
+// An answer that several entries give; all of them, where they differ.
+fn alike(mut answers: Vec<String>) -> String {
+    answers.dedup();
+    answers.join(" or ")
+}
+
+// The loops made from a plan in a text of so many bytes; or the refusal.
+fn made(plan: &[u8], bytes: usize) -> Result<Vec<u8>, String> {
+    let mut lent = vec![b'?'; bytes];
+    let answer = entries::translate(plan, &mut lent);
+    let put = if refused(&answer) { 0 } else { answer.parse().unwrap() };
+    assert!(lent[put..].iter().all(|byte| *byte == b'?'), "bytes behind the loops have changed");
+    lent.truncate(put);
+    if refused(&answer) { Err(answer) } else { Ok(lent) }
+}
+
+// A text of loops in a table of so many rows; or the refusal.
+fn table(loops: &[u8], rows: usize) -> Result<(Vec<u8>, Vec<i32>), String> {
+    let (mut kinds, mut numbers) = (vec![0; rows], vec![0; rows]);
+    let answer = entries::read_loops(loops, &mut kinds, &mut numbers);
+    if refused(&answer) {
+        return Err(answer);
+    }
+    let put = answer.parse().unwrap();
+    Ok((kinds[..put].to_vec(), numbers[..put].to_vec()))
+}
+
+fn translate(example: &Example) -> Result<String, String> {
+    let loops = made(&example.text("plan"), example.number("lent bytes").unwrap_or(65536))?;
+    table(&loops, example.number("lent rows").unwrap_or(4096))?;
+    Ok(String::from_utf8(loops).unwrap())
+}
+
+fn count(plan: &[u8]) -> Result<String, String> {
+    let loops = made(plan, 65536)?;
+    let lines = loops.iter().filter(|byte| **byte == b'\n').count();
+    Ok(format!("lines {lines} writes {} need {}", entries::check_loops(&loops), entries::need(&loops)))
+}
+
+// The output cells of the loops made from a plan; a store that is not clear shows nothing in them.
+fn value(plan: &[u8], inputs: &[i32]) -> Result<String, String> {
+    let loops = made(plan, 65536)?;
+    let head: Vec<usize> = std::str::from_utf8(&loops).unwrap().lines().filter_map(|l| l.split_once(',')?.1.parse().ok()).collect();
+    let need: usize = entries::need(&loops).parse().unwrap();
+    let values = (0..3).map(|order| {
+        let mut store = stored(&[inputs, &vec![-1; need - inputs.len()]].concat());
+        let answer = entries::run(&loops, order, &mut store);
+        if refused(&answer) { answer } else { joined(&held(&store)[inputs.len()..][..head[head[0] + 1]]) }
+    });
+    Ok(alike(values.collect()))
+}
+
+// A run's answer: the writes, and the store at the end; a refusal leaves it as it was.
+fn ran(example: &Example, run: impl Fn(&[u8], u32, &mut [u8]) -> String) -> String {
+    let mut store = example.store();
+    let answer = run(&example.text("loops"), example.given("order").unwrap().parse().unwrap(), &mut store);
+    if !refused(&answer) {
+        return format!("writes {answer} store {}", example.shown(&store));
+    }
+    assert!(store == example.store(), "{}: a refusal has changed the store", example.name);
+    answer
+}
+
+fn run_table(loops: &[u8], order: u32, store: &mut [u8]) -> String {
+    table(loops, 4096).map_or_else(|refusal| refusal, |(kinds, numbers)| entries::run_rows(&kinds, &numbers, order, store))
+}
+
+fn library(example: &Example) -> Option<String> {
+    let either = |answer: Result<String, String>| answer.unwrap_or_else(|refusal| refusal);
+    Some(match example.question() {
+        ("plan", "check") => accepted(entries::check_plan(&example.text("plan"))),
+        ("plan", "read") => Some(entries::check_plan(&example.text("plan"))).filter(|answer| refused(answer))?,
+        ("plan", "translate") => words(&either(translate(example))),
+        ("plan", "command") => command(&either(translate(example))),
+        ("plan", "count") => either(count(&example.text("plan"))),
+        ("plan", "value") => either(value(&example.text("plan"), &cells(example.given("inputs").unwrap_or("")))),
+        ("loops", "check") => {
+            let loops = example.text("loops");
+            let read = table(&loops, 4096).map_or_else(|refusal| refusal, |_| "ok".into());
+            alike(vec![accepted(entries::check_loops(&loops)), accepted(entries::need(&loops)), read])
+        }
+        ("loops", "need") => entries::need(&example.text("loops")),
+        ("loops", "run") => alike(vec![ran(example, entries::run), ran(example, run_table)]),
+        _ => return None,
+    })
+}
+
+// ---- the two programs
+
+struct Programs {
+    translator: PathBuf,
+    runner: PathBuf,
+    folder: PathBuf,
+}
+
+impl Programs {
+    fn translator(&self, plan: &[u8]) -> String {
+        output(Command::new(&self.translator), plan)
+    }
+
+    fn runner(&self, loops: &[u8], values: &[u8]) -> String {
+        std::fs::write(self.folder.join("loops.txt"), loops).unwrap();
+        std::fs::write(self.folder.join("values.txt"), values).unwrap();
+        let mut command = Command::new(&self.runner);
+        command.current_dir(&self.folder);
+        words(&output(command, b""))
+    }
+
+    // The input cells of a values file, by loops that copy them.
+    fn fill(&self, values: &[u8], cells: usize) -> String {
+        let loops = format!("loops,1 cells,{cells} cells,{cells} par,{cells} set,0 out,0 ctr,0 in,0 ctr,0");
+        let printed = self.runner(&text(&loops), values);
+        if refused(&printed) {
+            return printed;
+        }
+        joined(printed.split_whitespace().take(cells).map(|line| line.split_once(',').unwrap().1))
+    }
+
+    fn answer(&self, example: &Example) -> Option<String> {
+        Some(match example.question() {
+            ("plan", "check") => {
+                let printed = words(&self.translator(&example.text("plan")));
+                if ["no,10,0", "no,11,0"].contains(&printed.as_str()) { "ok".into() } else { accepted(printed) }
+            }
+            ("plan", "translate") if example.given("lent rows").is_none() => words(&self.translator(&example.text("plan"))),
+            ("plan", "command") => command(&self.translator(&example.text("plan"))),
+            ("values", "fill") => self.fill(&example.text("values"), example.number("input cells").unwrap()),
+            ("loops", "runner") => self.runner(&example.text("loops"), &example.text("values")),
+            _ => return None,
+        })
+    }
+}
+
+// Lines with blanks between them.
+fn words(lines: &str) -> String {
+    joined(lines.split_whitespace())
+}
+
+// Loops without their head.
+fn command(loops: &str) -> String {
+    joined(loops.split_whitespace().filter(|line| !line.starts_with("loops,") && !line.starts_with("cells,")))
+}
+
+// ---- the second implementation
+
+fn second(example: &Example) -> String {
+    let (of, asked) = example.question();
+    let given = |name: &str| example.given(name).unwrap_or("").replace(' ', ",");
+    let reply = |question: &[&str]| {
+        let question: Vec<String> = question.iter().map(|word| word.to_string()).collect();
+        words(reference::reply(&question, &example.text(of)).trim_start_matches("ok "))
+    };
+    match asked {
+        "check" => reply(&[of]),
+        "read" => reply(&["read", &given("lent rows")]),
+        "translate" if example.given("lent rows").is_some() => reply(&["tr", &given("lent rows"), &given("lent bytes")]),
+        "translate" | "count" | "need" => reply(&[asked]),
+        "command" => command(&reply(&["translate"])),
+        "value" => reply(&["value", &given("inputs")]),
+        "run" => ran(example, reference::run_text),
+        "fill" => reply(&["values", &given("input cells")]),
+        "runner" => words(&reference::runner(&example.text("loops"), &example.text("values"))),
+        _ => panic!("{}: nobody answers {asked}", example.name),
+    }
+}
+
+fn read(folder: &str) -> Vec<Example> {
+    let mut pages: Vec<PathBuf> = std::fs::read_dir(folder).unwrap().map(|entry| entry.unwrap().path()).collect();
+    pages.retain(|page| page.extension().is_some_and(|ending| ending == "txt"));
+    pages.sort();
+    let section = |page: &PathBuf| examples(page.file_stem().unwrap().to_str().unwrap(), &std::fs::read_to_string(page).unwrap());
+    pages.iter().flat_map(section).collect()
+}
+
+fn main() {
+    let args: Vec<String> = std::env::args().collect();
+    let folder = std::env::temp_dir().join(format!("vazhdumir-examples-{}", std::process::id()));
+    std::fs::create_dir_all(&folder).unwrap();
+    let program = |name: &str| Path::new(name).canonicalize().unwrap();
+    let programs = Programs { translator: program(&args[2]), runner: program(&args[3]), folder };
+    let examples = read(&args[1]);
+    let (mut kinds, mut answered, mut differ) = (BTreeMap::<_, u64>::new(), [0; 3], 0);
+    for example in &examples {
+        let answers = [library(example), programs.answer(example), Some(second(example))];
+        for (i, found) in answers.into_iter().enumerate() {
+            let Some(found) = found else { continue };
+            answered[i] += 1;
+            if found != example.answer() {
+                let who = ["the library", "a program", "the second implementation"][i];
+                println!("{}: {} is stored, but {who} answers {found}", example.name, example.answer());
+                differ += 1;
+            }
+        }
+        *kinds.entry(example.question()).or_default() += 1;
+    }
+    std::fs::remove_dir_all(&programs.folder).unwrap();
+    if differ > 0 {
+        std::process::exit(1);
+    }
+    let kinds: Vec<String> = kinds.iter().map(|((of, asked), count)| format!("{count} {of} {asked}")).collect();
+    let [library, programs, second] = answered;
+    println!(
+        "{} worked examples answered as stored, {library} by the library, {programs} by the programs, {second} by the second \
+         implementation: {}",
+        examples.len(),
+        kinds.join(", ")
+    );
+}

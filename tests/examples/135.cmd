@@ -1,9 +1,0 @@
-plan,1
-arr,1
-num,0
-redseq,0
-pair,0
-lit,1
-lit,2
-in,0
-var,0

@@ -1,9 +1,0 @@
-plan,1
-arr,2
-arr,2
-arr,2
-num,0
-idx,1
-idx,0
-idx,1
-in,0

@@ -1,9 +1,0 @@
-plan,1
-two,0
-two,0
-num,0
-num,0
-num,0
-fst,0
-fst,0
-in,0

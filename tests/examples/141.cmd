@@ -1,9 +1,0 @@
-plan,1
-two,0
-num,0
-two,0
-num,0
-num,0
-snd,0
-snd,0
-in,0

@@ -1,9 +1,0 @@
-plan,2
-arr,2
-num,0
-arr,2
-arr,3
-num,0
-zip,0
-in,0
-in,1

@@ -1,5 +1,0 @@
-plan,1
-arr,6
-num,0
-split,2
-in,0

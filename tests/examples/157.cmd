@@ -1,9 +1,0 @@
-plan,1
-arr,1
-num,0
-idx,0
-mappar,0
-mapseq,0
-in,0
-lit,1
-lit,2

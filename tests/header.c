@@ -1,0 +1,15 @@
+/* The header, twice, in C and in C++: an answer goes by the name of its number. */
+#include "vazhdumir.h"
+#include "vazhdumir.h"
+
+int main(void) {
+    uint64_t answer = vazhdumir_check_plan(0, 0);
+    uint8_t kinds[] = {VAZHDUMIR_WORD_LOOPS, VAZHDUMIR_WORD_CELLS, VAZHDUMIR_WORD_SET,
+                       VAZHDUMIR_WORD_OUT,   VAZHDUMIR_WORD_LIT,   VAZHDUMIR_WORD_LIT};
+    int32_t numbers[] = {0, 1, 0, 0, 0, 258};
+    uint8_t store[4] = {0, 0, 0, 0};
+    if (vazhdumir_refusal(answer) != VAZHDUMIR_REFUSAL_TEXT_FORM || vazhdumir_value(answer) != 0) return 1;
+    if (vazhdumir_run_rows(kinds, 6, numbers, 6, 0, store, 3) >> 56 != VAZHDUMIR_REFUSAL_STORE_SIZE) return 2;
+    if (vazhdumir_run_rows(kinds, 6, numbers, 6, 0, store, 4) != 1) return 3;
+    return store[0] == 2 && store[1] == 1 ? 0 : 4;
+}
