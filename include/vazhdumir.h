@@ -1,20 +1,70 @@
-/* Vazhdumir for firmware: plans, the loops made from them, and their run.
+/* Vazhdumir for firmware: plans, the loops made from them, and their run. Link with libvazhdumir.a (`rt staticlib vazhdumir`).
+ * Numbers in brackets are rules of docs/REQUIREMENTS.md.
  *
- * Link with libvazhdumir.a (`rt staticlib vazhdumir`). Nothing is allocated and nothing is kept between calls. An entry uses the
- * caller's stack, more of it the deeper the rows nest: loops of 4,096 lines, nested 4,091 deep, were checked and run on x86-64 with 2 MiB.
+ * Answers. Every entry answers every input with one 64-bit number [12.2]. If its highest byte is 0, the call did its work, and the rest is the
+ * value named below [12.3], which is always below 2^56. Otherwise the highest byte is the refusal's number (docs/REFUSALS.md) and the rest its
+ * line, and nothing that was lent has changed [10.17]. Which questions are asked, and in what order, says [10.16].
  *
- * Every entry answers every input with one 64-bit number. If its highest byte is 0, the call did its work, and the rest is the
- * value named below. Otherwise the highest byte is the refusal's number (docs/REFUSALS.md) and the rest its line, and nothing that
- * was lent has changed. A slice is a pointer and a count; with count 0 the pointer is not followed. Slices that an
- * entry writes must not overlap any other.
+ * Slices. A slice is a pointer and a count of elements; with count 0 the pointer is not followed [12.4]. Bytes may lie at any address, numbers
+ * where an int32_t may. A slice that an entry writes must not overlap another that the same call is given, nor be used by anyone else
+ * while the call lasts [12.5].
  *
- * A store is bytes, four to a cell, two's complement, lowest byte first. Left-over bytes are no cell and are not touched. The cells
- * of the inputs come first, then those of the output, then those of the regions. */
+ * Store. A store is lent as bytes; each cell is four of them, the lowest first, in two's complement [9.11]. One to three bytes left over are not
+ * touched. The cells of the inputs come first, then those of the output, then those of the regions [7.5].
+ *
+ * Machine. The library is for x86-64, where size_t has 64 bits; of the C library it uses memset alone. Nothing is allocated.
+ *
+ * Stack. An entry uses the caller's, more of it the deeper the rows nest: loops of 4,096 lines, nested 4,091 deep, were checked and run on
+ * x86-64 with 2 MiB.
+ *
+ * Threads and interrupts. Nothing is kept between calls [12.5] and there is no memory but the stack and what is lent, so entries may be called from
+ * several threads at once, and from an interrupt while a call is under way, on slices that do not overlap. An interrupt has to save the SSE
+ * registers, give stack enough, and bear the time: a run may make 16,777,216 writes. */
 #ifndef VAZHDUMIR_H
 #define VAZHDUMIR_H
 
 #include <stddef.h>
 #include <stdint.h>
+
+#if SIZE_MAX < UINT64_MAX
+#error "vazhdumir: size_t must have 64 bits"
+#endif
+
+#ifdef __cplusplus
+extern "C" {
+#endif
+
+/* The numbers of the refusals. */
+enum vazhdumir_refusal_number {
+    VAZHDUMIR_REFUSAL_TEXT_FORM = 1,          /* the text is empty, too long, or its last byte is no line feed */
+    VAZHDUMIR_REFUSAL_LINE_FORM = 2,          /* a line is badly written */
+    VAZHDUMIR_REFUSAL_LINE_COUNT = 3,         /* too many lines */
+    VAZHDUMIR_REFUSAL_ROW_DUE = 4,            /* a row is not due, or one is missing */
+    VAZHDUMIR_REFUSAL_NUMBER_RANGE = 5,       /* a number is out of range */
+    VAZHDUMIR_REFUSAL_NAME_COUNT = 6,         /* too many names in force */
+    VAZHDUMIR_REFUSAL_TYPE_MISFIT = 7,        /* types do not fit */
+    VAZHDUMIR_REFUSAL_TYPE_SIZE = 8,          /* a type is too large */
+    VAZHDUMIR_REFUSAL_OFFSET_BOUND = 9,       /* an offset may go too far */
+    VAZHDUMIR_REFUSAL_LOOPS_LENGTH = 10,      /* the loops made are too long */
+    VAZHDUMIR_REFUSAL_WRITE_COUNT = 11,       /* too many writes */
+    VAZHDUMIR_REFUSAL_LENT_SIZE = 12,         /* a lent table or text is too short */
+    VAZHDUMIR_REFUSAL_UNKNOWN_ORDER = 13,     /* an order that has no name */
+    VAZHDUMIR_REFUSAL_STORE_SIZE = 14,        /* the store is too short */
+    VAZHDUMIR_REFUSAL_VALUE_LINES = 15        /* not one line for each input cell */
+};
+
+/* The kinds of rows in a table: a word's place among the 38. */
+enum vazhdumir_kind {
+    VAZHDUMIR_WORD_PLAN = 0, VAZHDUMIR_WORD_NUM = 1, VAZHDUMIR_WORD_ARR = 2, VAZHDUMIR_WORD_TWO = 3, VAZHDUMIR_WORD_IN = 4,
+    VAZHDUMIR_WORD_VAR = 5, VAZHDUMIR_WORD_LIT = 6, VAZHDUMIR_WORD_NEG = 7, VAZHDUMIR_WORD_ADD = 8, VAZHDUMIR_WORD_SUB = 9,
+    VAZHDUMIR_WORD_MUL = 10, VAZHDUMIR_WORD_DIV = 11, VAZHDUMIR_WORD_MIN = 12, VAZHDUMIR_WORD_MAX = 13,
+    VAZHDUMIR_WORD_MAPPAR = 14, VAZHDUMIR_WORD_MAPSEQ = 15, VAZHDUMIR_WORD_REDSEQ = 16, VAZHDUMIR_WORD_ZIP = 17,
+    VAZHDUMIR_WORD_PAIR = 18, VAZHDUMIR_WORD_SPLIT = 19, VAZHDUMIR_WORD_JOIN = 20, VAZHDUMIR_WORD_FST = 21,
+    VAZHDUMIR_WORD_SND = 22, VAZHDUMIR_WORD_IDX = 23, VAZHDUMIR_WORD_LOOPS = 24, VAZHDUMIR_WORD_CELLS = 25,
+    VAZHDUMIR_WORD_SET = 26, VAZHDUMIR_WORD_SEQ = 27, VAZHDUMIR_WORD_FOR = 28, VAZHDUMIR_WORD_PAR = 29, VAZHDUMIR_WORD_NEW = 30,
+    VAZHDUMIR_WORD_OUT = 31, VAZHDUMIR_WORD_LOC = 32, VAZHDUMIR_WORD_CTR = 33, VAZHDUMIR_WORD_PLUS = 34,
+    VAZHDUMIR_WORD_TIMES = 35, VAZHDUMIR_WORD_OVER = 36, VAZHDUMIR_WORD_REST = 37
+};
 
 static inline unsigned vazhdumir_refusal(uint64_t answer) { return (unsigned)(answer >> 56); }
 static inline uint64_t vazhdumir_value(uint64_t answer) { return answer & 0x00ffffffffffffffu; }
@@ -33,16 +83,20 @@ uint64_t vazhdumir_check_loops(const uint8_t *loops, size_t loops_len);
 uint64_t vazhdumir_read_loops(const uint8_t *loops, size_t loops_len, uint8_t *kinds, size_t kinds_len, int32_t *numbers,
                               size_t numbers_len);
 
-/* The cells that a text of loops needs, after the same questions as its check. Value: the cells. */
+/* The cells that a text of loops needs [7.4], after the same questions as its check. Value: the cells. */
 uint64_t vazhdumir_need(const uint8_t *loops, size_t loops_len);
 
-/* Runs a text of loops on a store, every `par` in the order named: 0 forward, 1 backward, 2 the even rounds and then the odd ones.
- * The questions of the check, then 13 and 14. Value: the writes made. For loops that the translator made, the output cells then hold
- * the plan's value, and the input cells and those past the need are as they were. */
+/* Runs a text of loops on a store, every `par` in the order named [9.10]: 0 forward, 1 backward, 2 the even rounds and then the odd
+ * ones. The questions of the check, then 13 and 14. Value: the writes made. For loops that the translator made, the output cells then
+ * hold the plan's value, and the input cells and those past the need are as they were [9.8]. */
 uint64_t vazhdumir_run(const uint8_t *loops, size_t loops_len, uint32_t order, uint8_t *store, size_t store_len);
 
-/* The same on a table of kinds and numbers, whoever made it. */
+/* The same on a table of kinds (enum vazhdumir_kind) and numbers, whoever made it: its kinds are asked question 2, and then 3 to 6. */
 uint64_t vazhdumir_run_rows(const uint8_t *kinds, size_t kinds_len, const int32_t *numbers, size_t numbers_len, uint32_t order,
                             uint8_t *store, size_t store_len);
+
+#ifdef __cplusplus
+}
+#endif
 
 #endif
