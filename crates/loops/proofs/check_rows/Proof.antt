@@ -1,4 +1,4 @@
--- `loops::check_rows` meets its contract: a walk that finds nothing wrong has found the tree that `judge` speaks of.
+-- `loops::check_rows` meets its contract: a walk that finds nothing wrong has found the tree that `check_limits` speaks of.
 use mathlib.Core.Path.{sym, _∙_}
 use borrow.Author.Needs.{needs}
 use Rattle.words.specs.Kinds.{rowsOf}
