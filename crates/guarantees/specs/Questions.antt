@@ -6,12 +6,12 @@ use mathlib.Core.List.{List, [], _∷_, _++_}
 use Prim.Native.Nat.{ℕ, _+_}
 use lib.Dec.{eqb, leb, ltb}
 use lib.ListN.{length}
-use Rattle.refusals.specs.declared.Refusal.the-variants.{LineCount, OffsetBound, WriteCount, LentSize, UnknownOrder, StoreSize, ValueLines}
+use Rattle.refusals.specs.declared.Refusal.the-variants.{LineCount, OffsetBound, LentSize, UnknownOrder, StoreSize, ValueLines}
 use Rattle.words.specs.Kinds.{Row}
 use Rattle.words.specs.declared.Sort.{Sort}
 use Rattle.words.specs.declared.Sort.the-variants as sort
 use Rattle.lines.specs.Lent.{textRows}
-use Rattle.lines.specs.Reading.{headOf, planLimits, loopsLimits, kindsOf}
+use Rattle.lines.specs.Reading.{headOf, planLimits, loopsLimits, valuesLimits, kindsOf}
 use Rattle.lines.specs.declared.Heads.the-variants.{Words, Cells}
 use Rattle.lines.specs.declared.Limits.{Limits}
 use Rattle.meaning.specs.Loops.{Offset, Place, Value, Command, Loops, seq, loop, new}
@@ -23,6 +23,7 @@ use Rattle.meaning.specs.Limits.{bound, counterBound}
 use Rattle.syntax.specs.Names.{noNames}
 use Rattle.syntax.specs.Operands.{due}
 use Rattle.bounds.specs.Bounds.{everyRowBounded}
+use Rattle.translate.specs.Questions.{fewWrites}
 use Rattle.typing.specs.Questions.{Question, question}
 use Rattle.typing.specs.EntryQuestions.{formQuestions, readQuestions, kindQuestions, walkQuestions}
 use Rattle.values.specs.Values.{oneLineEach, valueRows}
@@ -44,7 +45,7 @@ loopsDoor ws t = textDoor ws sort.Loops loopsLimits t
 
 -- a table that was not read from a text: [10.2] of its kinds, [10.3] of its rows
 abbrev pub tableDoor : List Row → List Question
-tableDoor R = kindQuestions 0 R ++ (question (leb (length R) 4096) LineCount ∷ rowsDoor sort.Loops R)
+tableDoor R = kindQuestions 0 R ++ (question (leb (length R) (loopsLimits .lines)) LineCount ∷ rowsDoor sort.Loops R)
 
 -- ---- 9 and 11: loops
 
@@ -80,7 +81,7 @@ commandQuestions ins out ns rs line (new n b) = commandQuestions ins out ns (n �
 unfoldable pub loopsQuestions : Loops → List Question
 loopsQuestions L =
     commandQuestions (L .inputs) (L .output) [] [] (3 + length (L .inputs)) (L .command)
-    ++ (question (leb (commandWrites (L .command)) 16777216) WriteCount ∷ [])
+    ++ (fewWrites (commandWrites (L .command)) ∷ [])
 
 -- ---- 12: what is lent
 
@@ -104,7 +105,7 @@ storeRoom cells L = question (leb (need L) cells) StoreSize ∷ []
 -- [10.16] The text of values, [10.1] with the limit of [13.3], and [10.2]; [10.14] of a store that is to hold n input cells; and [10.15].
 abbrev pub fillQuestions : List (List ℕ) → List ℕ → ℕ → ℕ → List Question
 fillQuestions ws t n cells =
-    formQuestions (headOf ws Cells) 65536 t
+    formQuestions (headOf ws Cells) (valuesLimits .bytes) t
     ++ (question (leb n cells) StoreSize ∷ question (oneLineEach n (kindsOf (valueRows ws t))) ValueLines ∷ [])
 
 -- ---- the runner
