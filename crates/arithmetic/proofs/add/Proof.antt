@@ -14,12 +14,9 @@ cast-clamp-2 c = operand-fits (c .fits .y)
 add-clamp : tie.Need-add-clamp
 add-clamp c = result-fits sum-exact (c .fits .x) (c .fits .y)
 
-clamp-requires : tie.Need-clamp-requires
-clamp-requires c κs = search needs
-
 returns : tie.Need-returns
 unfolding sum
 returns c = result-clamped sum-exact (c .before .fits .x) (c .before .fits .y) (c .clamp .ok) (c .clamp .ensures)
 
 pub add-spec : {M : Type 1} → statement M
-add-spec = tie.close (tie.spec cast-clamp cast-clamp-2 add-clamp clamp-requires returns)
+add-spec = tie.close (tie.spec cast-clamp cast-clamp-2 add-clamp (λ c κs. search needs) returns)

@@ -18,13 +18,10 @@ cast-clamp-2 c = operand-fits (c .before .fits .y)
 div-clamp : tie.Need-div-clamp
 div-clamp c = (divisor-nonzero (c .before .fits .y) (c .if1 .left), result-fits quotient-exact (c .before .fits .x) (c .before .fits .y))
 
-clamp-requires : tie.Need-clamp-requires
-clamp-requires c κs = search needs
-
 returns-2 : tie.Need-returns-2
 returns-2 c =
     result-clamped quotient-exact (c .before .before .fits .x) (c .before .before .fits .y) (c .clamp .ok) (c .clamp .ensures)
     ∙ quotient-by-nonzero _ _ (c .before .if1 .left)
 
 pub div-spec : {M : Type 1} → statement M
-div-spec = tie.close (tie.spec returns cast-clamp cast-clamp-2 div-clamp clamp-requires returns-2)
+div-spec = tie.close (tie.spec returns cast-clamp cast-clamp-2 div-clamp (λ c κs. search needs) returns-2)

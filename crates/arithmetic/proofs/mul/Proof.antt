@@ -14,12 +14,9 @@ cast-clamp-2 c = operand-fits (c .fits .y)
 mul-clamp : tie.Need-mul-clamp
 mul-clamp c = result-fits product-exact (c .fits .x) (c .fits .y)
 
-clamp-requires : tie.Need-clamp-requires
-clamp-requires c κs = search needs
-
 returns : tie.Need-returns
 unfolding product
 returns c = result-clamped product-exact (c .before .fits .x) (c .before .fits .y) (c .clamp .ok) (c .clamp .ensures)
 
 pub mul-spec : {M : Type 1} → statement M
-mul-spec = tie.close (tie.spec cast-clamp cast-clamp-2 mul-clamp clamp-requires returns)
+mul-spec = tie.close (tie.spec cast-clamp cast-clamp-2 mul-clamp (λ c κs. search needs) returns)

@@ -14,9 +14,6 @@ cast-clamp c = operand-fits (c .fits .x)
 sub-clamp : tie.Need-sub-clamp
 sub-clamp c = result-fits difference-exact (sfits-lit {z = pos 0} tt) (c .fits .x)
 
-clamp-requires : tie.Need-clamp-requires
-clamp-requires c κs = search needs
-
 returns : tie.Need-returns
 unfolding negation
 returns c =
@@ -24,4 +21,4 @@ returns c =
     ∙ ap clamp (+ℤ-idl _)
 
 pub neg-spec : {M : Type 1} → statement M
-neg-spec = tie.close (tie.spec cast-clamp sub-clamp clamp-requires returns)
+neg-spec = tie.close (tie.spec cast-clamp sub-clamp (λ c κs. search needs) returns)

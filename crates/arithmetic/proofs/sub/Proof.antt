@@ -14,12 +14,9 @@ cast-clamp-2 c = operand-fits (c .fits .y)
 sub-clamp : tie.Need-sub-clamp
 sub-clamp c = result-fits difference-exact (c .fits .x) (c .fits .y)
 
-clamp-requires : tie.Need-clamp-requires
-clamp-requires c κs = search needs
-
 returns : tie.Need-returns
 unfolding difference
 returns c = result-clamped difference-exact (c .before .fits .x) (c .before .fits .y) (c .clamp .ok) (c .clamp .ensures)
 
 pub sub-spec : {M : Type 1} → statement M
-sub-spec = tie.close (tie.spec cast-clamp cast-clamp-2 sub-clamp clamp-requires returns)
+sub-spec = tie.close (tie.spec cast-clamp cast-clamp-2 sub-clamp (λ c κs. search needs) returns)

@@ -73,84 +73,6 @@ ask-command-returns t c =
       ),
     )
 
-ask-command-shared-slice-read-kind :
-    (t : ℕ) → ask-command-lts.Need-shared-slice-read-kind (ask-command-calls t) (ask-command-at t) ask-command.Post
-ask-command-shared-slice-read-kind t c = search needs
-
-ask-command-shared-slice-copy-out-natural :
-    (t : ℕ) → ask-command-lts.Need-shared-slice-copy-out-natural (ask-command-calls t) (ask-command-at t)
-    ask-command.Post
-ask-command-shared-slice-copy-out-natural t c = search needs
-
-ask-command-natural-requires : (t : ℕ) → ask-command-lts.Need-natural-requires (ask-command-calls t) (ask-command-at t) ask-command.Post
-ask-command-natural-requires t c κs = search needs
-
-ask-command-sub-assignment : (t : ℕ) → ask-command-lts.Need-sub-assignment (ask-command-calls t) (ask-command-at t) ask-command.Post
-ask-command-sub-assignment t c = search needs
-
-ask-command-part-assignment-start :
-    (t : ℕ) → ask-command-lts.Need-part-assignment-start (ask-command-calls t) (ask-command-at t) ask-command.Post
-ask-command-part-assignment-start t c = search needs
-
-ask-command-part-assignment-end :
-    (t : ℕ) → ask-command-lts.Need-part-assignment-end (ask-command-calls t) (ask-command-at t) ask-command.Post
-ask-command-part-assignment-end t c = search needs
-
-ask-command-sub-assignment-2 : (t : ℕ) → ask-command-lts.Need-sub-assignment-2 (ask-command-calls t) (ask-command-at t) ask-command.Post
-ask-command-sub-assignment-2 t c = search needs
-
-ask-command-part-assignment-start-2 :
-    (t : ℕ) → ask-command-lts.Need-part-assignment-start-2 (ask-command-calls t) (ask-command-at t) ask-command.Post
-ask-command-part-assignment-start-2 t c = search needs
-
-ask-command-part-assignment-end-2 :
-    (t : ℕ) → ask-command-lts.Need-part-assignment-end-2 (ask-command-calls t) (ask-command-at t) ask-command.Post
-ask-command-part-assignment-end-2 t c = search needs
-
-ask-command-mul-assignment : (t : ℕ) → ask-command-lts.Need-mul-assignment (ask-command-calls t) (ask-command-at t) ask-command.Post
-ask-command-mul-assignment t c = search needs
-
-ask-command-sub-assignment-3 : (t : ℕ) → ask-command-lts.Need-sub-assignment-3 (ask-command-calls t) (ask-command-at t) ask-command.Post
-ask-command-sub-assignment-3 t c = search needs
-
-ask-command-part-assignment-start-3 :
-    (t : ℕ) → ask-command-lts.Need-part-assignment-start-3 (ask-command-calls t) (ask-command-at t) ask-command.Post
-ask-command-part-assignment-start-3 t c = search needs
-
-ask-command-part-assignment-end-3 :
-    (t : ℕ) → ask-command-lts.Need-part-assignment-end-3 (ask-command-calls t) (ask-command-at t) ask-command.Post
-ask-command-part-assignment-end-3 t c = search needs
-
-ask-command-mul-assignment-2 : (t : ℕ) → ask-command-lts.Need-mul-assignment-2 (ask-command-calls t) (ask-command-at t) ask-command.Post
-ask-command-mul-assignment-2 t c = search needs
-
-ask-command-sub-assignment-4 : (t : ℕ) → ask-command-lts.Need-sub-assignment-4 (ask-command-calls t) (ask-command-at t) ask-command.Post
-ask-command-sub-assignment-4 t c = search needs
-
-ask-command-part-assignment-start-4 :
-    (t : ℕ) → ask-command-lts.Need-part-assignment-start-4 (ask-command-calls t) (ask-command-at t) ask-command.Post
-ask-command-part-assignment-start-4 t c = search needs
-
-ask-command-part-assignment-end-4 :
-    (t : ℕ) → ask-command-lts.Need-part-assignment-end-4 (ask-command-calls t) (ask-command-at t) ask-command.Post
-ask-command-part-assignment-end-4 t c = search needs
-
-ask-command-add-assignment : (t : ℕ) → ask-command-lts.Need-add-assignment (ask-command-calls t) (ask-command-at t) ask-command.Post
-ask-command-add-assignment t c = search needs
-
-ask-command-assignment-requires :
-    (t : ℕ) → ask-command-lts.Need-assignment-requires (ask-command-calls t) (ask-command-at t) ask-command.Post
-ask-command-assignment-requires t c κs = search needs
-
-ask-command-once-requires : (t : ℕ) → ask-command-lts.Need-once-requires (ask-command-calls t) (ask-command-at t) ask-command.Post
-ask-command-once-requires t c κs = search needs
-
-ask-command-same-length : (t : ℕ) → ask-command-lts.Need-same-length (ask-command-calls t) (ask-command-at t) ask-command.Post
-ask-command-same-length t c = search needs
-
-ask-command-same-length-2 : (t : ℕ) → ask-command-lts.Need-same-length-2 (ask-command-calls t) (ask-command-at t) ask-command.Post
-ask-command-same-length-2 t c = search needs
-
 ask-command-returns-2 : (t : ℕ) → ask-command-lts.Need-returns-2 (ask-command-calls t) (ask-command-at t) ask-command.Post
 ask-command-returns-2 t c =
     let a = c .before .before .before .before .before .before .before .before .before .before .before
@@ -179,57 +101,6 @@ ask-command-returns-2 t c =
             (assignment .ensures .1)) (c .once .ensures),
       ),
     )
-
-ask-command-is-loop-requires : (t : ℕ) → ask-command-lts.Need-is-loop-requires (ask-command-calls t) (ask-command-at t) ask-command.Post
-ask-command-is-loop-requires t c κs = search needs
-
-ask-command-push-requires : (t : ℕ) → ask-command-lts.Need-push-requires (ask-command-calls t) (ask-command-at t) ask-command.Post
-ask-command-push-requires t c κs = search needs
-
-ask-command-push-requires-2 : (t : ℕ) → ask-command-lts.Need-push-requires-2 (ask-command-calls t) (ask-command-at t) ask-command.Post
-ask-command-push-requires-2 t c κs = search needs
-
-ask-command-sub-ask-command : (t : ℕ) → ask-command-lts.Need-sub-ask-command (ask-command-calls t) (ask-command-at t) ask-command.Post
-ask-command-sub-ask-command t c = search needs
-
-ask-command-part-ask-command-start :
-    (t : ℕ) → ask-command-lts.Need-part-ask-command-start (ask-command-calls t) (ask-command-at t) ask-command.Post
-ask-command-part-ask-command-start t c = search needs
-
-ask-command-part-ask-command-end :
-    (t : ℕ) → ask-command-lts.Need-part-ask-command-end (ask-command-calls t) (ask-command-at t) ask-command.Post
-ask-command-part-ask-command-end t c = search needs
-
-ask-command-sub-ask-command-2 : (t : ℕ) → ask-command-lts.Need-sub-ask-command-2 (ask-command-calls t) (ask-command-at t) ask-command.Post
-ask-command-sub-ask-command-2 t c = search needs
-
-ask-command-part-ask-command-start-2 :
-    (t : ℕ) → ask-command-lts.Need-part-ask-command-start-2 (ask-command-calls t) (ask-command-at t)
-    ask-command.Post
-ask-command-part-ask-command-start-2 t c = search needs
-
-ask-command-part-ask-command-end-2 :
-    (t : ℕ) → ask-command-lts.Need-part-ask-command-end-2 (ask-command-calls t) (ask-command-at t) ask-command.Post
-ask-command-part-ask-command-end-2 t c = search needs
-
-ask-command-add-ask-command : (t : ℕ) → ask-command-lts.Need-add-ask-command (ask-command-calls t) (ask-command-at t) ask-command.Post
-ask-command-add-ask-command t c = search needs
-
-ask-command-ask-command-requires :
-    (t : ℕ) → ask-command-lts.Need-ask-command-requires (ask-command-calls t) (ask-command-at t) ask-command.Post
-ask-command-ask-command-requires t c κs = search needs
-
-ask-command-enum-known-first : (t : ℕ) → ask-command-lts.Need-enum-known-first (ask-command-calls t) (ask-command-at t) ask-command.Post
-ask-command-enum-known-first t c = search needs
-
-ask-command-enum-told : (t : ℕ) → ask-command-lts.Need-enum-told (ask-command-calls t) (ask-command-at t) ask-command.Post
-ask-command-enum-told t c = search needs
-
-ask-command-same-length-3 : (t : ℕ) → ask-command-lts.Need-same-length-3 (ask-command-calls t) (ask-command-at t) ask-command.Post
-ask-command-same-length-3 t c = search needs
-
-ask-command-same-length-4 : (t : ℕ) → ask-command-lts.Need-same-length-4 (ask-command-calls t) (ask-command-at t) ask-command.Post
-ask-command-same-length-4 t c = search needs
 
 ask-command-returns-3 : (t : ℕ) → ask-command-lts.Need-returns-3 (ask-command-calls t) (ask-command-at t) ask-command.Post
 ask-command-returns-3 t c =
@@ -309,9 +180,6 @@ ask-command-add-from t c =
     ) in
     record { fits = omega (arith, entry .pre .1 .3) }
 
-ask-command-rounds-requires : (t : ℕ) → ask-command-lts.Need-rounds-requires (ask-command-calls t) (ask-command-at t) ask-command.Post
-ask-command-rounds-requires t c κs = search needs
-
 ask-command-mul-capped : (t : ℕ) → ask-command-lts.Need-mul-capped (ask-command-calls t) (ask-command-at t) ask-command.Post
 ask-command-mul-capped t c =
     let at-first = c .before .before .before .first in
@@ -334,15 +202,6 @@ ask-command-mul-capped t c =
             0 0)) (natural .result) (c .rounds .result) (natural .ensures .1) (c .rounds .ensures)) l,
       );
     }
-
-ask-command-capped-requires : (t : ℕ) → ask-command-lts.Need-capped-requires (ask-command-calls t) (ask-command-at t) ask-command.Post
-ask-command-capped-requires t c κs = search needs
-
-ask-command-same-length-5 : (t : ℕ) → ask-command-lts.Need-same-length-5 (ask-command-calls t) (ask-command-at t) ask-command.Post
-ask-command-same-length-5 t c = search needs
-
-ask-command-same-length-6 : (t : ℕ) → ask-command-lts.Need-same-length-6 (ask-command-calls t) (ask-command-at t) ask-command.Post
-ask-command-same-length-6 t c = search needs
 
 ask-command-returns-4 : (t : ℕ) → ask-command-lts.Need-returns-4 (ask-command-calls t) (ask-command-at t) ask-command.Post
 ask-command-returns-4 t c =
@@ -453,10 +312,6 @@ ask-command-part-ask-command-start-3 t c =
     ) in
     search needs
 
-ask-command-part-ask-command-end-3 :
-    (t : ℕ) → ask-command-lts.Need-part-ask-command-end-3 (ask-command-calls t) (ask-command-at t) ask-command.Post
-ask-command-part-ask-command-end-3 t c = search needs
-
 ask-command-mul-ask-command : (t : ℕ) → ask-command-lts.Need-mul-ask-command (ask-command-calls t) (ask-command-at t) ask-command.Post
 ask-command-mul-ask-command t c =
     let entry = c .before .before .before .before .before .before .before .before .before .before .before
@@ -515,10 +370,6 @@ ask-command-part-ask-command-start-4 t c =
       table.part-length 1 (a .numbers .now),
     ) in
     omega (arith, entry .pre .1 .0)
-
-ask-command-part-ask-command-end-4 :
-    (t : ℕ) → ask-command-lts.Need-part-ask-command-end-4 (ask-command-calls t) (ask-command-at t) ask-command.Post
-ask-command-part-ask-command-end-4 t c = search needs
 
 ask-command-add-ask-command-2 : (t : ℕ) → ask-command-lts.Need-add-ask-command-2 (ask-command-calls t) (ask-command-at t) ask-command.Post
 ask-command-add-ask-command-2 t c =
@@ -601,12 +452,6 @@ ask-command-ask-command-requires-2 t c κs =
       ),
     )
 
-ask-command-enum-known-second : (t : ℕ) → ask-command-lts.Need-enum-known-second (ask-command-calls t) (ask-command-at t) ask-command.Post
-ask-command-enum-known-second t c = search needs
-
-ask-command-enum-told-2 : (t : ℕ) → ask-command-lts.Need-enum-told-2 (ask-command-calls t) (ask-command-at t) ask-command.Post
-ask-command-enum-told-2 t c = search needs
-
 ask-command-same-length-7 : (t : ℕ) → ask-command-lts.Need-same-length-7 (ask-command-calls t) (ask-command-at t) ask-command.Post
 ask-command-same-length-7 t c =
     c .before .before .before .before .before .before .ask-command2 .kept .1 .1 .0
@@ -615,9 +460,6 @@ ask-command-same-length-7 t c =
     ∙ c .before .before .before .before .before .before .before .before .before .before .before .before .before .before
     .before .before .before .before .before .before .before .before .before .before .before .before .before .before
     .before .before .push .kept .0
-
-ask-command-same-length-8 : (t : ℕ) → ask-command-lts.Need-same-length-8 (ask-command-calls t) (ask-command-at t) ask-command.Post
-ask-command-same-length-8 t c = search needs
 
 ask-command-returns-5 : (t : ℕ) → ask-command-lts.Need-returns-5 (ask-command-calls t) (ask-command-at t) ask-command.Post
 ask-command-returns-5 t c =
@@ -748,9 +590,6 @@ ask-command-add-capped t c = record {
   );
 }
 
-ask-command-capped-requires-2 : (t : ℕ) → ask-command-lts.Need-capped-requires-2 (ask-command-calls t) (ask-command-at t) ask-command.Post
-ask-command-capped-requires-2 t c κs = search needs
-
 ask-command-same-length-9 : (t : ℕ) → ask-command-lts.Need-same-length-9 (ask-command-calls t) (ask-command-at t) ask-command.Post
 ask-command-same-length-9 t c =
     c .before .before .before .before .before .before .before .before .ask-command2 .kept .1 .1 .0
@@ -759,9 +598,6 @@ ask-command-same-length-9 t c =
     ∙ c .before .before .before .before .before .before .before .before .before .before .before .before .before .before
     .before .before .before .before .before .before .before .before .before .before .before .before .before .before
     .before .before .before .before .push .kept .0
-
-ask-command-same-length-10 : (t : ℕ) → ask-command-lts.Need-same-length-10 (ask-command-calls t) (ask-command-at t) ask-command.Post
-ask-command-same-length-10 t c = search needs
 
 ask-command-returns-6 : (t : ℕ) → ask-command-lts.Need-returns-6 (ask-command-calls t) (ask-command-at t) ask-command.Post
 ask-command-returns-6 t c =
@@ -864,72 +700,17 @@ ask-command-returns-6 t c =
 
 pub +ask-command-spec : {M : Type 1} → statement M
 +ask-command-spec = close μ-ask-command λ t. ask-command-lts.spec (ask-command-calls t)
-    (ask-command-at t)
-    ask-command.Post
-    (ask-command-returns t)
-    (ask-command-shared-slice-read-kind t)
-    (ask-command-shared-slice-copy-out-natural t)
-    (ask-command-natural-requires t)
-    (ask-command-sub-assignment t)
-    (ask-command-part-assignment-start t)
-    (ask-command-part-assignment-end t)
-    (ask-command-sub-assignment-2 t)
-    (ask-command-part-assignment-start-2 t)
-    (ask-command-part-assignment-end-2 t)
-    (ask-command-mul-assignment t)
-    (ask-command-sub-assignment-3 t)
-    (ask-command-part-assignment-start-3 t)
-    (ask-command-part-assignment-end-3 t)
-    (ask-command-mul-assignment-2 t)
-    (ask-command-sub-assignment-4 t)
-    (ask-command-part-assignment-start-4 t)
-    (ask-command-part-assignment-end-4 t)
-    (ask-command-add-assignment t)
-    (ask-command-assignment-requires t)
-    (ask-command-once-requires t)
-    (ask-command-same-length t)
-    (ask-command-same-length-2 t)
-    (ask-command-returns-2 t)
-    (ask-command-is-loop-requires t)
-    (ask-command-push-requires t)
-    (ask-command-push-requires-2 t)
-    (ask-command-sub-ask-command t)
-    (ask-command-part-ask-command-start t)
-    (ask-command-part-ask-command-end t)
-    (ask-command-sub-ask-command-2 t)
-    (ask-command-part-ask-command-start-2 t)
-    (ask-command-part-ask-command-end-2 t)
-    (ask-command-add-ask-command t)
-    (ask-command-ask-command-requires t)
-    (ask-command-enum-known-first t)
-    (ask-command-enum-told t)
-    (ask-command-same-length-3 t)
-    (ask-command-same-length-4 t)
-    (ask-command-returns-3 t)
-    (ask-command-add-from t)
-    (ask-command-rounds-requires t)
-    (ask-command-mul-capped t)
-    (ask-command-capped-requires t)
-    (ask-command-same-length-5 t)
-    (ask-command-same-length-6 t)
-    (ask-command-returns-4 t)
-    (ask-command-sub-ask-command-3 t)
-    (ask-command-part-ask-command-start-3 t)
-    (ask-command-part-ask-command-end-3 t)
-    (ask-command-mul-ask-command t)
-    (ask-command-sub-ask-command-4 t)
-    (ask-command-part-ask-command-start-4 t)
-    (ask-command-part-ask-command-end-4 t)
-    (ask-command-add-ask-command-2 t)
-    (ask-command-ask-command-requires-2 t)
-    (ask-command-enum-known-second t)
-    (ask-command-enum-told-2 t)
-    (ask-command-same-length-7 t)
-    (ask-command-same-length-8 t)
-    (ask-command-returns-5 t)
-    (ask-command-add-t62 t)
-    (ask-command-add-capped t)
-    (ask-command-capped-requires-2 t)
-    (ask-command-same-length-9 t)
-    (ask-command-same-length-10 t)
-    (ask-command-returns-6 t)
+    (ask-command-at t) ask-command.Post (ask-command-returns t) (λ c. search needs) (λ c. search needs) (λ c κs. search needs)
+    (λ c. search needs) (λ c. search needs) (λ c. search needs) (λ c. search needs) (λ c. search needs) (λ c. search needs)
+    (λ c. search needs) (λ c. search needs) (λ c. search needs) (λ c. search needs) (λ c. search needs) (λ c. search needs)
+    (λ c. search needs) (λ c. search needs) (λ c. search needs) (λ c κs. search needs) (λ c κs. search needs) (λ c. search needs)
+    (λ c. search needs) (ask-command-returns-2 t) (λ c κs. search needs) (λ c κs. search needs) (λ c κs. search needs)
+    (λ c. search needs) (λ c. search needs) (λ c. search needs) (λ c. search needs) (λ c. search needs) (λ c. search needs)
+    (λ c. search needs) (λ c κs. search needs) (λ c. search needs) (λ c. search needs) (λ c. search needs) (λ c. search needs)
+    (ask-command-returns-3 t) (ask-command-add-from t) (λ c κs. search needs) (ask-command-mul-capped t) (λ c κs. search needs)
+    (λ c. search needs) (λ c. search needs) (ask-command-returns-4 t) (ask-command-sub-ask-command-3 t)
+    (ask-command-part-ask-command-start-3 t) (λ c. search needs) (ask-command-mul-ask-command t) (ask-command-sub-ask-command-4 t)
+    (ask-command-part-ask-command-start-4 t) (λ c. search needs) (ask-command-add-ask-command-2 t)
+    (ask-command-ask-command-requires-2 t) (λ c. search needs) (λ c. search needs) (ask-command-same-length-7 t)
+    (λ c. search needs) (ask-command-returns-5 t) (ask-command-add-t62 t) (ask-command-add-capped t) (λ c κs. search needs)
+    (ask-command-same-length-9 t) (λ c. search needs) (ask-command-returns-6 t)

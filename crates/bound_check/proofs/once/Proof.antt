@@ -7,21 +7,6 @@ use Rattle.bound_check.specs.Rows as parts
 use Rattle.bound_check.proofs.once.Statement.{statement}
 use Rattle.bound_check.proofs.once.Tie as tie
 
-enum-known-asked : tie.Need-enum-known-asked
-enum-known-asked c = search needs
-
-enum-known-asked-2 : tie.Need-enum-known-asked-2
-enum-known-asked-2 c = search needs
-
-enum-known-asked-3 : tie.Need-enum-known-asked-3
-enum-known-asked-3 c = search needs
-
-enum-told : tie.Need-enum-told
-enum-told c = search needs
-
-returns : tie.Need-returns
-returns c = search needs
-
 returns-2 : tie.Need-returns-2
 returns-2 c = sym (ap parts.onceOf (c .before .before .before .before .asked2 .given .1 ∙ c .before .asked3 .given .1))
 
@@ -34,12 +19,5 @@ returns-3 c = sym (ap parts.onceOf (c .before .asked .given .1))
 pub once-spec : {M : Type 1} → statement M
 once-spec =
     tie.close
-    (tie.spec
-    enum-known-asked
-    enum-known-asked-2
-    enum-known-asked-3
-    enum-told
-    returns
-    returns-2
-    add-t4
+    (tie.spec (λ c. search needs) (λ c. search needs) (λ c. search needs) (λ c. search needs) (λ c. search needs) returns-2 add-t4
     returns-3)

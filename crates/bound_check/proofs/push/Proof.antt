@@ -8,18 +8,6 @@ use Rattle.syntax.proofs.Front as table
 use Rattle.bound_check.proofs.push.Statement.{statement}
 use Rattle.bound_check.proofs.push.Tie as tie
 
-sub-inner : tie.Need-sub-inner
-sub-inner c = search needs
-
-mul-frame : tie.Need-mul-frame
-mul-frame c = search needs
-
-slice-write-frame : tie.Need-slice-write-frame
-slice-write-frame c = search needs
-
-same-length : tie.Need-same-length
-same-length c = search needs
-
 returns : tie.Need-returns
 returns c =
     let a = c .before .before .args in (
@@ -39,4 +27,4 @@ returns-3 c = ((omega arith, refl), (λ h. refl, λ h l. absurd (let z : _≡_ {
 pub push-spec : {M : Type 1} → statement M
 push-spec =
     tie.close
-    (tie.spec sub-inner mul-frame slice-write-frame same-length returns returns-2 returns-3)
+    (tie.spec (λ c. search needs) (λ c. search needs) (λ c. search needs) (λ c. search needs) returns returns-2 returns-3)

@@ -5,9 +5,6 @@ use borrow.Author.Needs.{needs}
 use Rattle.bound_check.proofs.rounds.Statement.{statement}
 use Rattle.bound_check.proofs.rounds.Tie as tie
 
-is-loop-requires : tie.Need-is-loop-requires
-is-loop-requires c κs = search needs
-
 returns : tie.Need-returns
 returns c = ap (λ (b : Bool). cond b (c .before .before .args .n) 1) (sym (c .if1 .taken) ∙ c .before .is-loop .ensures)
 
@@ -16,4 +13,4 @@ returns-2 c =
     ap (λ (b : Bool). cond b (c .before .before .args .n) 1) (sym (c .if1 .left) ∙ c .before .is-loop .ensures)
 
 pub rounds-spec : {M : Type 1} → statement M
-rounds-spec = tie.close (tie.spec is-loop-requires returns returns-2)
+rounds-spec = tie.close (tie.spec (λ c κs. search needs) returns returns-2)

@@ -56,19 +56,6 @@ largest-returns t c =
       offsets.offset-none (a .kinds .now) (a .numbers .now) (counterBound (a .counters .now)) 0 0 (c .if1 .taken),
     )
 
-largest-shared-slice-read-kind : (t : ℕ) → largest-lts.Need-shared-slice-read-kind (largest-calls t) (largest-at t) largest.Post
-largest-shared-slice-read-kind t c = search needs
-
-largest-shared-slice-copy-out-natural :
-    (t : ℕ) → largest-lts.Need-shared-slice-copy-out-natural (largest-calls t) (largest-at t) largest.Post
-largest-shared-slice-copy-out-natural t c = search needs
-
-largest-natural-requires : (t : ℕ) → largest-lts.Need-natural-requires (largest-calls t) (largest-at t) largest.Post
-largest-natural-requires t c κs = search needs
-
-largest-capped-requires : (t : ℕ) → largest-lts.Need-capped-requires (largest-calls t) (largest-at t) largest.Post
-largest-capped-requires t c κs = search needs
-
 largest-returns-2 : (t : ℕ) → largest-lts.Need-returns-2 (largest-calls t) (largest-at t) largest.Post
 largest-returns-2 t c =
     let a = c .before .before .before .before .before .before .before .before .args in
@@ -79,15 +66,6 @@ largest-returns-2 t c =
           (getD (a .numbers .now) 0 (pos 0)) (record { sfits = c .before .before .before .natural-arg .given })
           (natural .ensures .0)) (c .capped .ensures .0),
     )
-
-largest-entry-requires : (t : ℕ) → largest-lts.Need-entry-requires (largest-calls t) (largest-at t) largest.Post
-largest-entry-requires t c κs = search needs
-
-largest-last-round-requires : (t : ℕ) → largest-lts.Need-last-round-requires (largest-calls t) (largest-at t) largest.Post
-largest-last-round-requires t c κs = search needs
-
-largest-capped-requires-2 : (t : ℕ) → largest-lts.Need-capped-requires-2 (largest-calls t) (largest-at t) largest.Post
-largest-capped-requires-2 t c κs = search needs
 
 largest-returns-3 : (t : ℕ) → largest-lts.Need-returns-3 (largest-calls t) (largest-at t) largest.Post
 largest-returns-3 t c =
@@ -103,63 +81,6 @@ largest-returns-3 t c =
           (c .before .last-round .ensures ∙ ap (λ (j : ℕ). j - 1) (c .before .before .entry .ensures))
           (c .capped2 .ensures .0),
     )
-
-largest-sub-largest : (t : ℕ) → largest-lts.Need-sub-largest (largest-calls t) (largest-at t) largest.Post
-largest-sub-largest t c = search needs
-
-largest-part-largest-start : (t : ℕ) → largest-lts.Need-part-largest-start (largest-calls t) (largest-at t) largest.Post
-largest-part-largest-start t c = search needs
-
-largest-part-largest-end : (t : ℕ) → largest-lts.Need-part-largest-end (largest-calls t) (largest-at t) largest.Post
-largest-part-largest-end t c = search needs
-
-largest-sub-largest-2 : (t : ℕ) → largest-lts.Need-sub-largest-2 (largest-calls t) (largest-at t) largest.Post
-largest-sub-largest-2 t c = search needs
-
-largest-part-largest-start-2 : (t : ℕ) → largest-lts.Need-part-largest-start-2 (largest-calls t) (largest-at t) largest.Post
-largest-part-largest-start-2 t c = search needs
-
-largest-part-largest-end-2 : (t : ℕ) → largest-lts.Need-part-largest-end-2 (largest-calls t) (largest-at t) largest.Post
-largest-part-largest-end-2 t c = search needs
-
-largest-largest-requires : (t : ℕ) → largest-lts.Need-largest-requires (largest-calls t) (largest-at t) largest.Post
-largest-largest-requires t c κs = search needs
-
-largest-add-from : (t : ℕ) → largest-lts.Need-add-from (largest-calls t) (largest-at t) largest.Post
-largest-add-from t c = search needs
-
-largest-sub-largest-3 : (t : ℕ) → largest-lts.Need-sub-largest-3 (largest-calls t) (largest-at t) largest.Post
-largest-sub-largest-3 t c = search needs
-
-largest-part-largest-start-3 : (t : ℕ) → largest-lts.Need-part-largest-start-3 (largest-calls t) (largest-at t) largest.Post
-largest-part-largest-start-3 t c = search needs
-
-largest-part-largest-end-3 : (t : ℕ) → largest-lts.Need-part-largest-end-3 (largest-calls t) (largest-at t) largest.Post
-largest-part-largest-end-3 t c = search needs
-
-largest-mul-largest : (t : ℕ) → largest-lts.Need-mul-largest (largest-calls t) (largest-at t) largest.Post
-largest-mul-largest t c = search needs
-
-largest-sub-largest-4 : (t : ℕ) → largest-lts.Need-sub-largest-4 (largest-calls t) (largest-at t) largest.Post
-largest-sub-largest-4 t c = search needs
-
-largest-part-largest-start-4 : (t : ℕ) → largest-lts.Need-part-largest-start-4 (largest-calls t) (largest-at t) largest.Post
-largest-part-largest-start-4 t c = search needs
-
-largest-part-largest-end-4 : (t : ℕ) → largest-lts.Need-part-largest-end-4 (largest-calls t) (largest-at t) largest.Post
-largest-part-largest-end-4 t c = search needs
-
-largest-largest-requires-2 : (t : ℕ) → largest-lts.Need-largest-requires-2 (largest-calls t) (largest-at t) largest.Post
-largest-largest-requires-2 t c κs = search needs
-
-largest-add-capped : (t : ℕ) → largest-lts.Need-add-capped (largest-calls t) (largest-at t) largest.Post
-largest-add-capped t c = search needs
-
-largest-capped-requires-3 : (t : ℕ) → largest-lts.Need-capped-requires-3 (largest-calls t) (largest-at t) largest.Post
-largest-capped-requires-3 t c κs = search needs
-
-largest-add-t30 : (t : ℕ) → largest-lts.Need-add-t30 (largest-calls t) (largest-at t) largest.Post
-largest-add-t30 t c = search needs
 
 largest-returns-4 : (t : ℕ) → largest-lts.Need-returns-4 (largest-calls t) (largest-at t) largest.Post
 largest-returns-4 t c =
@@ -200,12 +121,6 @@ largest-returns-5 t c =
           (largest .ensures .1) (omega (arith, c .if5 .taken)),
     )
 
-largest-scaled-requires : (t : ℕ) → largest-lts.Need-scaled-requires (largest-calls t) (largest-at t) largest.Post
-largest-scaled-requires t c κs = search needs
-
-largest-capped-requires-4 : (t : ℕ) → largest-lts.Need-capped-requires-4 (largest-calls t) (largest-at t) largest.Post
-largest-capped-requires-4 t c κs = search needs
-
 largest-returns-6 : (t : ℕ) → largest-lts.Need-returns-6 (largest-calls t) (largest-at t) largest.Post
 largest-returns-6 t c =
     let a = c .before .before .before .before .before .before .before .before .before .before .before
@@ -231,39 +146,10 @@ largest-returns-6 t c =
 
 pub +largest-spec : {M : Type 1} → statement M
 +largest-spec = close μ-largest λ t. largest-lts.spec (largest-calls t)
-    (largest-at t)
-    largest.Post
-    (largest-returns t)
-    (largest-shared-slice-read-kind t)
-    (largest-shared-slice-copy-out-natural t)
-    (largest-natural-requires t)
-    (largest-capped-requires t)
-    (largest-returns-2 t)
-    (largest-entry-requires t)
-    (largest-last-round-requires t)
-    (largest-capped-requires-2 t)
-    (largest-returns-3 t)
-    (largest-sub-largest t)
-    (largest-part-largest-start t)
-    (largest-part-largest-end t)
-    (largest-sub-largest-2 t)
-    (largest-part-largest-start-2 t)
-    (largest-part-largest-end-2 t)
-    (largest-largest-requires t)
-    (largest-add-from t)
-    (largest-sub-largest-3 t)
-    (largest-part-largest-start-3 t)
-    (largest-part-largest-end-3 t)
-    (largest-mul-largest t)
-    (largest-sub-largest-4 t)
-    (largest-part-largest-start-4 t)
-    (largest-part-largest-end-4 t)
-    (largest-largest-requires-2 t)
-    (largest-add-capped t)
-    (largest-capped-requires-3 t)
-    (largest-add-t30 t)
-    (largest-returns-4 t)
-    (largest-returns-5 t)
-    (largest-scaled-requires t)
-    (largest-capped-requires-4 t)
-    (largest-returns-6 t)
+    (largest-at t) largest.Post (largest-returns t) (λ c. search needs) (λ c. search needs) (λ c κs. search needs)
+    (λ c κs. search needs) (largest-returns-2 t) (λ c κs. search needs) (λ c κs. search needs) (λ c κs. search needs)
+    (largest-returns-3 t) (λ c. search needs) (λ c. search needs) (λ c. search needs) (λ c. search needs) (λ c. search needs)
+    (λ c. search needs) (λ c κs. search needs) (λ c. search needs) (λ c. search needs) (λ c. search needs) (λ c. search needs)
+    (λ c. search needs) (λ c. search needs) (λ c. search needs) (λ c. search needs) (λ c κs. search needs) (λ c. search needs)
+    (λ c κs. search needs) (λ c. search needs) (largest-returns-4 t) (largest-returns-5 t) (λ c κs. search needs)
+    (λ c κs. search needs) (largest-returns-6 t)

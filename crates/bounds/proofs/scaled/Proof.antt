@@ -20,17 +20,8 @@ returns-2 c =
       (λ h. sym (ap (λ (n : ℕ). a .bound / n) (c .if2 .taken) ∙ div-zero (a .bound)), λ h. omega (arith, c .if2 .taken)),
     )
 
-div-result : tie.Need-div-result
-div-result c = search needs
-
 returns-3 : tie.Need-returns-3
 returns-3 c = (λ h. absurd (c .before .before .if1 .left h), (λ h. refl, λ h. absurd (omega (arith, c .if3 .taken, h))))
-
-sub-if4 : tie.Need-sub-if4
-sub-if4 c = search needs
-
-sub-result : tie.Need-sub-result
-sub-result c = search needs
 
 returns-4 : tie.Need-returns-4
 returns-4 c = (
@@ -47,13 +38,5 @@ returns-5 c = (
 pub scaled-spec : {M : Type 1} → statement M
 scaled-spec =
     tie.close
-    (tie.spec
-    mul-result
-    returns
-    returns-2
-    div-result
-    returns-3
-    sub-if4
-    sub-result
-    returns-4
+    (tie.spec mul-result returns returns-2 (λ c. search needs) returns-3 (λ c. search needs) (λ c. search needs) returns-4
     returns-5)

@@ -7,15 +7,6 @@ use Rattle.lines.proofs.Sizes.{bytes-fit, unprinted, printed}
 use Rattle.lines.proofs.print.Statement.{statement}
 use Rattle.lines.proofs.print.Tie as tie
 
-text-size-requires : tie.Need-text-size-requires
-text-size-requires c κs = search needs
-
-enum-told : tie.Need-enum-told
-enum-told c = search needs
-
-enum-told-2 : tie.Need-enum-told-2
-enum-told-2 c = search needs
-
 returns : tie.Need-returns
 returns c =
     let a = c .before .before .before .before .before .args in
@@ -31,9 +22,6 @@ put-text-requires c κs =
     bytes-fit (textOf words (rowsOf (a .kinds .now) (a .numbers .now))) (a .text .now)
     (c .before .before .before .text-size .ensures) (c .before .enum-told .given .1)
 
-same-length : tie.Need-same-length
-same-length c = search needs
-
 returns-2 : tie.Need-returns-2
 returns-2 c =
     let a = c .before .before .before .before .before .before .before .before .before .args in
@@ -47,11 +35,5 @@ returns-2 c =
 pub print-spec : {M : Type 1} → statement M
 print-spec =
     tie.close
-    (tie.spec
-    text-size-requires
-    enum-told
-    enum-told-2
-    returns
-    put-text-requires
-    same-length
+    (tie.spec (λ c κs. search needs) (λ c. search needs) (λ c. search needs) returns put-text-requires (λ c. search needs)
     returns-2)

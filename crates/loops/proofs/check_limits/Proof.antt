@@ -5,21 +5,6 @@ use Rattle.loops.proofs.Limits as limits
 use Rattle.loops.proofs.check_limits.Statement.{statement}
 use Rattle.loops.proofs.check_limits.Tie as tie
 
-ask-loops-requires : tie.Need-ask-loops-requires
-ask-loops-requires c κs = search needs
-
-enum-known-asked : tie.Need-enum-known-asked
-enum-known-asked c = search needs
-
-enum-known-asked-2 : tie.Need-enum-known-asked-2
-enum-known-asked-2 c = search needs
-
-enum-known-asked-3 : tie.Need-enum-known-asked-3
-enum-known-asked-3 c = search needs
-
-enum-told : tie.Need-enum-told
-enum-told c = search needs
-
 returns : tie.Need-returns
 returns c = λ L e h. limits.one-case (c .enum-told .given .1)
 
@@ -36,9 +21,6 @@ returns-3 c =
     λ L e h. limits.limits-many L (ask-loops .result) (ask-loops .ensures L e h) (asked .given .0 .0) (asked .given .0 .1 .0)
     (asked .given .1) (c .if1 .taken)
 
-need-requires : tie.Need-need-requires
-need-requires c κs = search needs
-
 returns-4 : tie.Need-returns-4
 returns-4 c =
     let ask-loops = c .before .before .before .before .before .ask-loops in
@@ -49,14 +31,5 @@ returns-4 c =
 pub check-limits-spec : {M : Type 1} → statement M
 check-limits-spec =
     tie.close
-    (tie.spec
-    ask-loops-requires
-    enum-known-asked
-    enum-known-asked-2
-    enum-known-asked-3
-    enum-told
-    returns
-    returns-2
-    returns-3
-    need-requires
-    returns-4)
+    (tie.spec (λ c κs. search needs) (λ c. search needs) (λ c. search needs) (λ c. search needs) (λ c. search needs) returns
+    returns-2 returns-3 (λ c κs. search needs) returns-4)

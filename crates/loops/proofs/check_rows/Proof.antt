@@ -6,24 +6,6 @@ use Rattle.loops.proofs.Limits as limits
 use Rattle.loops.proofs.check_rows.Statement.{statement}
 use Rattle.loops.proofs.check_rows.Tie as tie
 
-walk-loops-requires : tie.Need-walk-loops-requires
-walk-loops-requires c κs = search needs
-
-enum-told : tie.Need-enum-told
-enum-told c = search needs
-
-enum-known-walked : tie.Need-enum-known-walked
-enum-known-walked c = search needs
-
-enum-known-walked-2 : tie.Need-enum-known-walked-2
-enum-known-walked-2 c = search needs
-
-enum-told-2 : tie.Need-enum-told-2
-enum-told-2 c = search needs
-
-returns : tie.Need-returns
-returns c = search needs
-
 returns-2 : tie.Need-returns-2
 returns-2 c =
     let at-args = c .before .before .before .before .before .before .before .before .args in
@@ -35,9 +17,6 @@ returns-2 c =
     limits.rows-refused (rowsOf (a .kinds .now) (a .numbers .now)) _ (sym (walk-loops .ensures) ∙ walked .given .1 ∙
     c .before .walked2 .given .1)
 
-check-limits-requires : tie.Need-check-limits-requires
-check-limits-requires c κs = search needs
-
 returns-3 : tie.Need-returns-3
 returns-3 c =
     let a = c .before .before .before .before .before .args in
@@ -48,13 +27,5 @@ returns-3 c =
 pub check-rows-spec : {M : Type 1} → statement M
 check-rows-spec =
     tie.close
-    (tie.spec
-    walk-loops-requires
-    enum-told
-    enum-known-walked
-    enum-known-walked-2
-    enum-told-2
-    returns
-    returns-2
-    check-limits-requires
-    returns-3)
+    (tie.spec (λ c κs. search needs) (λ c. search needs) (λ c. search needs) (λ c. search needs) (λ c. search needs)
+    (λ c. search needs) returns-2 (λ c κs. search needs) returns-3)

@@ -7,24 +7,6 @@ use Rattle.loops.proofs.LentTables as lent
 use Rattle.loops.proofs.check_table.Statement.{statement}
 use Rattle.loops.proofs.check_table.Tie as tie
 
-listed-rows-requires : tie.Need-listed-rows-requires
-listed-rows-requires c κs = search needs
-
-enum-known-listed : tie.Need-enum-known-listed
-enum-known-listed c = search needs
-
-enum-known-listed-2 : tie.Need-enum-known-listed-2
-enum-known-listed-2 c = search needs
-
-enum-known-listed-3 : tie.Need-enum-known-listed-3
-enum-known-listed-3 c = search needs
-
-enum-told : tie.Need-enum-told
-enum-told c = search needs
-
-returns : tie.Need-returns
-returns c = search needs
-
 returns-2 : tie.Need-returns-2
 returns-2 c =
     let a = c .before .before .before .before .before .before .before .before .args in
@@ -75,16 +57,5 @@ returns-4 c =
 pub check-table-spec : {M : Type 1} → statement M
 check-table-spec =
     tie.close
-    (tie.spec
-    listed-rows-requires
-    enum-known-listed
-    enum-known-listed-2
-    enum-known-listed-3
-    enum-told
-    returns
-    returns-2
-    returns-3
-    slice-aggregate-check-rows
-    slice-aggregate-check-rows-2
-    check-rows-requires
-    returns-4)
+    (tie.spec (λ c κs. search needs) (λ c. search needs) (λ c. search needs) (λ c. search needs) (λ c. search needs)
+    (λ c. search needs) returns-2 returns-3 slice-aggregate-check-rows slice-aggregate-check-rows-2 check-rows-requires returns-4)

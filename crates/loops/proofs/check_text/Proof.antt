@@ -9,30 +9,6 @@ use Rattle.loops.proofs.Texts as texts
 use Rattle.loops.proofs.check_text.Statement.{statement}
 use Rattle.loops.proofs.check_text.Tie as tie
 
-slice-aggregate-read-loops : tie.Need-slice-aggregate-read-loops
-slice-aggregate-read-loops c = search needs
-
-slice-aggregate-read-loops-2 : tie.Need-slice-aggregate-read-loops-2
-slice-aggregate-read-loops-2 c = search needs
-
-read-loops-requires : tie.Need-read-loops-requires
-read-loops-requires c κs = search needs
-
-enum-known-read : tie.Need-enum-known-read
-enum-known-read c = search needs
-
-enum-known-read-2 : tie.Need-enum-known-read-2
-enum-known-read-2 c = search needs
-
-enum-known-read-3 : tie.Need-enum-known-read-3
-enum-known-read-3 c = search needs
-
-enum-told : tie.Need-enum-told
-enum-told c = search needs
-
-returns : tie.Need-returns
-returns c = search needs
-
 returns-2 : tie.Need-returns-2
 returns-2 c =
     let at-args = c .before .before .before .before .before .before .before .before .before .before .before
@@ -102,19 +78,6 @@ returns-3 c =
 pub check-text-spec : {M : Type 1} → statement M
 check-text-spec =
     tie.close
-    (tie.spec
-    slice-aggregate-read-loops
-    slice-aggregate-read-loops-2
-    read-loops-requires
-    enum-known-read
-    enum-known-read-2
-    enum-known-read-3
-    enum-told
-    returns
-    returns-2
-    array-share-prefix-kinds
-    slice-aggregate-check-rows
-    array-share-prefix-numbers
-    slice-aggregate-check-rows-2
-    check-rows-requires
-    returns-3)
+    (tie.spec (λ c. search needs) (λ c. search needs) (λ c κs. search needs) (λ c. search needs) (λ c. search needs)
+    (λ c. search needs) (λ c. search needs) (λ c. search needs) returns-2 array-share-prefix-kinds slice-aggregate-check-rows
+    array-share-prefix-numbers slice-aggregate-check-rows-2 check-rows-requires returns-3)

@@ -5,24 +5,6 @@ use Rattle.loops.specs.Check.{needOf}
 use Rattle.loops.proofs.need_text.Statement.{statement}
 use Rattle.loops.proofs.need_text.Tie as tie
 
-check-text-requires : tie.Need-check-text-requires
-check-text-requires c κs = search needs
-
-enum-known-checked : tie.Need-enum-known-checked
-enum-known-checked c = search needs
-
-enum-known-checked-2 : tie.Need-enum-known-checked-2
-enum-known-checked-2 c = search needs
-
-enum-known-checked-3 : tie.Need-enum-known-checked-3
-enum-known-checked-3 c = search needs
-
-enum-told : tie.Need-enum-told
-enum-told c = search needs
-
-returns : tie.Need-returns
-returns c = search needs
-
 returns-2 : tie.Need-returns-2
 returns-2 c =
     let check-text = c .before .before .before .before .before .before .check-text in
@@ -37,12 +19,5 @@ returns-3 c =
 pub need-text-spec : {M : Type 1} → statement M
 need-text-spec =
     tie.close
-    (tie.spec
-    check-text-requires
-    enum-known-checked
-    enum-known-checked-2
-    enum-known-checked-3
-    enum-told
-    returns
-    returns-2
-    returns-3)
+    (tie.spec (λ c κs. search needs) (λ c. search needs) (λ c. search needs) (λ c. search needs) (λ c. search needs)
+    (λ c. search needs) returns-2 returns-3)

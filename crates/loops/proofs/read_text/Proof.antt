@@ -9,23 +9,8 @@ use Rattle.loops.proofs.Texts as texts
 use Rattle.loops.proofs.read_text.Statement.{statement}
 use Rattle.loops.proofs.read_text.Tie as tie
 
-check-text-requires : tie.Need-check-text-requires
-check-text-requires c κs = search needs
-
 enum-told : tie.Need-enum-told
 enum-told c = search needs
-
-enum-known-checked : tie.Need-enum-known-checked
-enum-known-checked c = search needs
-
-enum-known-checked-2 : tie.Need-enum-known-checked-2
-enum-known-checked-2 c = search needs
-
-enum-told-2 : tie.Need-enum-told-2
-enum-told-2 c = search needs
-
-returns : tie.Need-returns
-returns c = search needs
 
 returns-2 : tie.Need-returns-2
 returns-2 c =
@@ -37,21 +22,6 @@ returns-2 c =
     let checked = at-checked in
     texts.put-none words (a .text .now) (check-text .result) (check-text .ensures) _
     (checked .given .1 ∙ c .before .checked2 .given .1) (a .kinds .now) (a .numbers .now)
-
-read-loops-requires : tie.Need-read-loops-requires
-read-loops-requires c κs = search needs
-
-enum-known-read : tie.Need-enum-known-read
-enum-known-read c = search needs
-
-enum-told-3 : tie.Need-enum-told-3
-enum-told-3 c = search needs
-
-same-length : tie.Need-same-length
-same-length c = search needs
-
-same-length-2 : tie.Need-same-length-2
-same-length-2 c = search needs
 
 returns-3 : tie.Need-returns-3
 returns-3 c =
@@ -68,12 +38,6 @@ returns-3 c =
     texts.read-again words (a .text .now) (check-text .result) (check-text .ensures) _ _ (enum-told .given .1) _ _ _
     _ (read-loops .result) (read-loops .ensures) _ (c .enum-told3 .given .1)
 
-same-length-3 : tie.Need-same-length-3
-same-length-3 c = search needs
-
-same-length-4 : tie.Need-same-length-4
-same-length-4 c = search needs
-
 returns-4 : tie.Need-returns-4
 returns-4 c =
     let a = c .before .before .before .before .before .before .before .before .before .before .before
@@ -86,12 +50,6 @@ returns-4 c =
     texts.put-short words (a .text .now) (check-text .result) (check-text .ensures) _ _ (enum-told .given .1) _ _ _
     _ (read-loops .result) (read-loops .ensures) (read .given .0 .0) (read .given .1) (table.short-kinds
     (read .given .0 .0) (length (a .kinds .now)) (length (a .numbers .now)) (omega arith))
-
-same-length-5 : tie.Need-same-length-5
-same-length-5 c = search needs
-
-same-length-6 : tie.Need-same-length-6
-same-length-6 c = search needs
 
 returns-5 : tie.Need-returns-5
 returns-5 c =
@@ -106,12 +64,6 @@ returns-5 c =
     texts.put-short words (a .text .now) (check-text .result) (check-text .ensures) _ _ (enum-told .given .1) _ _ _
     _ (read-loops .result) (read-loops .ensures) (read .given .0 .0) (read .given .1) (table.short-numbers
     (read .given .0 .0) (length (a .kinds .now)) (length (a .numbers .now)) (omega arith))
-
-same-length-7 : tie.Need-same-length-7
-same-length-7 c = search needs
-
-same-length-8 : tie.Need-same-length-8
-same-length-8 c = search needs
 
 returns-6 : tie.Need-returns-6
 returns-6 c =
@@ -130,26 +82,7 @@ returns-6 c =
 pub read-text-spec : {M : Type 1} → statement M
 read-text-spec =
     tie.close
-    (tie.spec
-    check-text-requires
-    enum-told
-    enum-known-checked
-    enum-known-checked-2
-    enum-told-2
-    returns
-    returns-2
-    read-loops-requires
-    enum-known-read
-    enum-told-3
-    same-length
-    same-length-2
-    returns-3
-    same-length-3
-    same-length-4
-    returns-4
-    same-length-5
-    same-length-6
-    returns-5
-    same-length-7
-    same-length-8
-    returns-6)
+    (tie.spec (λ c κs. search needs) enum-told (λ c. search needs) (λ c. search needs) (λ c. search needs) (λ c. search needs)
+    returns-2 (λ c κs. search needs) (λ c. search needs) (λ c. search needs) (λ c. search needs) (λ c. search needs) returns-3
+    (λ c. search needs) (λ c. search needs) returns-4 (λ c. search needs) (λ c. search needs) returns-5 (λ c. search needs)
+    (λ c. search needs) returns-6)

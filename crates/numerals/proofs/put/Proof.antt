@@ -15,20 +15,8 @@ returns c =
     let a = c .before .before .args in
     sym (sets-out (a .text .now) (a .at) (decimal (a .number)) (c .if1 .taken))
 
-absolute-requires : tie.Need-absolute-requires
-absolute-requires c κs = search needs
-
-slice-write-text : tie.Need-slice-write-text
-slice-write-text c = search needs
-
-add-put-digits : tie.Need-add-put-digits
-add-put-digits c = search needs
-
 put-digits-requires : tie.Need-put-digits-requires
 put-digits-requires c κs = simp length-set (omega arith)
-
-put-digits-requires-2 : tie.Need-put-digits-requires-2
-put-digits-requires-2 c κs = search needs
 
 same-length : tie.Need-same-length
 same-length c =
@@ -43,9 +31,6 @@ returns-2 c =
     let written = below-zero h value (c .before .before .before .before .if2 .taken) in
     c .before .before .put-digits .ensures ∙ rw add-one (ap (sets (a .text .now) (a .at)) (sym written))
 
-same-length-2 : tie.Need-same-length-2
-same-length-2 c = search needs
-
 returns-3 : tie.Need-returns-3
 returns-3 c =
     let a = c .before .before .before .before .before .before .before .before .args in
@@ -57,14 +42,5 @@ returns-3 c =
 pub put-spec : {M : Type 1} → statement M
 put-spec =
     tie.close
-    (tie.spec
-    returns
-    absolute-requires
-    slice-write-text
-    add-put-digits
-    put-digits-requires
-    put-digits-requires-2
-    same-length
-    returns-2
-    same-length-2
-    returns-3)
+    (tie.spec returns (λ c κs. search needs) (λ c. search needs) (λ c. search needs) put-digits-requires (λ c κs. search needs)
+    same-length returns-2 (λ c. search needs) returns-3)

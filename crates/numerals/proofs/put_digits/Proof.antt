@@ -20,9 +20,6 @@ Inv-loop value text₀ at end₀ rest₀ text end rest =
 abbrev μ-loop : tie.MeasureT-loop
 μ-loop value text₀ at end₀ rest₀ text end rest = end - at
 
-digit-count-requires : tie.Need-digit-count-requires Inv-loop μ-loop
-digit-count-requires c κs = search needs
-
 add-end : tie.Need-add-end Inv-loop μ-loop
 add-end c = omega arith
 
@@ -39,9 +36,6 @@ cast-put-u8 c = omega arith
 
 add-put-u8 : tie.Need-add-put-u8 Inv-loop μ-loop
 add-put-u8 c = omega arith
-
-put-u8-requires : tie.Need-put-u8-requires Inv-loop μ-loop
-put-u8-requires c κs = search needs
 
 loop-less : tie.Need-loop-less Inv-loop μ-loop
 loop-less c = omega arith
@@ -67,17 +61,5 @@ returns c =
 pub put-digits-spec : {M : Type 1} → statement M
 put-digits-spec =
     tie.close
-    (tie.spec
-    Inv-loop
-    μ-loop
-    digit-count-requires
-    add-end
-    loop-holds
-    sub-end
-    cast-put-u8
-    add-put-u8
-    put-u8-requires
-    loop-less
-    loop-again
-    same-length
-    returns)
+    (tie.spec Inv-loop μ-loop (λ c κs. search needs) add-end loop-holds sub-end cast-put-u8 add-put-u8 (λ c κs. search needs)
+    loop-less loop-again same-length returns)

@@ -12,14 +12,5 @@ returns c =
     let a = c .before .before .args in
     sym (sets-out (a .text .now) (a .at) (decimal (pos (a .value))) (c .if1 .taken))
 
-put-digits-requires : tie.Need-put-digits-requires
-put-digits-requires c κs = search needs
-
-same-length : tie.Need-same-length
-same-length c = search needs
-
-returns-2 : tie.Need-returns-2
-returns-2 c = search needs
-
 pub put-natural-spec : {M : Type 1} → statement M
-put-natural-spec = tie.close (tie.spec returns put-digits-requires same-length returns-2)
+put-natural-spec = tie.close (tie.spec returns (λ c κs. search needs) (λ c. search needs) (λ c. search needs))

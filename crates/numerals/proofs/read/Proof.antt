@@ -9,28 +9,10 @@ use Rattle.numerals.proofs.read.Tie as tie
 returns : tie.Need-returns
 returns c = sym (nothing (c .before .before .args .bytes .now) (c .if1 .taken))
 
-shared-slice-read-if2 : tie.Need-shared-slice-read-if2
-shared-slice-read-if2 c = search needs
-
-sub-read-below-zero : tie.Need-sub-read-below-zero
-sub-read-below-zero c = search needs
-
-part-read-below-zero-start : tie.Need-part-read-below-zero-start
-part-read-below-zero-start c = search needs
-
-part-read-below-zero-end : tie.Need-part-read-below-zero-end
-part-read-below-zero-end c = search needs
-
-read-below-zero-requires : tie.Need-read-below-zero-requires
-read-below-zero-requires c κs = search needs
-
 returns-2 : tie.Need-returns-2
 returns-2 c =
     let bs = c .before .before .before .before .before .before .args .bytes .now in
     c .read-below-zero .ensures ∙ sym (with-minus bs (c .before .before .if2 .taken))
-
-read-not-below-zero-requires : tie.Need-read-not-below-zero-requires
-read-not-below-zero-requires c κs = search needs
 
 returns-3 : tie.Need-returns-3
 returns-3 c =
@@ -40,13 +22,5 @@ returns-3 c =
 pub read-spec : {M : Type 1} → statement M
 read-spec =
     tie.close
-    (tie.spec
-    returns
-    shared-slice-read-if2
-    sub-read-below-zero
-    part-read-below-zero-start
-    part-read-below-zero-end
-    read-below-zero-requires
-    returns-2
-    read-not-below-zero-requires
-    returns-3)
+    (tie.spec returns (λ c. search needs) (λ c. search needs) (λ c. search needs) (λ c. search needs) (λ c κs. search needs)
+    returns-2 (λ c κs. search needs) returns-3)

@@ -19,15 +19,6 @@ negation-fits : (n : ℕ) → n ≤ 2147483648 → SFits w32 (negℤ (pos n))
 negation-fits zero h = record { sfits = omega arith }
 negation-fits (suc n) h = record { sfits = omega arith }
 
-read-digits-requires : tie.Need-read-digits-requires
-read-digits-requires c κs = search needs
-
-enum-known-magnitude : tie.Need-enum-known-magnitude
-enum-known-magnitude c = search needs
-
-enum-told : tie.Need-enum-told
-enum-told c = search needs
-
 returns : tie.Need-returns
 returns c = sym (laws.minus-no-number _ (sym (c .before .before .read-digits .ensures) ∙ c .enum-told .given .1))
 
@@ -71,13 +62,5 @@ returns-3 c = ap Is (toZ-ofZ w32 _ (cast-t7 c) ∙ negated-back (wide c) (fits-w
 pub read-below-zero-spec : {M : Type 1} → statement M
 read-below-zero-spec =
     tie.close
-    (tie.spec
-    read-digits-requires
-    enum-known-magnitude
-    enum-told
-    returns
-    returns-2
-    cast-number
-    sub-number
-    cast-t7
+    (tie.spec (λ c κs. search needs) (λ c. search needs) (λ c. search needs) returns returns-2 cast-number sub-number cast-t7
     returns-3)

@@ -47,9 +47,6 @@ loop-holds c =
 shared-slice-read-byte : tie.Need-shared-slice-read-byte Inv-loop μ-loop
 shared-slice-read-byte c = omega arith
 
-is-digit-requires : tie.Need-is-digit-requires Inv-loop μ-loop
-is-digit-requires c κs = tt
-
 returns-3 : tie.Need-returns-3 Inv-loop μ-loop
 returns-3 c =
     let a = c .before .before .before .before .before .before .before .before .args in
@@ -109,22 +106,5 @@ returns-5 c =
 pub read-digits-spec : {M : Type 1} → statement M
 read-digits-spec =
     tie.close
-    (tie.spec
-    Inv-loop
-    μ-loop
-    returns
-    shared-slice-read-if3
-    returns-2
-    loop-holds
-    shared-slice-read-byte
-    is-digit-requires
-    returns-3
-    mul-value
-    sub-value
-    cast-value
-    add-value
-    returns-4
-    add-i
-    loop-less
-    loop-again
-    returns-5)
+    (tie.spec Inv-loop μ-loop returns shared-slice-read-if3 returns-2 loop-holds shared-slice-read-byte (λ c κs. tt) returns-3
+    mul-value sub-value cast-value add-value returns-4 add-i loop-less loop-again returns-5)

@@ -13,15 +13,6 @@ use Rattle.numerals.proofs.ReadingLaws as laws
 use Rattle.numerals.proofs.read_not_below_zero.Statement.{statement}
 use Rattle.numerals.proofs.read_not_below_zero.Tie as tie
 
-read-digits-requires : tie.Need-read-digits-requires
-read-digits-requires c κs = search needs
-
-enum-known-magnitude : tie.Need-enum-known-magnitude
-enum-known-magnitude c = search needs
-
-enum-told : tie.Need-enum-told
-enum-told c = search needs
-
 returns : tie.Need-returns
 returns c =
     let digits = c .before .before .before .before .args .digits .now in
@@ -45,4 +36,4 @@ returns-2 c = ap Is (toZ-ofZ w32 (pos (value c)) (cast-t4 c)) ∙ sym (said c .1
 pub read-not-below-zero-spec : {M : Type 1} → statement M
 read-not-below-zero-spec =
     tie.close
-    (tie.spec read-digits-requires enum-known-magnitude enum-told returns cast-t4 returns-2)
+    (tie.spec (λ c κs. search needs) (λ c. search needs) (λ c. search needs) returns cast-t4 returns-2)

@@ -8,15 +8,6 @@ use Rattle.numerals.proofs.PuttingLaws.{below-zero, not-below-zero}
 use Rattle.numerals.proofs.size.Statement.{statement}
 use Rattle.numerals.proofs.size.Tie as tie
 
-absolute-requires : tie.Need-absolute-requires
-absolute-requires c κs = search needs
-
-digit-count-requires : tie.Need-digit-count-requires
-digit-count-requires c κs = search needs
-
-add-result : tie.Need-add-result
-add-result c = search needs
-
 returns : tie.Need-returns
 returns c =
     let h = c .before .before .before .fits .number in
@@ -31,4 +22,4 @@ returns-2 c =
 
 pub size-spec : {M : Type 1} → statement M
 size-spec =
-    tie.close (tie.spec absolute-requires digit-count-requires add-result returns returns-2)
+    tie.close (tie.spec (λ c κs. search needs) (λ c κs. search needs) (λ c. search needs) returns returns-2)

@@ -10,14 +10,8 @@ use Rattle.plans.proofs.check_rows.Lts as lts
 use Rattle.type_check.proofs.type_plan.Reads as type-plan-reads
 use Rattle.syntax.proofs.walk_plan.Reads as walk-plan-reads
 
-walk-plan-requires : tie.Need-walk-plan-requires
-walk-plan-requires c κs = search needs
-
 enum-told : tie.Need-enum-told
 enum-told c = search needs
-
-enum-told-2 : tie.Need-enum-told-2
-enum-told-2 c = search needs
 
 returns : tie.Need-returns
 returns c =
@@ -25,12 +19,6 @@ returns c =
     let walk-plan′ = c .before .before .walk-plan in
     let enum-told2′ = c .enum-told2 in
     laws.walk-no (rowsOf (args′ .kinds .now) (args′ .numbers .now)) (walk-plan′ .result) _ (walk-plan′ .ensures) (enum-told2′ .given .1)
-
-slice-aggregate-type-plan : tie.Need-slice-aggregate-type-plan
-slice-aggregate-type-plan c = search needs
-
-slice-aggregate-type-plan-2 : tie.Need-slice-aggregate-type-plan-2
-slice-aggregate-type-plan-2 c = search needs
 
 type-plan-requires : tie.Need-type-plan-requires
 type-plan-requires c κs =
@@ -41,12 +29,6 @@ type-plan-requires c κs =
     let enum-told′ = c .before .before .enum-told in
     laws.plan-room (args′ .kinds .now) (args′ .numbers .now) (pre′ .0) (pre′ .1) (walk-plan′ .result) _
     (walk-plan′ .ensures) (enum-told′ .given .1) _ _ (omega arith) (omega arith)
-
-enum-known-typing : tie.Need-enum-known-typing
-enum-known-typing c = search needs
-
-enum-told-3 : tie.Need-enum-told-3
-enum-told-3 c = search needs
 
 returns-2 : tie.Need-returns-2
 returns-2 c =
@@ -84,15 +66,5 @@ returns-3 c =
 pub check-rows-spec : {M : Type 1} → statement M
 check-rows-spec =
     tie.close
-    (tie.spec
-    walk-plan-requires
-    enum-told
-    enum-told-2
-    returns
-    slice-aggregate-type-plan
-    slice-aggregate-type-plan-2
-    type-plan-requires
-    enum-known-typing
-    enum-told-3
-    returns-2
-    returns-3)
+    (tie.spec (λ c κs. search needs) enum-told (λ c. search needs) returns (λ c. search needs) (λ c. search needs)
+    type-plan-requires (λ c. search needs) (λ c. search needs) returns-2 returns-3)

@@ -17,36 +17,6 @@ returns c =
     let a = c .before .before .before .before .args in
     outcomes.lent-short words (a .loops .now) (a .values .now) (a .store .now) (a .lent .now) (c .if1 .taken)
 
-slice-aggregate-read-loops : tie.Need-slice-aggregate-read-loops
-slice-aggregate-read-loops c = search needs
-
-slice-aggregate-read-loops-2 : tie.Need-slice-aggregate-read-loops-2
-slice-aggregate-read-loops-2 c = search needs
-
-read-loops-requires : tie.Need-read-loops-requires
-read-loops-requires c κs = search needs
-
-enum-known-read : tie.Need-enum-known-read
-enum-known-read c = search needs
-
-enum-known-read-2 : tie.Need-enum-known-read-2
-enum-known-read-2 c = search needs
-
-enum-known-read-3 : tie.Need-enum-known-read-3
-enum-known-read-3 c = search needs
-
-enum-told : tie.Need-enum-told
-enum-told c = search needs
-
-returns-2 : tie.Need-returns-2
-returns-2 c = search needs
-
-put-refusal-requires : tie.Need-put-refusal-requires
-put-refusal-requires c κs = search needs
-
-same-length : tie.Need-same-length
-same-length c = search needs
-
 returns-3 : tie.Need-returns-3
 returns-3 c =
     let a = c .before .before .before .before .before .before .before .before .before .before .before .before .before .before .before .before .before .before .before .args in
@@ -103,12 +73,6 @@ run-table-requires c κs =
     let y = length-take-le (read-known .given .0 .0) (read .last .1 .1 .0) (omega (arith, few, l)) in
     (x ∙ sym y, omega (arith, x, few), if1 .left)
 
-same-length-2 : tie.Need-same-length-2
-same-length-2 c = search needs
-
-same-length-3 : tie.Need-same-length-3
-same-length-3 c = search needs
-
 returns-4 : tie.Need-returns-4
 returns-4 c =
     let a = c .before .before .before .before .before .before .before .before .before .before .before .before .before .before .before .before .before .before .before .before .args in
@@ -121,24 +85,7 @@ returns-4 c =
 pub runner-spec : {M : Type 1} → statement M
 runner-spec =
     tie.close
-    (tie.spec
-    returns
-    slice-aggregate-read-loops
-    slice-aggregate-read-loops-2
-    read-loops-requires
-    enum-known-read
-    enum-known-read-2
-    enum-known-read-3
-    enum-told
-    returns-2
-    put-refusal-requires
-    same-length
-    returns-3
-    array-share-prefix-kinds
-    slice-aggregate-run-table
-    array-share-prefix-numbers
-    slice-aggregate-run-table-2
-    run-table-requires
-    same-length-2
-    same-length-3
-    returns-4)
+    (tie.spec returns (λ c. search needs) (λ c. search needs) (λ c κs. search needs) (λ c. search needs) (λ c. search needs)
+    (λ c. search needs) (λ c. search needs) (λ c. search needs) (λ c κs. search needs) (λ c. search needs) returns-3
+    array-share-prefix-kinds slice-aggregate-run-table array-share-prefix-numbers slice-aggregate-run-table-2 run-table-requires
+    (λ c. search needs) (λ c. search needs) returns-4)

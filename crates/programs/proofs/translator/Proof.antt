@@ -10,36 +10,6 @@ use borrow.Author.Needs.{needs}
 use Rattle.programs.proofs.translator.Statement.{statement}
 use Rattle.programs.proofs.translator.Tie as tie
 
-slice-aggregate-translate-rows : tie.Need-slice-aggregate-translate-rows
-slice-aggregate-translate-rows c = search needs
-
-slice-aggregate-translate-rows-2 : tie.Need-slice-aggregate-translate-rows-2
-slice-aggregate-translate-rows-2 c = search needs
-
-translate-rows-requires : tie.Need-translate-rows-requires
-translate-rows-requires c κs = search needs
-
-enum-known-made : tie.Need-enum-known-made
-enum-known-made c = search needs
-
-enum-known-made-2 : tie.Need-enum-known-made-2
-enum-known-made-2 c = search needs
-
-enum-known-made-3 : tie.Need-enum-known-made-3
-enum-known-made-3 c = search needs
-
-enum-told : tie.Need-enum-told
-enum-told c = search needs
-
-returns : tie.Need-returns
-returns c = search needs
-
-put-refusal-requires : tie.Need-put-refusal-requires
-put-refusal-requires c κs = search needs
-
-same-length : tie.Need-same-length
-same-length c = search needs
-
 returns-2 : tie.Need-returns-2
 returns-2 c =
     let rows = c .before .before .before .before .before .before .before .before .before .before .before .before .translate-rows in
@@ -80,12 +50,6 @@ slice-aggregate-print-2 c =
     let kept : length (rows .last .1 .1 .0) ≡ 4096 = rows .kept .1 .1 .0 in
     sym (length-take-le (made .given .0 .0) (rows .last .1 .1 .0) (omega (arith, kept, few)))
 
-print-requires : tie.Need-print-requires
-print-requires c κs = search needs
-
-same-length-2 : tie.Need-same-length-2
-same-length-2 c = search needs
-
 returns-3 : tie.Need-returns-3
 returns-3 c =
     let rows = c .before .before .before .before .before .before .before .before .before .before .before .translate-rows in
@@ -96,22 +60,7 @@ returns-3 c =
 pub translator-spec : {M : Type 1} → statement M
 translator-spec =
     tie.close
-    (tie.spec
-    slice-aggregate-translate-rows
-    slice-aggregate-translate-rows-2
-    translate-rows-requires
-    enum-known-made
-    enum-known-made-2
-    enum-known-made-3
-    enum-told
-    returns
-    put-refusal-requires
-    same-length
-    returns-2
-    array-share-prefix-kinds
-    slice-aggregate-print
-    array-share-prefix-numbers
-    slice-aggregate-print-2
-    print-requires
-    same-length-2
-    returns-3)
+    (tie.spec (λ c. search needs) (λ c. search needs) (λ c κs. search needs) (λ c. search needs) (λ c. search needs)
+    (λ c. search needs) (λ c. search needs) (λ c. search needs) (λ c κs. search needs) (λ c. search needs) returns-2
+    array-share-prefix-kinds slice-aggregate-print array-share-prefix-numbers slice-aggregate-print-2 (λ c κs. search needs)
+    (λ c. search needs) returns-3)

@@ -17,15 +17,6 @@ returns c =
           (storeOf (a .cells .now) (a .bytes .now)) (c .if1 .taken),
     )
 
-count-requires : tie.Need-count-requires
-count-requires c κs = search needs
-
-same-length : tie.Need-same-length
-same-length c = search needs
-
-same-length-2 : tie.Need-same-length-2
-same-length-2 c = search needs
-
 returns-2 : tie.Need-returns-2
 returns-2 c =
     let a = c .before .before .before .before .before .before .before .args in (
@@ -34,15 +25,6 @@ returns-2 c =
           (storeOf (a .cells .now) (a .bytes .now)) (c .before .before .before .before .if1 .left)
           (omega (arith, c .before .count .ensures, c .if2 .taken)),
     )
-
-run-loops-requires : tie.Need-run-loops-requires
-run-loops-requires c κs = search needs
-
-same-length-3 : tie.Need-same-length-3
-same-length-3 c = search needs
-
-same-length-4 : tie.Need-same-length-4
-same-length-4 c = search needs
 
 returns-3 : tie.Need-returns-3
 returns-3 c =
@@ -68,13 +50,5 @@ returns-3 c =
 pub run-passing-spec : {M : Type 1} → statement M
 run-passing-spec =
     tie.close
-    (tie.spec
-    returns
-    count-requires
-    same-length
-    same-length-2
-    returns-2
-    run-loops-requires
-    same-length-3
-    same-length-4
-    returns-3)
+    (tie.spec returns (λ c κs. search needs) (λ c. search needs) (λ c. search needs) returns-2 (λ c κs. search needs)
+    (λ c. search needs) (λ c. search needs) returns-3)

@@ -8,24 +8,6 @@ use Rattle.run.proofs.Entries as entries
 use Rattle.run.proofs.run_rows.Statement.{statement}
 use Rattle.run.proofs.run_rows.Tie as tie
 
-check-table-requires : tie.Need-check-table-requires
-check-table-requires c κs = search needs
-
-enum-known-checked : tie.Need-enum-known-checked
-enum-known-checked c = search needs
-
-enum-known-checked-2 : tie.Need-enum-known-checked-2
-enum-known-checked-2 c = search needs
-
-enum-known-checked-3 : tie.Need-enum-known-checked-3
-enum-known-checked-3 c = search needs
-
-enum-told : tie.Need-enum-told
-enum-told c = search needs
-
-returns : tie.Need-returns
-returns c = search needs
-
 returns-2 : tie.Need-returns-2
 returns-2 c =
     let at-args = c .before .before .before .before .before .before .before .before .before .args in
@@ -38,9 +20,6 @@ returns-2 c =
           (storeOf (a .cells .now) (a .bytes .now)) (check-table .result) (check-table .ensures) _
           (at-checked2 .given .1 ∙ c .before .checked3 .given .1),
     )
-
-rows-lent-requires : tie.Need-rows-lent-requires
-rows-lent-requires c κs = search needs
 
 returns-3 : tie.Need-returns-3
 returns-3 c =
@@ -80,12 +59,6 @@ run-passing-requires c κs =
           (arith, k, c .before .before .before .before .if1 .left),
     )
 
-same-length : tie.Need-same-length
-same-length c = search needs
-
-same-length-2 : tie.Need-same-length-2
-same-length-2 c = search needs
-
 returns-4 : tie.Need-returns-4
 returns-4 c =
     let at-args = c .before .before .before .before .before .before .before .before .before .before .before
@@ -111,19 +84,6 @@ returns-4 c =
 pub run-rows-spec : {M : Type 1} → statement M
 run-rows-spec =
     tie.close
-    (tie.spec
-    check-table-requires
-    enum-known-checked
-    enum-known-checked-2
-    enum-known-checked-3
-    enum-told
-    returns
-    returns-2
-    rows-lent-requires
-    returns-3
-    slice-aggregate-run-passing
-    slice-aggregate-run-passing-2
-    run-passing-requires
-    same-length
-    same-length-2
-    returns-4)
+    (tie.spec (λ c κs. search needs) (λ c. search needs) (λ c. search needs) (λ c. search needs) (λ c. search needs)
+    (λ c. search needs) returns-2 (λ c κs. search needs) returns-3 slice-aggregate-run-passing slice-aggregate-run-passing-2
+    run-passing-requires (λ c. search needs) (λ c. search needs) returns-4)

@@ -10,30 +10,6 @@ use Rattle.run.proofs.Entries as entries
 use Rattle.run.proofs.run_text.Statement.{statement}
 use Rattle.run.proofs.run_text.Tie as tie
 
-slice-aggregate-read-loops : tie.Need-slice-aggregate-read-loops
-slice-aggregate-read-loops c = search needs
-
-slice-aggregate-read-loops-2 : tie.Need-slice-aggregate-read-loops-2
-slice-aggregate-read-loops-2 c = search needs
-
-read-loops-requires : tie.Need-read-loops-requires
-read-loops-requires c κs = search needs
-
-enum-known-read : tie.Need-enum-known-read
-enum-known-read c = search needs
-
-enum-known-read-2 : tie.Need-enum-known-read-2
-enum-known-read-2 c = search needs
-
-enum-known-read-3 : tie.Need-enum-known-read-3
-enum-known-read-3 c = search needs
-
-enum-told : tie.Need-enum-told
-enum-told c = search needs
-
-returns : tie.Need-returns
-returns c = search needs
-
 returns-2 : tie.Need-returns-2
 returns-2 c =
     let at-args = c .before .before .before .before .before .before .before .before .before .before .before
@@ -63,9 +39,6 @@ returns-3 c =
       )),
     )
 
-array-share-prefix-kinds : tie.Need-array-share-prefix-kinds
-array-share-prefix-kinds c = search needs
-
 slice-aggregate-run-rows : tie.Need-slice-aggregate-run-rows
 slice-aggregate-run-rows c =
     let read-loops = c .before .before .before .before .before .before .before .read-loops in
@@ -73,24 +46,12 @@ slice-aggregate-run-rows c =
     sym (length-take-le (c .before .before .before .read .given .0 .0) (read-loops .last .1 .0)
     (omega (arith, c .before .if1 .left, k)))
 
-array-share-prefix-numbers : tie.Need-array-share-prefix-numbers
-array-share-prefix-numbers c = search needs
-
 slice-aggregate-run-rows-2 : tie.Need-slice-aggregate-run-rows-2
 slice-aggregate-run-rows-2 c =
     let read-loops = c .before .before .before .before .before .before .before .before .read-loops in
     let k : length (read-loops .last .1 .1 .0) ≡ 4096 = read-loops .kept .1 .1 .0 in
     sym (length-take-le (c .before .before .before .before .read .given .0 .0) (read-loops .last .1 .1 .0)
     (omega (arith, c .before .before .if1 .left, k)))
-
-run-rows-requires : tie.Need-run-rows-requires
-run-rows-requires c κs = search needs
-
-same-length : tie.Need-same-length
-same-length c = search needs
-
-same-length-2 : tie.Need-same-length-2
-same-length-2 c = search needs
 
 returns-4 : tie.Need-returns-4
 returns-4 c =
@@ -113,22 +74,6 @@ returns-4 c =
 pub run-text-spec : {M : Type 1} → statement M
 run-text-spec =
     tie.close
-    (tie.spec
-    slice-aggregate-read-loops
-    slice-aggregate-read-loops-2
-    read-loops-requires
-    enum-known-read
-    enum-known-read-2
-    enum-known-read-3
-    enum-told
-    returns
-    returns-2
-    returns-3
-    array-share-prefix-kinds
-    slice-aggregate-run-rows
-    array-share-prefix-numbers
-    slice-aggregate-run-rows-2
-    run-rows-requires
-    same-length
-    same-length-2
-    returns-4)
+    (tie.spec (λ c. search needs) (λ c. search needs) (λ c κs. search needs) (λ c. search needs) (λ c. search needs)
+    (λ c. search needs) (λ c. search needs) (λ c. search needs) returns-2 returns-3 (λ c. search needs) slice-aggregate-run-rows
+    (λ c. search needs) slice-aggregate-run-rows-2 (λ c κs. search needs) (λ c. search needs) (λ c. search needs) returns-4)

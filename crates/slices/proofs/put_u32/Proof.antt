@@ -5,20 +5,8 @@ use borrow.Author.Needs.{needs}
 use Rattle.slices.proofs.put_u32.Statement.{statement}
 use Rattle.slices.proofs.put_u32.Tie as tie
 
-mul-slice : tie.Need-mul-slice
-mul-slice c = search needs
-
-slice-write-slice : tie.Need-slice-write-slice
-slice-write-slice c = search needs
-
-same-length : tie.Need-same-length
-same-length c = search needs
-
-returns : tie.Need-returns
-returns c = search needs
-
 returns-2 : tie.Need-returns-2
 returns-2 c = sym (set-out (c .before .args .slice .now) (c .before .args .at) (c .before .args .value) (c .if1 .left))
 
 pub put-u32-spec : {M : Type 1} → statement M
-put-u32-spec = tie.close (tie.spec mul-slice slice-write-slice same-length returns returns-2)
+put-u32-spec = tie.close (tie.spec (λ c. search needs) (λ c. search needs) (λ c. search needs) (λ c. search needs) returns-2)

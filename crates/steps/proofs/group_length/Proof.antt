@@ -9,12 +9,6 @@ use Rattle.steps.proofs.group_length.Tie as tie
 as-array-requires : tie.Need-as-array-requires
 as-array-requires c κs = sound-here (c .before .args .types .now) (c .before .args .place) (c .before .pre .0) (c .before .pre .1)
 
-enum-known-array : tie.Need-enum-known-array
-enum-known-array c = search needs
-
-enum-told : tie.Need-enum-told
-enum-told c = search needs
-
 returns : tie.Need-returns
 returns c =
     let entry = c .before .before .before .before in
@@ -44,4 +38,4 @@ returns-2 c =
 pub group-length-spec : {M : Type 1} → statement M
 group-length-spec =
     tie.close
-    (tie.spec as-array-requires enum-known-array enum-told returns array-length-requires returns-2)
+    (tie.spec as-array-requires (λ c. search needs) (λ c. search needs) returns array-length-requires returns-2)

@@ -20,9 +20,6 @@ array-read-t14 c =
     let entry = c .before .before .before in
     omega (arith, entry .pre .6 (c .before .before .if1 .taken), entry .pre .7, entry .pre .8)
 
-cast-t15 : tie.Need-cast-t15
-cast-t15 c = search needs
-
 returns : tie.Need-returns
 returns c = leaf-variable _ _ _ _ _ _ _ _ (c .before .before .if1 .taken) record {
   rows = refl;
@@ -37,23 +34,8 @@ returns c = leaf-variable _ _ _ _ _ _ _ _ (c .before .before .if1 .taken) record
 cast-push-stored : tie.Need-cast-push-stored
 cast-push-stored c = omega (arith, c .before .before .before .pre .5 (c .before .if2 .taken))
 
-push-stored-requires : tie.Need-push-stored-requires
-push-stored-requires c κs = search needs
-
-node-used-requires : tie.Need-node-used-requires
-node-used-requires c κs = search needs
-
 returns-2 : tie.Need-returns-2
 returns-2 c = leaf-input _ _ _ _ _ _ _ _ (c .before .before .before .if2 .taken) (c .before .push-stored .ensures) (c .node-used .ensures)
-
-cast-push-stored-2 : tie.Need-cast-push-stored-2
-cast-push-stored-2 c = search needs
-
-push-stored-requires-2 : tie.Need-push-stored-requires-2
-push-stored-requires-2 c κs = search needs
-
-node-used-requires-2 : tie.Need-node-used-requires-2
-node-used-requires-2 c κs = search needs
 
 returns-3 : tie.Need-returns-3
 returns-3 c =
@@ -64,18 +46,5 @@ returns-3 c =
 pub leaf-spec : {M : Type 1} → statement M
 leaf-spec =
     tie.close
-    (tie.spec
-    add-t9
-    sub-t10
-    mul-t11
-    array-read-t14
-    cast-t15
-    returns
-    cast-push-stored
-    push-stored-requires
-    node-used-requires
-    returns-2
-    cast-push-stored-2
-    push-stored-requires-2
-    node-used-requires-2
-    returns-3)
+    (tie.spec add-t9 sub-t10 mul-t11 array-read-t14 (λ c. search needs) returns cast-push-stored (λ c κs. search needs)
+    (λ c κs. search needs) returns-2 (λ c. search needs) (λ c κs. search needs) (λ c κs. search needs) returns-3)

@@ -5,17 +5,11 @@ use Rattle.steps.proofs.StepLaws.{number-join, number-else}
 use Rattle.steps.proofs.node_number.Statement.{statement}
 use Rattle.steps.proofs.node_number.Tie as tie
 
-group-length-requires : tie.Need-group-length-requires
-group-length-requires c κs = search needs
-
 returns : tie.Need-returns
 returns c =
     let entry = c .before .before .before in
     number-join (entry .args .kind) (entry .args .number) _ (typeAt (entry .args .types .now) (entry .args .place))
     (c .before .if1 .taken) (c .group-length .ensures)
-
-cast-result : tie.Need-cast-result
-cast-result c = search needs
 
 returns-2 : tie.Need-returns-2
 returns-2 c =
@@ -24,4 +18,4 @@ returns-2 c =
     (c .if1 .left)
 
 pub node-number-spec : {M : Type 1} → statement M
-node-number-spec = tie.close (tie.spec group-length-requires returns cast-result returns-2)
+node-number-spec = tie.close (tie.spec (λ c κs. search needs) returns (λ c. search needs) returns-2)

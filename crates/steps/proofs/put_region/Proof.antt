@@ -21,12 +21,6 @@ cast-put-count c =
           (entry .pre .1),
     )
 
-put-count-requires : tie.Need-put-count-requires
-put-count-requires c κs = search needs
-
-put-count-requires-2 : tie.Need-put-count-requires-2
-put-count-requires-2 c κs = search needs
-
 returns : tie.Need-returns
 returns c =
     let entry = c .before .before .before .before .before .before .before .before in
@@ -37,4 +31,4 @@ returns c =
 pub put-region-spec : {M : Type 1} → statement M
 put-region-spec =
     tie.close
-    (tie.spec cells-requires cast-put-count put-count-requires put-count-requires-2 returns)
+    (tie.spec cells-requires cast-put-count (λ c κs. search needs) (λ c κs. search needs) returns)

@@ -4,29 +4,11 @@ use Rattle.store.proofs.Puts as puts
 use Rattle.store.proofs.put.Statement.{statement}
 use Rattle.store.proofs.put.Tie as tie
 
-mul-value : tie.Need-mul-value
-mul-value c = search needs
-
-slice-set-from-value : tie.Need-slice-set-from-value
-slice-set-from-value c = search needs
-
-same-length : tie.Need-same-length
-same-length c = search needs
-
 returns : tie.Need-returns
 returns c =
     let entry = c .before .before in
     puts.put-cells (entry .args .cells .now) (entry .args .bytes .now) (entry .args .at) (entry .args .value)
     (entry .fits .value) (c .if1 .taken)
-
-sub-put-cell : tie.Need-sub-put-cell
-sub-put-cell c = search needs
-
-put-cell-requires : tie.Need-put-cell-requires
-put-cell-requires c κs = search needs
-
-same-length-2 : tie.Need-same-length-2
-same-length-2 c = search needs
 
 returns-2 : tie.Need-returns-2
 returns-2 c =
@@ -39,12 +21,5 @@ returns-2 c =
 pub put-spec : {M : Type 1} → statement M
 put-spec =
     tie.close
-    (tie.spec
-    mul-value
-    slice-set-from-value
-    same-length
-    returns
-    sub-put-cell
-    put-cell-requires
-    same-length-2
-    returns-2)
+    (tie.spec (λ c. search needs) (λ c. search needs) (λ c. search needs) returns (λ c. search needs) (λ c κs. search needs)
+    (λ c. search needs) returns-2)

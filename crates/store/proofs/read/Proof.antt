@@ -4,23 +4,11 @@ use Rattle.store.proofs.Puts as puts
 use Rattle.store.proofs.read.Statement.{statement}
 use Rattle.store.proofs.read.Tie as tie
 
-mul-result : tie.Need-mul-result
-mul-result c = search needs
-
-shared-slice-copy-out-result : tie.Need-shared-slice-copy-out-result
-shared-slice-copy-out-result c = search needs
-
 returns : tie.Need-returns
 returns c =
     let entry = c .before .before .before in
     puts.read-cells (entry .args .cells .now) (entry .args .bytes .now) (entry .args .at)
     (record { sfits = c .result .given }) (c .before .if1 .taken)
-
-sub-cell-at : tie.Need-sub-cell-at
-sub-cell-at c = search needs
-
-cell-at-requires : tie.Need-cell-at-requires
-cell-at-requires c κs = search needs
 
 returns-2 : tie.Need-returns-2
 returns-2 c =
@@ -31,10 +19,4 @@ returns-2 c =
 pub read-spec : {M : Type 1} → statement M
 read-spec =
     tie.close
-    (tie.spec
-    mul-result
-    shared-slice-copy-out-result
-    returns
-    sub-cell-at
-    cell-at-requires
-    returns-2)
+    (tie.spec (λ c. search needs) (λ c. search needs) returns (λ c. search needs) (λ c κs. search needs) returns-2)

@@ -55,9 +55,6 @@ walk-calls t = (
   walk.Post,
 )
 
-walk-add-line : (t : ℕ) → walk-lts.Need-add-line (walk-calls t) (walk-at t) walk.Post walk-Inv-loop walk-μ-loop
-walk-add-line t c = search needs
-
 walk-returns : (t : ℕ) → walk-lts.Need-returns (walk-calls t) (walk-at t) walk.Post walk-Inv-loop walk-μ-loop
 walk-returns t c =
     let entry = c .before .before in (
@@ -65,26 +62,6 @@ walk-returns t c =
       λ ds. steps.walk-none (entry .args .before) (entry .args .due) (entry .args .kinds .now)
           (entry .args .numbers .now) (c .if1 .taken) ds,
     )
-
-walk-shared-slice-read-kind : (t : ℕ) → walk-lts.Need-shared-slice-read-kind (walk-calls t) (walk-at t) walk.Post walk-Inv-loop walk-μ-loop
-walk-shared-slice-read-kind t c = search needs
-
-walk-shared-slice-copy-out-natural :
-    (t : ℕ) → walk-lts.Need-shared-slice-copy-out-natural (walk-calls t) (walk-at t) walk.Post walk-Inv-loop
-    walk-μ-loop
-walk-shared-slice-copy-out-natural t c = search needs
-
-walk-natural-requires : (t : ℕ) → walk-lts.Need-natural-requires (walk-calls t) (walk-at t) walk.Post walk-Inv-loop walk-μ-loop
-walk-natural-requires t c κs = search needs
-
-walk-ask-requires : (t : ℕ) → walk-lts.Need-ask-requires (walk-calls t) (walk-at t) walk.Post walk-Inv-loop walk-μ-loop
-walk-ask-requires t c κs = search needs
-
-walk-enum-known-asked : (t : ℕ) → walk-lts.Need-enum-known-asked (walk-calls t) (walk-at t) walk.Post walk-Inv-loop walk-μ-loop
-walk-enum-known-asked t c = search needs
-
-walk-enum-told : (t : ℕ) → walk-lts.Need-enum-told (walk-calls t) (walk-at t) walk.Post walk-Inv-loop walk-μ-loop
-walk-enum-told t c = search needs
 
 walk-returns-2 : (t : ℕ) → walk-lts.Need-returns-2 (walk-calls t) (walk-at t) walk.Post walk-Inv-loop walk-μ-loop
 walk-returns-2 t c =
@@ -117,33 +94,6 @@ walk-loop-holds t c =
           (c .before .asked .given .1),
     )
 
-walk-operand-requires : (t : ℕ) → walk-lts.Need-operand-requires (walk-calls t) (walk-at t) walk.Post walk-Inv-loop walk-μ-loop
-walk-operand-requires t c κs = search needs
-
-walk-sub-walk : (t : ℕ) → walk-lts.Need-sub-walk (walk-calls t) (walk-at t) walk.Post walk-Inv-loop walk-μ-loop
-walk-sub-walk t c = search needs
-
-walk-part-walk-start : (t : ℕ) → walk-lts.Need-part-walk-start (walk-calls t) (walk-at t) walk.Post walk-Inv-loop walk-μ-loop
-walk-part-walk-start t c = search needs
-
-walk-part-walk-end : (t : ℕ) → walk-lts.Need-part-walk-end (walk-calls t) (walk-at t) walk.Post walk-Inv-loop walk-μ-loop
-walk-part-walk-end t c = search needs
-
-walk-mul-walk : (t : ℕ) → walk-lts.Need-mul-walk (walk-calls t) (walk-at t) walk.Post walk-Inv-loop walk-μ-loop
-walk-mul-walk t c = search needs
-
-walk-sub-walk-2 : (t : ℕ) → walk-lts.Need-sub-walk-2 (walk-calls t) (walk-at t) walk.Post walk-Inv-loop walk-μ-loop
-walk-sub-walk-2 t c = search needs
-
-walk-part-walk-start-2 : (t : ℕ) → walk-lts.Need-part-walk-start-2 (walk-calls t) (walk-at t) walk.Post walk-Inv-loop walk-μ-loop
-walk-part-walk-start-2 t c = search needs
-
-walk-part-walk-end-2 : (t : ℕ) → walk-lts.Need-part-walk-end-2 (walk-calls t) (walk-at t) walk.Post walk-Inv-loop walk-μ-loop
-walk-part-walk-end-2 t c = search needs
-
-walk-add-walk : (t : ℕ) → walk-lts.Need-add-walk (walk-calls t) (walk-at t) walk.Post walk-Inv-loop walk-μ-loop
-walk-add-walk t c = search needs
-
 walk-walk-requires : (t : ℕ) → walk-lts.Need-walk-requires (walk-calls t) (walk-at t) walk.Post walk-Inv-loop walk-μ-loop
 walk-walk-requires t c κs =
     let entry = c .before .before .before .before .before .before .before .before .before .before .before
@@ -161,12 +111,6 @@ walk-walk-requires t c κs =
             c .before .before .before .before .before .before .asked .given .1)),
       ),
     )
-
-walk-enum-known-walked : (t : ℕ) → walk-lts.Need-enum-known-walked (walk-calls t) (walk-at t) walk.Post walk-Inv-loop walk-μ-loop
-walk-enum-known-walked t c = search needs
-
-walk-enum-told-2 : (t : ℕ) → walk-lts.Need-enum-told-2 (walk-calls t) (walk-at t) walk.Post walk-Inv-loop walk-μ-loop
-walk-enum-told-2 t c = search needs
 
 walk-returns-3 : (t : ℕ) → walk-lts.Need-returns-3 (walk-calls t) (walk-at t) walk.Post walk-Inv-loop walk-μ-loop
 walk-returns-3 t c =
@@ -196,12 +140,6 @@ walk-add-rows t c =
           .before .before .before .before .before .before .before .pre .1 .1,
     )
 
-walk-sub-left : (t : ℕ) → walk-lts.Need-sub-left (walk-calls t) (walk-at t) walk.Post walk-Inv-loop walk-μ-loop
-walk-sub-left t c = search needs
-
-walk-loop-less : (t : ℕ) → walk-lts.Need-loop-less (walk-calls t) (walk-at t) walk.Post walk-Inv-loop walk-μ-loop
-walk-loop-less t c = search needs
-
 walk-loop-again : (t : ℕ) → walk-lts.Need-loop-again (walk-calls t) (walk-at t) walk.Post walk-Inv-loop walk-μ-loop
 walk-loop-again t c =
     let entry = c .before .before .before .before .before .before .before .before .before .before .before
@@ -229,35 +167,8 @@ walk-returns-4 t c =
 
 pub +walk-spec : {M : Type 1} → statement M
 +walk-spec = close μ-walk λ t. walk-lts.spec (walk-calls t)
-    (walk-at t)
-    walk.Post
-    walk-Inv-loop
-    walk-μ-loop
-    (walk-add-line t)
-    (walk-returns t)
-    (walk-shared-slice-read-kind t)
-    (walk-shared-slice-copy-out-natural t)
-    (walk-natural-requires t)
-    (walk-ask-requires t)
-    (walk-enum-known-asked t)
-    (walk-enum-told t)
-    (walk-returns-2 t)
-    (walk-loop-holds t)
-    (walk-operand-requires t)
-    (walk-sub-walk t)
-    (walk-part-walk-start t)
-    (walk-part-walk-end t)
-    (walk-mul-walk t)
-    (walk-sub-walk-2 t)
-    (walk-part-walk-start-2 t)
-    (walk-part-walk-end-2 t)
-    (walk-add-walk t)
-    (walk-walk-requires t)
-    (walk-enum-known-walked t)
-    (walk-enum-told-2 t)
-    (walk-returns-3 t)
-    (walk-add-rows t)
-    (walk-sub-left t)
-    (walk-loop-less t)
-    (walk-loop-again t)
-    (walk-returns-4 t)
+    (walk-at t) walk.Post walk-Inv-loop walk-μ-loop (λ c. search needs) (walk-returns t) (λ c. search needs) (λ c. search needs)
+    (λ c κs. search needs) (λ c κs. search needs) (λ c. search needs) (λ c. search needs) (walk-returns-2 t) (walk-loop-holds t)
+    (λ c κs. search needs) (λ c. search needs) (λ c. search needs) (λ c. search needs) (λ c. search needs) (λ c. search needs)
+    (λ c. search needs) (λ c. search needs) (λ c. search needs) (walk-walk-requires t) (λ c. search needs) (λ c. search needs)
+    (walk-returns-3 t) (walk-add-rows t) (λ c. search needs) (λ c. search needs) (walk-loop-again t) (walk-returns-4 t)

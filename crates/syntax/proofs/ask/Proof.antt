@@ -12,23 +12,11 @@ use Rattle.syntax.proofs.Steps as steps
 use Rattle.syntax.proofs.ask.Statement.{statement}
 use Rattle.syntax.proofs.ask.Tie as tie
 
-operand-count-requires : tie.Need-operand-count-requires
-operand-count-requires c κs = search needs
-
-enum-known-listed : tie.Need-enum-known-listed
-enum-known-listed c = search needs
-
-enum-told : tie.Need-enum-told
-enum-told c = search needs
-
 returns : tie.Need-returns
 returns c =
     let entry = c .before .before .before .before in
     ask-due (entry .args .due) (entry .args .kind) (entry .args .number) (entry .args .line) (sym
     (c .before .before .operand-count .ensures) ∙ c .enum-told .given .1)
-
-in-range-requires : tie.Need-in-range-requires
-in-range-requires c κs = search needs
 
 returns-2 : tie.Need-returns-2
 returns-2 c =
@@ -37,12 +25,6 @@ returns-2 c =
     ask-range (entry .args .due) (entry .args .kind) (entry .args .number) (entry .args .line) (sym
     (at-operand-count .ensures) ∙ c .before .before .before .listed .given .1) (flag-not _ _
     (c .before .in-range .ensures) (c .if1 .taken))
-
-opened-requires : tie.Need-opened-requires
-opened-requires c κs = search needs
-
-names-fit-requires : tie.Need-names-fit-requires
-names-fit-requires c κs = search needs
 
 returns-3 : tie.Need-returns-3
 returns-3 c =
@@ -54,9 +36,6 @@ returns-3 c =
     (sym (at-operand-count .ensures) ∙ at-listed .given .1) (flag-yes _ _ (at-in-range .ensures)
     (c .before .before .before .if1 .left)) (ap namesFit (sym (c .before .before .opened .ensures)) ∙ flag-not _
     _ (c .before .names-fit .ensures) (c .if2 .taken))
-
-inputs-counted-requires : tie.Need-inputs-counted-requires
-inputs-counted-requires c κs = search needs
 
 add-t16 : tie.Need-add-t16
 add-t16 c =
@@ -88,16 +67,5 @@ returns-4 c =
 pub ask-spec : {M : Type 1} → statement M
 ask-spec =
     tie.close
-    (tie.spec
-    operand-count-requires
-    enum-known-listed
-    enum-told
-    returns
-    in-range-requires
-    returns-2
-    opened-requires
-    names-fit-requires
-    returns-3
-    inputs-counted-requires
-    add-t16
-    returns-4)
+    (tie.spec (λ c κs. search needs) (λ c. search needs) (λ c. search needs) returns (λ c κs. search needs) returns-2
+    (λ c κs. search needs) (λ c κs. search needs) returns-3 (λ c κs. search needs) add-t16 returns-4)

@@ -6,19 +6,10 @@ use Rattle.syntax.proofs.Tables as tables
 use Rattle.syntax.proofs.listed_rows.Statement.{statement}
 use Rattle.syntax.proofs.listed_rows.Tie as tie
 
-shorter-requires : tie.Need-shorter-requires
-shorter-requires c κs = search needs
-
 slice-aggregate-listed : tie.Need-slice-aggregate-listed
 slice-aggregate-listed c =
     let a = c .before .before .before .args in
     sym (tables.kinds-length (a .kinds .now) (a .numbers .now) (c .before .shorter .ensures))
-
-listed-requires : tie.Need-listed-requires
-listed-requires c κs = search needs
-
-add-t10 : tie.Need-add-t10
-add-t10 c = search needs
 
 returns : tie.Need-returns
 returns c =
@@ -39,4 +30,4 @@ returns-2 c =
 pub listed-rows-spec : {M : Type 1} → statement M
 listed-rows-spec =
     tie.close
-    (tie.spec shorter-requires slice-aggregate-listed listed-requires add-t10 returns returns-2)
+    (tie.spec (λ c κs. search needs) slice-aggregate-listed (λ c κs. search needs) (λ c. search needs) returns returns-2)

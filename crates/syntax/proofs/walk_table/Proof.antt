@@ -6,24 +6,12 @@ use Rattle.syntax.proofs.Tables as tables
 use Rattle.syntax.proofs.walk_table.Statement.{statement}
 use Rattle.syntax.proofs.walk_table.Tie as tie
 
-listed-rows-requires : tie.Need-listed-rows-requires
-listed-rows-requires c κs = search needs
-
-enum-known-listed : tie.Need-enum-known-listed
-enum-known-listed c = search needs
-
-enum-told : tie.Need-enum-told
-enum-told c = search needs
-
 returns : tie.Need-returns
 returns c =
     let at-args = c .before .before .before .before .args in
     let a = at-args in
     tables.table-unlisted (a .kinds .now) (a .numbers .now) (c .before .before .listed-rows .ensures .1) (a .sort) _
     (c .enum-told .given .1)
-
-in-force-requires : tie.Need-in-force-requires
-in-force-requires c κs = search needs
 
 slice-aggregate-walk : tie.Need-slice-aggregate-walk
 slice-aggregate-walk c =
@@ -62,12 +50,6 @@ walk-requires c κs =
       }),
     )
 
-enum-known-walked : tie.Need-enum-known-walked
-enum-known-walked c = search needs
-
-enum-told-2 : tie.Need-enum-told-2
-enum-told-2 c = search needs
-
 returns-2 : tie.Need-returns-2
 returns-2 c =
     let a = c .before .before .before .before .before .before .before .before .before .before .before .args in
@@ -77,9 +59,6 @@ returns-2 c =
     let walked = c .before .before .walk in
     tables.table-no (a .kinds .now) (a .numbers .now) (listed-rows .ensures .1) _ (listed .given .1) (a .sort) (walked .result)
     (λ ds. rw (in-force .ensures) at (walked .ensures .1 ds)) _ (c .enum-told2 .given .1)
-
-add-t15 : tie.Need-add-t15
-add-t15 c = search needs
 
 returns-3 : tie.Need-returns-3
 returns-3 c =
@@ -106,18 +85,6 @@ returns-4 c =
 pub walk-table-spec : {M : Type 1} → statement M
 walk-table-spec =
     tie.close
-    (tie.spec
-    listed-rows-requires
-    enum-known-listed
-    enum-told
-    returns
-    in-force-requires
-    slice-aggregate-walk
-    slice-aggregate-walk-2
-    walk-requires
-    enum-known-walked
-    enum-told-2
-    returns-2
-    add-t15
-    returns-3
+    (tie.spec (λ c κs. search needs) (λ c. search needs) (λ c. search needs) returns (λ c κs. search needs) slice-aggregate-walk
+    slice-aggregate-walk-2 walk-requires (λ c. search needs) (λ c. search needs) returns-2 (λ c. search needs) returns-3
     returns-4)

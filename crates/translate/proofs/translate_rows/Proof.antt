@@ -9,30 +9,6 @@ use Rattle.translate.proofs.ReadPlan as reading
 use Rattle.translate.proofs.translate_rows.Statement.{statement}
 use Rattle.translate.proofs.translate_rows.Tie as tie
 
-slice-aggregate-read-plan : tie.Need-slice-aggregate-read-plan
-slice-aggregate-read-plan c = search needs
-
-slice-aggregate-read-plan-2 : tie.Need-slice-aggregate-read-plan-2
-slice-aggregate-read-plan-2 c = search needs
-
-read-plan-requires : tie.Need-read-plan-requires
-read-plan-requires c κs = search needs
-
-enum-known-read : tie.Need-enum-known-read
-enum-known-read c = search needs
-
-enum-known-read-2 : tie.Need-enum-known-read-2
-enum-known-read-2 c = search needs
-
-enum-known-read-3 : tie.Need-enum-known-read-3
-enum-known-read-3 c = search needs
-
-enum-told : tie.Need-enum-told
-enum-told c = search needs
-
-returns : tie.Need-returns
-returns c = search needs
-
 returns-2 : tie.Need-returns-2
 returns-2 c =
     let a = c .before .before .before .before .before .before .before .before .before .before .before .before .before .args in
@@ -89,12 +65,6 @@ make-rows-requires c κs =
     let y = length-take-le (read .given .0 .0) (read-plan .last .1 .1 .0) (omega (arith, ln, few)) in
     (x ∙ sym y, omega (arith, x, few))
 
-same-length : tie.Need-same-length
-same-length c = search needs
-
-same-length-2 : tie.Need-same-length-2
-same-length-2 c = search needs
-
 returns-3 : tie.Need-returns-3
 returns-3 c =
     let at-args = c .before .before .before .before .before .before .before .before .before .before .before
@@ -112,21 +82,7 @@ returns-3 c =
 pub translate-rows-spec : {M : Type 1} → statement M
 translate-rows-spec =
     tie.close
-    (tie.spec
-    slice-aggregate-read-plan
-    slice-aggregate-read-plan-2
-    read-plan-requires
-    enum-known-read
-    enum-known-read-2
-    enum-known-read-3
-    enum-told
-    returns
-    returns-2
-    array-share-prefix-plan-kinds
-    slice-aggregate-make-rows
-    array-share-prefix-plan-numbers
-    slice-aggregate-make-rows-2
-    make-rows-requires
-    same-length
-    same-length-2
+    (tie.spec (λ c. search needs) (λ c. search needs) (λ c κs. search needs) (λ c. search needs) (λ c. search needs)
+    (λ c. search needs) (λ c. search needs) (λ c. search needs) returns-2 array-share-prefix-plan-kinds slice-aggregate-make-rows
+    array-share-prefix-plan-numbers slice-aggregate-make-rows-2 make-rows-requires (λ c. search needs) (λ c. search needs)
     returns-3)

@@ -9,30 +9,6 @@ use Rattle.translate.proofs.LentLaws as lent
 use Rattle.translate.proofs.translate_text.Statement.{statement}
 use Rattle.translate.proofs.translate_text.Tie as tie
 
-slice-aggregate-translate-rows : tie.Need-slice-aggregate-translate-rows
-slice-aggregate-translate-rows c = search needs
-
-slice-aggregate-translate-rows-2 : tie.Need-slice-aggregate-translate-rows-2
-slice-aggregate-translate-rows-2 c = search needs
-
-translate-rows-requires : tie.Need-translate-rows-requires
-translate-rows-requires c κs = search needs
-
-enum-known-made : tie.Need-enum-known-made
-enum-known-made c = search needs
-
-enum-known-made-2 : tie.Need-enum-known-made-2
-enum-known-made-2 c = search needs
-
-enum-known-made-3 : tie.Need-enum-known-made-3
-enum-known-made-3 c = search needs
-
-enum-told : tie.Need-enum-told
-enum-told c = search needs
-
-returns : tie.Need-returns
-returns c = search needs
-
 returns-2 : tie.Need-returns-2
 returns-2 c =
     let at-args = c .before .before .before .before .before .before .before .before .before .before .before
@@ -85,12 +61,6 @@ slice-aggregate-print-2 c =
     let ln : length (translate-rows .last .1 .1 .0) ≡ 4096 = translate-rows .kept .1 .1 .0 in
     sym (length-take-le (made .given .0 .0) (translate-rows .last .1 .1 .0) (omega (arith, ln, few)))
 
-print-requires : tie.Need-print-requires
-print-requires c κs = search needs
-
-same-length : tie.Need-same-length
-same-length c = search needs
-
 returns-3 : tie.Need-returns-3
 returns-3 c =
     let at-args = c .before .before .before .before .before .before .before .before .before .before .before
@@ -108,20 +78,6 @@ returns-3 c =
 pub translate-text-spec : {M : Type 1} → statement M
 translate-text-spec =
     tie.close
-    (tie.spec
-    slice-aggregate-translate-rows
-    slice-aggregate-translate-rows-2
-    translate-rows-requires
-    enum-known-made
-    enum-known-made-2
-    enum-known-made-3
-    enum-told
-    returns
-    returns-2
-    array-share-prefix-kinds
-    slice-aggregate-print
-    array-share-prefix-numbers
-    slice-aggregate-print-2
-    print-requires
-    same-length
-    returns-3)
+    (tie.spec (λ c. search needs) (λ c. search needs) (λ c κs. search needs) (λ c. search needs) (λ c. search needs)
+    (λ c. search needs) (λ c. search needs) (λ c. search needs) returns-2 array-share-prefix-kinds slice-aggregate-print
+    array-share-prefix-numbers slice-aggregate-print-2 (λ c κs. search needs) (λ c. search needs) returns-3)

@@ -11,22 +11,13 @@ use Rattle.type_check.proofs.type_plan.Lts as lts
 use Rattle.type_check.proofs.inputs.type_inputs.Reads as type-inputs-reads
 use Rattle.type_check.proofs.terms.type_of.Reads as type-of-reads
 
-slice-aggregate-type-inputs : tie.Need-slice-aggregate-type-inputs
-slice-aggregate-type-inputs c = search needs
-
 type-inputs-requires : tie.Need-type-inputs-requires
 type-inputs-requires c κs =
     let pre′ = c .before .before .before .before .before .pre in
     (pre′ .sizes, pre′ .few, pre′ .nodes, refl, (pre′ .plan, pre′ .stands))
 
-enum-known-asked : tie.Need-enum-known-asked
-enum-known-asked c = search needs
-
 enum-told : tie.Need-enum-told
 enum-told c = search needs
-
-same-length : tie.Need-same-length
-same-length c = search needs
 
 returns : tie.Need-returns
 returns c =
@@ -173,12 +164,6 @@ type-of-requires c κs =
       ),
     )
 
-same-length-2 : tie.Need-same-length-2
-same-length-2 c = search needs
-
-same-length-3 : tie.Need-same-length-3
-same-length-3 c = search needs
-
 returns-2 : tie.Need-returns-2
 returns-2 c =
     let entry = c .before .before .before .before .before .before .before .before .before .before .before
@@ -197,21 +182,6 @@ returns-2 c =
 pub type-plan-spec : {M : Type 1} → statement M
 type-plan-spec =
     tie.close
-    (tie.spec
-    slice-aggregate-type-inputs
-    type-inputs-requires
-    enum-known-asked
-    enum-told
-    same-length
-    returns
-    sub-type-of
-    part-type-of-start
-    part-type-of-end
-    mul-type-of
-    sub-type-of-2
-    part-type-of-start-2
-    part-type-of-end-2
-    type-of-requires
-    same-length-2
-    same-length-3
-    returns-2)
+    (tie.spec (λ c. search needs) type-inputs-requires (λ c. search needs) enum-told (λ c. search needs) returns sub-type-of
+    part-type-of-start part-type-of-end mul-type-of sub-type-of-2 part-type-of-start-2 part-type-of-end-2 type-of-requires
+    (λ c. search needs) (λ c. search needs) returns-2)

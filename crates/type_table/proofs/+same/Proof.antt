@@ -42,17 +42,8 @@ same-calls t = (
 same-as-array-requires : (t : ℕ) → same-lts.Need-as-array-requires (same-calls t) (same-at t) same.Post
 same-as-array-requires t c κs = c .before .pre .1 .0
 
-same-enum-known-arrays : (t : ℕ) → same-lts.Need-enum-known-arrays (same-calls t) (same-at t) same.Post
-same-enum-known-arrays t c = search needs
-
 same-as-array-requires-2 : (t : ℕ) → same-lts.Need-as-array-requires-2 (same-calls t) (same-at t) same.Post
 same-as-array-requires-2 t c κs = c .before .before .before .before .before .pre .1 .1
-
-same-enum-known-other : (t : ℕ) → same-lts.Need-enum-known-other (same-calls t) (same-at t) same.Post
-same-enum-known-other t c = search needs
-
-same-enum-told : (t : ℕ) → same-lts.Need-enum-told (same-calls t) (same-at t) same.Post
-same-enum-told t c = search needs
 
 same-returns : (t : ℕ) → same-lts.Need-returns (same-calls t) (same-at t) same.Post
 same-returns t c =
@@ -109,23 +100,11 @@ same-returns-3 t c =
     (c .before .before .before .other .given .1) (at-as-array2 .ensures) .0) (c .before .if1 .left)
     (c .same .ensures)
 
-same-enum-told-2 : (t : ℕ) → same-lts.Need-enum-told-2 (same-calls t) (same-at t) same.Post
-same-enum-told-2 t c = search needs
-
 same-as-pair-requires : (t : ℕ) → same-lts.Need-as-pair-requires (same-calls t) (same-at t) same.Post
 same-as-pair-requires t c κs = c .before .before .before .before .pre .1 .0
 
-same-enum-known-pairs : (t : ℕ) → same-lts.Need-enum-known-pairs (same-calls t) (same-at t) same.Post
-same-enum-known-pairs t c = search needs
-
 same-as-pair-requires-2 : (t : ℕ) → same-lts.Need-as-pair-requires-2 (same-calls t) (same-at t) same.Post
 same-as-pair-requires-2 t c κs = c .before .before .before .before .before .before .before .before .pre .1 .1
-
-same-enum-known-other-2 : (t : ℕ) → same-lts.Need-enum-known-other-2 (same-calls t) (same-at t) same.Post
-same-enum-known-other-2 t c = search needs
-
-same-enum-told-3 : (t : ℕ) → same-lts.Need-enum-told-3 (same-calls t) (same-at t) same.Post
-same-enum-told-3 t c = search needs
 
 same-returns-4 : (t : ℕ) → same-lts.Need-returns-4 (same-calls t) (same-at t) same.Post
 same-returns-4 t c =
@@ -213,9 +192,6 @@ same-returns-6 t c =
     (at-as-pair2 .ensures) .0) (c .before .before .same2 .ensures .0 (not-false _ (c .before .if2 .left)))
     (c .same3 .ensures)
 
-same-enum-told-4 : (t : ℕ) → same-lts.Need-enum-told-4 (same-calls t) (same-at t) same.Post
-same-enum-told-4 t c = search needs
-
 same-is-number-requires : (t : ℕ) → same-lts.Need-is-number-requires (same-calls t) (same-at t) same.Post
 same-is-number-requires t c κs = c .before .before .before .before .before .before .before .pre .1 .1
 
@@ -231,28 +207,8 @@ same-returns-7 t c =
 
 pub +same-spec : {M : Type 1} → statement M
 +same-spec = close μ-same λ t. same-lts.spec (same-calls t)
-    (same-at t)
-    same.Post
-    (same-as-array-requires t)
-    (same-enum-known-arrays t)
-    (same-as-array-requires-2 t)
-    (same-enum-known-other t)
-    (same-enum-told t)
-    (same-returns t)
-    (same-returns-2 t)
-    (same-same-requires t)
-    (same-returns-3 t)
-    (same-enum-told-2 t)
-    (same-as-pair-requires t)
-    (same-enum-known-pairs t)
-    (same-as-pair-requires-2 t)
-    (same-enum-known-other-2 t)
-    (same-enum-told-3 t)
-    (same-returns-4 t)
-    (same-same-requires-2 t)
-    (same-returns-5 t)
-    (same-same-requires-3 t)
-    (same-returns-6 t)
-    (same-enum-told-4 t)
-    (same-is-number-requires t)
-    (same-returns-7 t)
+    (same-at t) same.Post (same-as-array-requires t) (λ c. search needs) (same-as-array-requires-2 t) (λ c. search needs)
+    (λ c. search needs) (same-returns t) (same-returns-2 t) (same-same-requires t) (same-returns-3 t) (λ c. search needs)
+    (same-as-pair-requires t) (λ c. search needs) (same-as-pair-requires-2 t) (λ c. search needs) (λ c. search needs)
+    (same-returns-4 t) (same-same-requires-2 t) (same-returns-5 t) (same-same-requires-3 t) (same-returns-6 t) (λ c. search needs)
+    (same-is-number-requires t) (same-returns-7 t)

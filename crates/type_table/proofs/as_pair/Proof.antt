@@ -5,26 +5,11 @@ use Rattle.type_table.proofs.Shapes.{its-pair, no-pair}
 use Rattle.type_table.proofs.as_pair.Statement.{statement}
 use Rattle.type_table.proofs.as_pair.Tie as tie
 
-mul-node : tie.Need-mul-node
-mul-node c = search needs
-
-shared-slice-read-node : tie.Need-shared-slice-read-node
-shared-slice-read-node c = search needs
-
-kind-in-requires : tie.Need-kind-in-requires
-kind-in-requires c κs = search needs
-
 returns : tie.Need-returns
 returns c =
     let entry = c .before .before .before .before in
     no-pair (entry .args .nodes .now) (entry .args .place) (entry .pre)
     (omega (arith, c .before .kind-in .ensures, c .if1 .taken))
-
-left-in-requires : tie.Need-left-in-requires
-left-in-requires c κs = search needs
-
-right-in-requires : tie.Need-right-in-requires
-right-in-requires c κs = search needs
 
 returns-2 : tie.Need-returns-2
 returns-2 c =
@@ -35,11 +20,5 @@ returns-2 c =
 pub as-pair-spec : {M : Type 1} → statement M
 as-pair-spec =
     tie.close
-    (tie.spec
-    mul-node
-    shared-slice-read-node
-    kind-in-requires
-    returns
-    left-in-requires
-    right-in-requires
+    (tie.spec (λ c. search needs) (λ c. search needs) (λ c κs. search needs) returns (λ c κs. search needs) (λ c κs. search needs)
     returns-2)

@@ -4,14 +4,8 @@ use borrow.Author.Needs.{needs}
 use Rattle.type_table.proofs.cells.Statement.{statement}
 use Rattle.type_table.proofs.cells.Tie as tie
 
-mul-result : tie.Need-mul-result
-mul-result c = search needs
-
-shared-slice-read-result : tie.Need-shared-slice-read-result
-shared-slice-read-result c = search needs
-
 returns : tie.Need-returns
 returns c = c .before .pre .each (c .before .args .place) (omega arith) .itsCells
 
 pub cells-spec : {M : Type 1} → statement M
-cells-spec = tie.close (tie.spec mul-result shared-slice-read-result returns)
+cells-spec = tie.close (tie.spec (λ c. search needs) (λ c. search needs) returns)

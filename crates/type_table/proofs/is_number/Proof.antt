@@ -6,15 +6,6 @@ use Rattle.type_table.proofs.Shapes.{its-number, no-number}
 use Rattle.type_table.proofs.is_number.Statement.{statement}
 use Rattle.type_table.proofs.is_number.Tie as tie
 
-mul-kind-in : tie.Need-mul-kind-in
-mul-kind-in c = search needs
-
-shared-slice-read-kind-in : tie.Need-shared-slice-read-kind-in
-shared-slice-read-kind-in c = search needs
-
-kind-in-requires : tie.Need-kind-in-requires
-kind-in-requires c κs = search needs
-
 returns : tie.Need-returns
 returns c =
     let entry = c .before .before .before in (
@@ -26,4 +17,4 @@ returns c =
 
 pub is-number-spec : {M : Type 1} → statement M
 is-number-spec =
-    tie.close (tie.spec mul-kind-in shared-slice-read-kind-in kind-in-requires returns)
+    tie.close (tie.spec (λ c. search needs) (λ c. search needs) (λ c κs. search needs) returns)

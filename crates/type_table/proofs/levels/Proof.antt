@@ -4,14 +4,8 @@ use borrow.Author.Needs.{needs}
 use Rattle.type_table.proofs.levels.Statement.{statement}
 use Rattle.type_table.proofs.levels.Tie as tie
 
-mul-result : tie.Need-mul-result
-mul-result c = search needs
-
-shared-slice-read-result : tie.Need-shared-slice-read-result
-shared-slice-read-result c = search needs
-
 returns : tie.Need-returns
 returns c = c .before .pre .each (c .before .args .place) (omega arith) .itsLevels
 
 pub levels-spec : {M : Type 1} → statement M
-levels-spec = tie.close (tie.spec mul-result shared-slice-read-result returns)
+levels-spec = tie.close (tie.spec (λ c. search needs) (λ c. search needs) returns)

@@ -12,9 +12,6 @@ use Rattle.type_table.proofs.put_array.Tie as tie
 levels-requires : tie.Need-levels-requires
 levels-requires c κs = sound-below (c .before .before .pre .0) (omega arith)
 
-add-levels : tie.Need-add-levels
-add-levels c = search needs
-
 cells-requires : tie.Need-cells-requires
 cells-requires c κs = sound-below (c .before .before .before .before .pre .0) (omega arith)
 
@@ -38,15 +35,6 @@ node-requires c κs =
       omega (arith, (entry .pre)),
     )
 
-mul-nodes : tie.Need-mul-nodes
-mul-nodes c = search needs
-
-slice-write-nodes : tie.Need-slice-write-nodes
-slice-write-nodes c = search needs
-
-same-length : tie.Need-same-length
-same-length c = search needs
-
 returns : tie.Need-returns
 returns c =
     let entry = c .before .before .before .before .before .before .before in
@@ -59,13 +47,5 @@ returns c =
 pub put-array-spec : {M : Type 1} → statement M
 put-array-spec =
     tie.close
-    (tie.spec
-    levels-requires
-    add-levels
-    cells-requires
-    array-cells-requires
-    node-requires
-    mul-nodes
-    slice-write-nodes
-    same-length
-    returns)
+    (tie.spec levels-requires (λ c. search needs) cells-requires array-cells-requires node-requires (λ c. search needs)
+    (λ c. search needs) (λ c. search needs) returns)

@@ -4,17 +4,8 @@ use Rattle.type_table.proofs.Puts.{number-put}
 use Rattle.type_table.proofs.put_number.Statement.{statement}
 use Rattle.type_table.proofs.put_number.Tie as tie
 
-node-requires : tie.Need-node-requires
-node-requires c κs = search needs
-
-slice-write-nodes : tie.Need-slice-write-nodes
-slice-write-nodes c = search needs
-
-same-length : tie.Need-same-length
-same-length c = search needs
-
 returns : tie.Need-returns
 returns c = rw (c .node .ensures) (number-put (c .before .before .args .nodes .now) (c .before .before .pre))
 
 pub put-number-spec : {M : Type 1} → statement M
-put-number-spec = tie.close (tie.spec node-requires slice-write-nodes same-length returns)
+put-number-spec = tie.close (tie.spec (λ c κs. search needs) (λ c. search needs) (λ c. search needs) returns)

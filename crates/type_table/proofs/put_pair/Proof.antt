@@ -14,9 +14,6 @@ levels-requires c κs = sound-below (c .before .before .pre .0) (omega arith)
 levels-requires-2 : tie.Need-levels-requires-2
 levels-requires-2 c κs = sound-below (c .before .before .before .before .pre .0) (omega arith)
 
-greater-requires : tie.Need-greater-requires
-greater-requires c κs = search needs
-
 add-levels : tie.Need-add-levels
 add-levels c = omega (
   arith,
@@ -61,15 +58,6 @@ node-requires c κs =
       omega (arith, (entry .pre)),
     )
 
-mul-nodes : tie.Need-mul-nodes
-mul-nodes c = search needs
-
-slice-write-nodes : tie.Need-slice-write-nodes
-slice-write-nodes c = search needs
-
-same-length : tie.Need-same-length
-same-length c = search needs
-
 returns : tie.Need-returns
 returns c =
     let entry = c .before .before .before .before .before .before .before .before .before .before .before in
@@ -84,16 +72,5 @@ returns c =
 pub put-pair-spec : {M : Type 1} → statement M
 put-pair-spec =
     tie.close
-    (tie.spec
-    levels-requires
-    levels-requires-2
-    greater-requires
-    add-levels
-    cells-requires
-    cells-requires-2
-    add-cells
-    node-requires
-    mul-nodes
-    slice-write-nodes
-    same-length
-    returns)
+    (tie.spec levels-requires levels-requires-2 (λ c κs. search needs) add-levels cells-requires cells-requires-2 add-cells
+    node-requires (λ c. search needs) (λ c. search needs) (λ c. search needs) returns)

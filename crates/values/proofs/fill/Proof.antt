@@ -9,21 +9,6 @@ use Rattle.values.proofs.Fills.{text-refused, rows-few, rows-fit, rows-
 use Rattle.values.proofs.fill.Statement.{statement}
 use Rattle.values.proofs.fill.Tie as tie
 
-slice-aggregate-read-values : tie.Need-slice-aggregate-read-values
-slice-aggregate-read-values c = search needs
-
-slice-aggregate-read-values-2 : tie.Need-slice-aggregate-read-values-2
-slice-aggregate-read-values-2 c = search needs
-
-read-values-requires : tie.Need-read-values-requires
-read-values-requires c κs = search needs
-
-enum-known-answer : tie.Need-enum-known-answer
-enum-known-answer c = search needs
-
-enum-told : tie.Need-enum-told
-enum-told c = search needs
-
 returns : tie.Need-returns
 returns c =
     let a = c .before .before .before .before .before .before .before .before .args in
@@ -103,9 +88,6 @@ put-values-requires c κs =
     rows-front words text _ _ (read .ensures) (read .last .1 .0) (read .kept .1 .0) is ∙ sym (rows-front words text
     _ _ (read .ensures) (read .last .1 .1 .0) (read .kept .1 .1 .0) is)
 
-same-length : tie.Need-same-length
-same-length c = search needs
-
 returns-4 : tie.Need-returns-4
 returns-4 c =
     let at-args = c .before .before .before .before .before .before .before .before .before .before .before
@@ -126,20 +108,6 @@ returns-4 c =
 pub fill-spec : {M : Type 1} → statement M
 fill-spec =
     tie.close
-    (tie.spec
-    slice-aggregate-read-values
-    slice-aggregate-read-values-2
-    read-values-requires
-    enum-known-answer
-    enum-told
-    returns
-    returns-2
-    array-share-prefix-cells
-    slice-aggregate-named
-    one-line-each-requires
-    returns-3
-    array-share-prefix-values
-    slice-aggregate-put-values
-    put-values-requires
-    same-length
-    returns-4)
+    (tie.spec (λ c. search needs) (λ c. search needs) (λ c κs. search needs) (λ c. search needs) (λ c. search needs) returns
+    returns-2 array-share-prefix-cells slice-aggregate-named one-line-each-requires returns-3 array-share-prefix-values
+    slice-aggregate-put-values put-values-requires (λ c. search needs) returns-4)

@@ -23,15 +23,6 @@ loop-holds c =
     let a = c .before .before .args in
     (c .if1 .left, refl, nothing-seen (a .count) 16384 (omega (arith, c .if1 .left, c .before .before .pre)))
 
-mul-place : tie.Need-mul-place Inv-loop μ-loop
-mul-place c = search needs
-
-shared-slice-read-place : tie.Need-shared-slice-read-place Inv-loop μ-loop
-shared-slice-read-place c = search needs
-
-place-requires : tie.Need-place-requires Inv-loop μ-loop
-place-requires c κs = search needs
-
 returns-2 : tie.Need-returns-2 Inv-loop μ-loop
 returns-2 c =
     let a = c .before .before .before .before .before .before .before .args in
@@ -41,9 +32,6 @@ returns-2 c =
     (omega (arith, turn .inv .0, c .before .before .before .loop-test .taken)) (place .ensures)
     (omega (arith, c .if2 .taken, turn .inv .0, c .before .before .before .before .before .before .before .pre))
 
-array-read-if3 : tie.Need-array-read-if3 Inv-loop μ-loop
-array-read-if3 c = search needs
-
 returns-3 : tie.Need-returns-3 Inv-loop μ-loop
 returns-3 c =
     let a = c .before .before .before .before .before .before .before .before .args in
@@ -52,15 +40,6 @@ returns-3 c =
     cell-twice (a .count) (a .cells .now) (turn .line) (place .result)
     (omega (arith, turn .inv .0, c .before .before .before .before .loop-test .taken)) (place .ensures)
     (turn .seen) (turn .inv .2) (omega (arith, c .before .if2 .left)) (c .if3 .taken)
-
-array-write-seen : tie.Need-array-write-seen Inv-loop μ-loop
-array-write-seen c = search needs
-
-add-line : tie.Need-add-line Inv-loop μ-loop
-add-line c = search needs
-
-loop-less : tie.Need-loop-less Inv-loop μ-loop
-loop-less c = search needs
 
 loop-again : tie.Need-loop-again Inv-loop μ-loop
 loop-again c =
@@ -88,19 +67,5 @@ returns-4 c =
 pub one-line-each-spec : {M : Type 1} → statement M
 one-line-each-spec =
     tie.close
-    (tie.spec
-    Inv-loop
-    μ-loop
-    returns
-    loop-holds
-    mul-place
-    shared-slice-read-place
-    place-requires
-    returns-2
-    array-read-if3
-    returns-3
-    array-write-seen
-    add-line
-    loop-less
-    loop-again
-    returns-4)
+    (tie.spec Inv-loop μ-loop returns loop-holds (λ c. search needs) (λ c. search needs) (λ c κs. search needs) returns-2
+    (λ c. search needs) returns-3 (λ c. search needs) (λ c. search needs) (λ c. search needs) loop-again returns-4)

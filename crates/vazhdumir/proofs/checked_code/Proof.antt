@@ -8,21 +8,9 @@ use Rattle.vazhdumir.proofs.checked_code.Lts as lts
 use Rattle.vazhdumir.specs.Codes.{checkedCode}
 use Rattle.vazhdumir.proofs.code.Reads as code-reads
 
-enum-known-checked : tie.Need-enum-known-checked
-enum-known-checked c = search needs
-
-enum-known-checked-2 : tie.Need-enum-known-checked-2
-enum-known-checked-2 c = search needs
-
-code-requires : tie.Need-code-requires
-code-requires c κs = search needs
-
-returns : tie.Need-returns
-returns c = search needs
-
 returns-2 : tie.Need-returns-2
 returns-2 c = c .code .ensures ∙ ap checkedCode (sym (c .before .before .checked2 .given .1))
 
 pub checked-code-spec : {M : Type 1} → statement M
 checked-code-spec =
-    tie.close (tie.spec enum-known-checked enum-known-checked-2 code-requires returns returns-2)
+    tie.close (tie.spec (λ c. search needs) (λ c. search needs) (λ c κs. search needs) (λ c. search needs) returns-2)

@@ -8,21 +8,9 @@ use Rattle.vazhdumir.proofs.needed_code.Lts as lts
 use Rattle.vazhdumir.specs.Codes.{neededCode}
 use Rattle.vazhdumir.proofs.code.Reads as code-reads
 
-enum-known-needed : tie.Need-enum-known-needed
-enum-known-needed c = search needs
-
-enum-known-needed-2 : tie.Need-enum-known-needed-2
-enum-known-needed-2 c = search needs
-
-code-requires : tie.Need-code-requires
-code-requires c κs = search needs
-
-returns : tie.Need-returns
-returns c = search needs
-
 returns-2 : tie.Need-returns-2
 returns-2 c = c .code .ensures ∙ ap neededCode (sym (c .before .before .needed2 .given .1))
 
 pub needed-code-spec : {M : Type 1} → statement M
 needed-code-spec =
-    tie.close (tie.spec enum-known-needed enum-known-needed-2 code-requires returns returns-2)
+    tie.close (tie.spec (λ c. search needs) (λ c. search needs) (λ c κs. search needs) (λ c. search needs) returns-2)

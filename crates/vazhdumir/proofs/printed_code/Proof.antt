@@ -8,21 +8,9 @@ use Rattle.vazhdumir.proofs.printed_code.Lts as lts
 use Rattle.vazhdumir.specs.Codes.{printedCode}
 use Rattle.vazhdumir.proofs.code.Reads as code-reads
 
-enum-known-printed : tie.Need-enum-known-printed
-enum-known-printed c = search needs
-
-enum-known-printed-2 : tie.Need-enum-known-printed-2
-enum-known-printed-2 c = search needs
-
-code-requires : tie.Need-code-requires
-code-requires c κs = search needs
-
-returns : tie.Need-returns
-returns c = search needs
-
 returns-2 : tie.Need-returns-2
 returns-2 c = c .code .ensures ∙ ap printedCode (sym (c .before .before .printed2 .given .1))
 
 pub printed-code-spec : {M : Type 1} → statement M
 printed-code-spec =
-    tie.close (tie.spec enum-known-printed enum-known-printed-2 code-requires returns returns-2)
+    tie.close (tie.spec (λ c. search needs) (λ c. search needs) (λ c κs. search needs) (λ c. search needs) returns-2)

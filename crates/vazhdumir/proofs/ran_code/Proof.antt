@@ -8,25 +8,10 @@ use Rattle.vazhdumir.proofs.ran_code.Lts as lts
 use Rattle.vazhdumir.specs.Codes.{ranCode}
 use Rattle.vazhdumir.proofs.code.Reads as code-reads
 
-enum-known-ran : tie.Need-enum-known-ran
-enum-known-ran c = search needs
-
-cast-result : tie.Need-cast-result
-cast-result c = search needs
-
-enum-known-ran-2 : tie.Need-enum-known-ran-2
-enum-known-ran-2 c = search needs
-
-code-requires : tie.Need-code-requires
-code-requires c κs = search needs
-
-returns : tie.Need-returns
-returns c = search needs
-
 returns-2 : tie.Need-returns-2
 returns-2 c = c .code .ensures ∙ ap ranCode (sym (c .before .before .ran2 .given .1))
 
 pub ran-code-spec : {M : Type 1} → statement M
 ran-code-spec =
     tie.close
-    (tie.spec enum-known-ran cast-result enum-known-ran-2 code-requires returns returns-2)
+    (tie.spec (λ c. search needs) (λ c. search needs) (λ c. search needs) (λ c κs. search needs) (λ c. search needs) returns-2)

@@ -8,21 +8,9 @@ use Rattle.vazhdumir.proofs.read_code.Lts as lts
 use Rattle.vazhdumir.specs.Codes.{readCode}
 use Rattle.vazhdumir.proofs.code.Reads as code-reads
 
-enum-known-read : tie.Need-enum-known-read
-enum-known-read c = search needs
-
-enum-known-read-2 : tie.Need-enum-known-read-2
-enum-known-read-2 c = search needs
-
-code-requires : tie.Need-code-requires
-code-requires c κs = search needs
-
-returns : tie.Need-returns
-returns c = search needs
-
 returns-2 : tie.Need-returns-2
 returns-2 c = c .code .ensures ∙ ap readCode (sym (c .before .before .read2 .given .1))
 
 pub read-code-spec : {M : Type 1} → statement M
 read-code-spec =
-    tie.close (tie.spec enum-known-read enum-known-read-2 code-requires returns returns-2)
+    tie.close (tie.spec (λ c. search needs) (λ c. search needs) (λ c κs. search needs) (λ c. search needs) returns-2)

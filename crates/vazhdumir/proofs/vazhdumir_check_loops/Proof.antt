@@ -9,14 +9,8 @@ use Rattle.vazhdumir.proofs.vazhdumir_check_loops.Lts as lts
 use Rattle.loops.proofs.check_text.Reads as check-text-reads
 use Rattle.vazhdumir.proofs.checked_code.Reads as checked-code-reads
 
-check-text-requires : tie.Need-check-text-requires
-check-text-requires c κs = search needs
-
-checked-code-requires : tie.Need-checked-code-requires
-checked-code-requires c κs = search needs
-
 returns : tie.Need-returns
 returns c = c .checked-code .ensures ∙ ap checkedCode (c .before .check-text .ensures)
 
 pub vazhdumir-check-loops-spec : {M : Type 1} → statement M
-vazhdumir-check-loops-spec = tie.close (tie.spec check-text-requires checked-code-requires returns)
+vazhdumir-check-loops-spec = tie.close (tie.spec (λ c κs. search needs) (λ c κs. search needs) returns)

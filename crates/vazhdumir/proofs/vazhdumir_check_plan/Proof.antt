@@ -9,14 +9,8 @@ use Rattle.vazhdumir.proofs.vazhdumir_check_plan.Lts as lts
 use Rattle.plans.proofs.check_text.Reads as check-text-reads
 use Rattle.vazhdumir.proofs.accepted_code.Reads as accepted-code-reads
 
-check-text-requires : tie.Need-check-text-requires
-check-text-requires c κs = search needs
-
-accepted-code-requires : tie.Need-accepted-code-requires
-accepted-code-requires c κs = search needs
-
 returns : tie.Need-returns
 returns c = c .accepted-code .ensures ∙ ap acceptedCode (c .before .check-text .ensures)
 
 pub vazhdumir-check-plan-spec : {M : Type 1} → statement M
-vazhdumir-check-plan-spec = tie.close (tie.spec check-text-requires accepted-code-requires returns)
+vazhdumir-check-plan-spec = tie.close (tie.spec (λ c κs. search needs) (λ c κs. search needs) returns)

@@ -9,14 +9,8 @@ use Rattle.vazhdumir.proofs.vazhdumir_need.Lts as lts
 use Rattle.loops.proofs.need_text.Reads as need-text-reads
 use Rattle.vazhdumir.proofs.needed_code.Reads as needed-code-reads
 
-need-text-requires : tie.Need-need-text-requires
-need-text-requires c κs = search needs
-
-needed-code-requires : tie.Need-needed-code-requires
-needed-code-requires c κs = search needs
-
 returns : tie.Need-returns
 returns c = c .needed-code .ensures ∙ ap neededCode (c .before .need-text .ensures)
 
 pub vazhdumir-need-spec : {M : Type 1} → statement M
-vazhdumir-need-spec = tie.close (tie.spec need-text-requires needed-code-requires returns)
+vazhdumir-need-spec = tie.close (tie.spec (λ c κs. search needs) (λ c κs. search needs) returns)

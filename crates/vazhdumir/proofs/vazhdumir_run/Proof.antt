@@ -10,18 +10,6 @@ use Rattle.vazhdumir.proofs.vazhdumir_run.Lts as lts
 use Rattle.run.proofs.run_text.Reads as run-text-reads
 use Rattle.vazhdumir.proofs.ran_code.Reads as ran-code-reads
 
-slice-aggregate-run-text : tie.Need-slice-aggregate-run-text
-slice-aggregate-run-text c = search needs
-
-run-text-requires : tie.Need-run-text-requires
-run-text-requires c κs = search needs
-
-ran-code-requires : tie.Need-ran-code-requires
-ran-code-requires c κs = search needs
-
-same-length : tie.Need-same-length
-same-length c = search needs
-
 returns : tie.Need-returns
 returns c =
     let a = c .before .before .before .before .before .before .before .before .before .args in
@@ -31,4 +19,4 @@ returns c =
 pub vazhdumir-run-spec : {M : Type 1} → statement M
 vazhdumir-run-spec =
     tie.close
-    (tie.spec slice-aggregate-run-text run-text-requires ran-code-requires same-length returns)
+    (tie.spec (λ c. search needs) (λ c κs. search needs) (λ c κs. search needs) (λ c. search needs) returns)

@@ -10,18 +10,6 @@ use Rattle.vazhdumir.proofs.vazhdumir_run_rows.Lts as lts
 use Rattle.run.proofs.run_rows.Reads as run-rows-reads
 use Rattle.vazhdumir.proofs.ran_code.Reads as ran-code-reads
 
-slice-aggregate-run-rows : tie.Need-slice-aggregate-run-rows
-slice-aggregate-run-rows c = search needs
-
-run-rows-requires : tie.Need-run-rows-requires
-run-rows-requires c κs = search needs
-
-ran-code-requires : tie.Need-ran-code-requires
-ran-code-requires c κs = search needs
-
-same-length : tie.Need-same-length
-same-length c = search needs
-
 returns : tie.Need-returns
 returns c =
     let at-args = c .before .before .before .before .before .before .before .before .before .args in
@@ -34,4 +22,4 @@ returns c =
 pub vazhdumir-run-rows-spec : {M : Type 1} → statement M
 vazhdumir-run-rows-spec =
     tie.close
-    (tie.spec slice-aggregate-run-rows run-rows-requires ran-code-requires same-length returns)
+    (tie.spec (λ c. search needs) (λ c κs. search needs) (λ c κs. search needs) (λ c. search needs) returns)

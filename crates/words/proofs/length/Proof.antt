@@ -5,12 +5,6 @@ use Rattle.words.proofs.Packed.{word-length, word-short}
 use Rattle.words.proofs.length.Statement.{statement}
 use Rattle.words.proofs.length.Tie as tie
 
-word-at-requires : tie.Need-word-at-requires
-word-at-requires c κs = search needs
-
-array-read-digit : tie.Need-array-read-digit
-array-read-digit c = search needs
-
 digit-requires : tie.Need-digit-requires
 digit-requires c κs = omega (arith, word-length _ _ (c .word-at .ensures))
 
@@ -22,4 +16,4 @@ returns c = (
 )
 
 pub length-spec : {M : Type 1} → statement M
-length-spec = tie.close (tie.spec word-at-requires array-read-digit digit-requires returns)
+length-spec = tie.close (tie.spec (λ c κs. search needs) (λ c. search needs) digit-requires returns)

@@ -8,19 +8,10 @@ use Rattle.words.proofs.Packed.{word-letter}
 use Rattle.words.proofs.letter.Statement.{statement}
 use Rattle.words.proofs.letter.Tie as tie
 
-length-requires : tie.Need-length-requires
-length-requires c κs = search needs
-
 returns : tie.Need-returns
 returns c =
     sym
     (List·getD-eq-default (wordAt words (c .before .before .args .kind)) 0 (omega (arith, c .before .length .ensures .0)))
-
-word-at-requires : tie.Need-word-at-requires
-word-at-requires c κs = search needs
-
-array-read-result : tie.Need-array-read-result
-array-read-result c = search needs
 
 returns-2 : tie.Need-returns-2
 returns-2 c =
@@ -29,4 +20,4 @@ returns-2 c =
 
 pub letter-spec : {M : Type 1} → statement M
 letter-spec =
-    tie.close (tie.spec length-requires returns word-at-requires array-read-result returns-2)
+    tie.close (tie.spec (λ c κs. search needs) returns (λ c κs. search needs) (λ c. search needs) returns-2)

@@ -18,18 +18,12 @@ Inv-loop letters table kind₀ kind = (kind ≤ 38) × (lookUp words letters ≡
 abbrev μ-loop : tie.MeasureT-loop
 μ-loop letters table kind₀ kind = 38 - kind
 
-loop-holds : tie.Need-loop-holds Inv-loop μ-loop
-loop-holds c = search needs
-
 row-in-requires : tie.Need-row-in-requires Inv-loop μ-loop
 unfolding packed packedTable table
 row-in-requires c κs = refl
 
 same-requires : tie.Need-same-requires Inv-loop μ-loop
 same-requires c κs = (c .before .before .before .loop .kind, c .row-in .ensures)
-
-cast-t47 : tie.Need-cast-t47 Inv-loop μ-loop
-cast-t47 c = search needs
 
 returns : tie.Need-returns Inv-loop μ-loop
 returns c =
@@ -39,12 +33,6 @@ returns c =
     (b : Bool). cond b (At (turn .kind)) (lookFrom (turn .kind + 1) (drop (turn .kind + 1) words)
     (a .letters .now))) (sym (c .before .same .ensures (turn .kind) (c .before .before .row-in .ensures)) ∙
     c .if1 .taken))
-
-add-kind : tie.Need-add-kind Inv-loop μ-loop
-add-kind c = search needs
-
-loop-less : tie.Need-loop-less Inv-loop μ-loop
-loop-less c = search needs
 
 loop-again : tie.Need-loop-again Inv-loop μ-loop
 loop-again c =
@@ -65,15 +53,5 @@ returns-2 c = sym (c .before .loop .inv .1 ∙ look-end words (c .before .before
 pub look-up-spec : {M : Type 1} → statement M
 look-up-spec =
     tie.close
-    (tie.spec
-    Inv-loop
-    μ-loop
-    loop-holds
-    row-in-requires
-    same-requires
-    cast-t47
-    returns
-    add-kind
-    loop-less
-    loop-again
-    returns-2)
+    (tie.spec Inv-loop μ-loop (λ c. search needs) row-in-requires same-requires (λ c. search needs) returns (λ c. search needs)
+    (λ c. search needs) loop-again returns-2)

@@ -8,18 +8,6 @@ use Rattle.words.proofs.Packed.{column-none, column-count}
 use Rattle.words.proofs.operand_count.Statement.{statement}
 use Rattle.words.proofs.operand_count.Tie as tie
 
-word-at-requires : tie.Need-word-at-requires
-word-at-requires c κs = search needs
-
-column-requires : tie.Need-column-requires
-column-requires c κs = search needs
-
-add-count : tie.Need-add-count
-add-count c = search needs
-
-array-read-count : tie.Need-array-read-count
-array-read-count c = search needs
-
 returns : tie.Need-returns
 returns c =
     let word-at = c .before .before .word-at in
@@ -45,11 +33,5 @@ returns-2 c =
 pub operand-count-spec : {M : Type 1} → statement M
 operand-count-spec =
     tie.close
-    (tie.spec
-    word-at-requires
-    column-requires
-    add-count
-    array-read-count
-    returns
-    digit-requires
+    (tie.spec (λ c κs. search needs) (λ c κs. search needs) (λ c. search needs) (λ c. search needs) returns digit-requires
     returns-2)

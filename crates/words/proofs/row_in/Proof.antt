@@ -13,12 +13,6 @@ returns : tie.Need-returns
 unfolding packed
 returns c = past-table (c .before .before .before .args .kind) (c .before .before .if1 .taken)
 
-mul-result : tie.Need-mul-result
-mul-result c = search needs
-
-element-copy-out-result : tie.Need-element-copy-out-result
-element-copy-out-result c = search needs
-
 returns-2 : tie.Need-returns-2
 unfolding packedTable
 returns-2 c =
@@ -26,4 +20,4 @@ returns-2 c =
     ap (λ (l : List (List ℕ)). getD l (a .kind) []) (c .before .before .pre) ∙ in-table (a .kind) (c .before .if1 .left)
 
 pub row-in-spec : {M : Type 1} → statement M
-row-in-spec = tie.close (tie.spec returns mul-result element-copy-out-result returns-2)
+row-in-spec = tie.close (tie.spec returns (λ c. search needs) (λ c. search needs) returns-2)

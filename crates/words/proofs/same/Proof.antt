@@ -20,21 +20,12 @@ Inv-loop letters word n i₀ i = (i ≤ n) × ((k : ℕ) → k < i → getD lett
 abbrev μ-loop : tie.MeasureT-loop
 μ-loop letters word n i₀ i = n - i
 
-array-read-digit : tie.Need-array-read-digit Inv-loop μ-loop
-array-read-digit c = search needs
-
 digit-requires : tie.Need-digit-requires Inv-loop μ-loop
 digit-requires c κs = omega (arith, word-length _ _ (c .before .pre .1))
 
 returns : tie.Need-returns Inv-loop μ-loop
 returns c = λ kind e. same-false _ _
     (λ q. c .if1 .taken (omega (arith, ap length q, word-length kind _ e, c .before .digit .ensures)))
-
-loop-holds : tie.Need-loop-holds Inv-loop μ-loop
-loop-holds c = search needs
-
-shared-slice-read-if2 : tie.Need-shared-slice-read-if2 Inv-loop μ-loop
-shared-slice-read-if2 c = search needs
 
 array-read-if2 : tie.Need-array-read-if2 Inv-loop μ-loop
 array-read-if2 c =
@@ -49,12 +40,6 @@ returns-2 c = λ kind e. let turn = c .before .before .before .loop in same-fals
           kind _ e,
       c .before .before .before .before .before .digit .ensures,
     )))))
-
-add-i : tie.Need-add-i Inv-loop μ-loop
-add-i c = search needs
-
-loop-less : tie.Need-loop-less Inv-loop μ-loop
-loop-less c = search needs
 
 loop-again : tie.Need-loop-again Inv-loop μ-loop
 loop-again c = (search needs, below-more _ _ (c .before .before .before .loop .inv .1) (c .if2 .left))
@@ -71,17 +56,5 @@ returns-3 c =
 pub same-spec : {M : Type 1} → statement M
 same-spec =
     tie.close
-    (tie.spec
-    Inv-loop
-    μ-loop
-    array-read-digit
-    digit-requires
-    returns
-    loop-holds
-    shared-slice-read-if2
-    array-read-if2
-    returns-2
-    add-i
-    loop-less
-    loop-again
-    returns-3)
+    (tie.spec Inv-loop μ-loop (λ c. search needs) digit-requires returns (λ c. search needs) (λ c. search needs) array-read-if2
+    returns-2 (λ c. search needs) (λ c. search needs) loop-again returns-3)

@@ -10,8 +10,5 @@ row-in-requires : tie.Need-row-in-requires
 unfolding packed packedTable table
 row-in-requires c κs = refl
 
-returns : tie.Need-returns
-returns c = search needs
-
 pub word-at-spec : {M : Type 1} → statement M
-word-at-spec = tie.close (tie.spec row-in-requires returns)
+word-at-spec = tie.close (tie.spec row-in-requires (λ c. search needs))

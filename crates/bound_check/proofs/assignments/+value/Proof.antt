@@ -57,15 +57,6 @@ value-returns t c =
           (cellsOf (a .inputs .now)) (a .line) (Passed 0) (c .if1 .taken),
     )
 
-value-shared-slice-read-kind : (t : ℕ) → value-lts.Need-shared-slice-read-kind (value-calls t) (value-at t) value.Post
-value-shared-slice-read-kind t c = search needs
-
-value-shared-slice-copy-out-natural : (t : ℕ) → value-lts.Need-shared-slice-copy-out-natural (value-calls t) (value-at t) value.Post
-value-shared-slice-copy-out-natural t c = search needs
-
-value-natural-requires : (t : ℕ) → value-lts.Need-natural-requires (value-calls t) (value-at t) value.Post
-value-natural-requires t c κs = search needs
-
 value-returns-2 : (t : ℕ) → value-lts.Need-returns-2 (value-calls t) (value-at t) value.Post
 value-returns-2 t c =
     let a = c .before .before .before .before .before .before .before .before .args in (
@@ -73,12 +64,6 @@ value-returns-2 t c =
       readings.read-literal (a .kinds .now) (a .numbers .now) (a .counters .now) (a .regions .now)
           (cellsOf (a .inputs .now)) (a .line) (c .if2 .taken),
     )
-
-value-input-cells-requires : (t : ℕ) → value-lts.Need-input-cells-requires (value-calls t) (value-at t) value.Post
-value-input-cells-requires t c κs = search needs
-
-value-reading-requires : (t : ℕ) → value-lts.Need-reading-requires (value-calls t) (value-at t) value.Post
-value-reading-requires t c κs = search needs
 
 value-returns-3 : (t : ℕ) → value-lts.Need-returns-3 (value-calls t) (value-at t) value.Post
 value-returns-3 t c =
@@ -95,12 +80,6 @@ value-returns-3 t c =
           (c .reading .ensures .1),
     )
 
-value-entry-requires : (t : ℕ) → value-lts.Need-entry-requires (value-calls t) (value-at t) value.Post
-value-entry-requires t c κs = search needs
-
-value-reading-requires-2 : (t : ℕ) → value-lts.Need-reading-requires-2 (value-calls t) (value-at t) value.Post
-value-reading-requires-2 t c κs = search needs
-
 value-returns-4 : (t : ℕ) → value-lts.Need-returns-4 (value-calls t) (value-at t) value.Post
 value-returns-4 t c =
     let at-args = c .before .before .before .before .before .before .before .before .before .before .before
@@ -116,36 +95,6 @@ value-returns-4 t c =
           (record { sfits = at-natural-arg .given }) (natural .ensures .0)) (c .before .entry .ensures)
           (c .reading2 .ensures .1),
     )
-
-value-sub-value : (t : ℕ) → value-lts.Need-sub-value (value-calls t) (value-at t) value.Post
-value-sub-value t c = search needs
-
-value-part-value-start : (t : ℕ) → value-lts.Need-part-value-start (value-calls t) (value-at t) value.Post
-value-part-value-start t c = search needs
-
-value-part-value-end : (t : ℕ) → value-lts.Need-part-value-end (value-calls t) (value-at t) value.Post
-value-part-value-end t c = search needs
-
-value-sub-value-2 : (t : ℕ) → value-lts.Need-sub-value-2 (value-calls t) (value-at t) value.Post
-value-sub-value-2 t c = search needs
-
-value-part-value-start-2 : (t : ℕ) → value-lts.Need-part-value-start-2 (value-calls t) (value-at t) value.Post
-value-part-value-start-2 t c = search needs
-
-value-part-value-end-2 : (t : ℕ) → value-lts.Need-part-value-end-2 (value-calls t) (value-at t) value.Post
-value-part-value-end-2 t c = search needs
-
-value-add-value : (t : ℕ) → value-lts.Need-add-value (value-calls t) (value-at t) value.Post
-value-add-value t c = search needs
-
-value-value-requires : (t : ℕ) → value-lts.Need-value-requires (value-calls t) (value-at t) value.Post
-value-value-requires t c κs = search needs
-
-value-enum-known-first : (t : ℕ) → value-lts.Need-enum-known-first (value-calls t) (value-at t) value.Post
-value-enum-known-first t c = search needs
-
-value-enum-told : (t : ℕ) → value-lts.Need-enum-told (value-calls t) (value-at t) value.Post
-value-enum-told t c = search needs
 
 value-returns-5 : (t : ℕ) → value-lts.Need-returns-5 (value-calls t) (value-at t) value.Post
 value-returns-5 t c =
@@ -228,9 +177,6 @@ value-part-value-start-3 t c =
     ) in
     search needs
 
-value-part-value-end-3 : (t : ℕ) → value-lts.Need-part-value-end-3 (value-calls t) (value-at t) value.Post
-value-part-value-end-3 t c = search needs
-
 value-mul-value : (t : ℕ) → value-lts.Need-mul-value (value-calls t) (value-at t) value.Post
 value-mul-value t c =
     let entry = c .before .before .before .before .before .before .before .before .before .before .before
@@ -278,9 +224,6 @@ value-part-value-start-4 t c =
           (entry .args .kinds .now),
     ) in
     omega (arith, entry .pre .1 .0)
-
-value-part-value-end-4 : (t : ℕ) → value-lts.Need-part-value-end-4 (value-calls t) (value-at t) value.Post
-value-part-value-end-4 t c = search needs
 
 value-add-value-2 : (t : ℕ) → value-lts.Need-add-value-2 (value-calls t) (value-at t) value.Post
 value-add-value-2 t c =
@@ -333,12 +276,6 @@ value-value-requires-2 t c κs =
         ),
       ),
     )
-
-value-enum-known-second : (t : ℕ) → value-lts.Need-enum-known-second (value-calls t) (value-at t) value.Post
-value-enum-known-second t c = search needs
-
-value-enum-told-2 : (t : ℕ) → value-lts.Need-enum-told-2 (value-calls t) (value-at t) value.Post
-value-enum-told-2 t c = search needs
 
 value-returns-7 : (t : ℕ) → value-lts.Need-returns-7 (value-calls t) (value-at t) value.Post
 value-returns-7 t c =
@@ -432,43 +369,10 @@ value-returns-8 t c =
 
 pub +value-spec : {M : Type 1} → statement M
 +value-spec = close μ-value λ t. value-lts.spec (value-calls t)
-    (value-at t)
-    value.Post
-    (value-returns t)
-    (value-shared-slice-read-kind t)
-    (value-shared-slice-copy-out-natural t)
-    (value-natural-requires t)
-    (value-returns-2 t)
-    (value-input-cells-requires t)
-    (value-reading-requires t)
-    (value-returns-3 t)
-    (value-entry-requires t)
-    (value-reading-requires-2 t)
-    (value-returns-4 t)
-    (value-sub-value t)
-    (value-part-value-start t)
-    (value-part-value-end t)
-    (value-sub-value-2 t)
-    (value-part-value-start-2 t)
-    (value-part-value-end-2 t)
-    (value-add-value t)
-    (value-value-requires t)
-    (value-enum-known-first t)
-    (value-enum-told t)
-    (value-returns-5 t)
-    (value-add-from t)
-    (value-returns-6 t)
-    (value-sub-value-3 t)
-    (value-part-value-start-3 t)
-    (value-part-value-end-3 t)
-    (value-mul-value t)
-    (value-sub-value-4 t)
-    (value-part-value-start-4 t)
-    (value-part-value-end-4 t)
-    (value-add-value-2 t)
-    (value-value-requires-2 t)
-    (value-enum-known-second t)
-    (value-enum-told-2 t)
-    (value-returns-7 t)
-    (value-add-t29 t)
-    (value-returns-8 t)
+    (value-at t) value.Post (value-returns t) (λ c. search needs) (λ c. search needs) (λ c κs. search needs) (value-returns-2 t)
+    (λ c κs. search needs) (λ c κs. search needs) (value-returns-3 t) (λ c κs. search needs) (λ c κs. search needs)
+    (value-returns-4 t) (λ c. search needs) (λ c. search needs) (λ c. search needs) (λ c. search needs) (λ c. search needs)
+    (λ c. search needs) (λ c. search needs) (λ c κs. search needs) (λ c. search needs) (λ c. search needs) (value-returns-5 t)
+    (value-add-from t) (value-returns-6 t) (value-sub-value-3 t) (value-part-value-start-3 t) (λ c. search needs)
+    (value-mul-value t) (value-sub-value-4 t) (value-part-value-start-4 t) (λ c. search needs) (value-add-value-2 t)
+    (value-value-requires-2 t) (λ c. search needs) (λ c. search needs) (value-returns-7 t) (value-add-t29 t) (value-returns-8 t)

@@ -23,29 +23,11 @@ returns c =
           (cellsOf (a .inputs .now)) (a .output) (a .line) (Passed 0) (c .if1 .taken),
     )
 
-shared-slice-read-kind : tie.Need-shared-slice-read-kind
-shared-slice-read-kind c = search needs
-
-shared-slice-copy-out-natural : tie.Need-shared-slice-copy-out-natural
-shared-slice-copy-out-natural c = search needs
-
-natural-requires : tie.Need-natural-requires
-natural-requires c κs = search needs
-
-place-cells-requires : tie.Need-place-cells-requires
-place-cells-requires c κs = search needs
-
 reading-requires : tie.Need-reading-requires
 reading-requires c κs = (
   c .before .before .before .before .before .before .before .before .pre .0,
   omega (arith, c .before .before .before .before .if1 .left),
 )
-
-enum-known-placed : tie.Need-enum-known-placed
-enum-known-placed c = search needs
-
-enum-told : tie.Need-enum-told
-enum-told c = search needs
 
 returns-2 : tie.Need-returns-2
 returns-2 c =
@@ -78,9 +60,6 @@ part-value-start c =
     = omega (arith, ap passed (c .before .placed .given .1), c .before .before .before .reading .ensures .0) in
     search needs
 
-part-value-end : tie.Need-part-value-end
-part-value-end c = search needs
-
 mul-value : tie.Need-mul-value
 mul-value c =
     let entry = c .before .before .before .before .before .before .before .before .before .before .before
@@ -111,9 +90,6 @@ part-value-start-2 c =
     (arith, ap passed (c .before .before .placed .given .1), c .before .before .before .before .reading .ensures .0) in
     omega
     (arith, c .before .before .before .before .before .before .before .before .before .before .before .before .before .pre .0)
-
-part-value-end-2 : tie.Need-part-value-end-2
-part-value-end-2 c = search needs
 
 add-value : tie.Need-add-value
 add-value c =
@@ -152,12 +128,6 @@ value-requires c κs =
         table.part-length (placed .given .0 .0) (a .numbers .now),
       ),
     )
-
-enum-known-valued : tie.Need-enum-known-valued
-enum-known-valued c = search needs
-
-enum-told-2 : tie.Need-enum-told-2
-enum-told-2 c = search needs
 
 returns-3 : tie.Need-returns-3
 returns-3 c =
@@ -246,27 +216,7 @@ returns-4 c =
 pub assignment-spec : {M : Type 1} → statement M
 assignment-spec =
     tie.close
-    (tie.spec
-    returns
-    shared-slice-read-kind
-    shared-slice-copy-out-natural
-    natural-requires
-    place-cells-requires
-    reading-requires
-    enum-known-placed
-    enum-told
-    returns-2
-    sub-value
-    part-value-start
-    part-value-end
-    mul-value
-    sub-value-2
-    part-value-start-2
-    part-value-end-2
-    add-value
-    value-requires
-    enum-known-valued
-    enum-told-2
-    returns-3
-    add-t14
+    (tie.spec returns (λ c. search needs) (λ c. search needs) (λ c κs. search needs) (λ c κs. search needs) reading-requires
+    (λ c. search needs) (λ c. search needs) returns-2 sub-value part-value-start (λ c. search needs) mul-value sub-value-2
+    part-value-start-2 (λ c. search needs) add-value value-requires (λ c. search needs) (λ c. search needs) returns-3 add-t14
     returns-4)

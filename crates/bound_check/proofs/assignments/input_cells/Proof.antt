@@ -7,15 +7,6 @@ use Rattle.bound_check.proofs.Inputs as inputs
 use Rattle.bound_check.proofs.assignments.input_cells.Statement.{statement}
 use Rattle.bound_check.proofs.assignments.input_cells.Tie as tie
 
-mul-natural : tie.Need-mul-natural
-mul-natural c = search needs
-
-shared-slice-copy-out-natural : tie.Need-shared-slice-copy-out-natural
-shared-slice-copy-out-natural c = search needs
-
-natural-requires : tie.Need-natural-requires
-natural-requires c κs = search needs
-
 returns : tie.Need-returns
 returns c =
     let a = c .before .before .before .args in
@@ -28,4 +19,4 @@ returns-2 c = inputs.input-not-there (c .before .args .inputs .now) (c .before .
 pub input-cells-spec : {M : Type 1} → statement M
 input-cells-spec =
     tie.close
-    (tie.spec mul-natural shared-slice-copy-out-natural natural-requires returns returns-2)
+    (tie.spec (λ c. search needs) (λ c. search needs) (λ c κs. search needs) returns returns-2)

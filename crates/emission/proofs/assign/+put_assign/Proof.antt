@@ -55,9 +55,6 @@ put-assign-returns t c = (put-none-past _ _ _ _ (omega arith), grown-none _ _ (c
 put-assign-as-array-requires : (t : ℕ) → put-assign-lts.Need-as-array-requires (put-assign-calls t) (put-assign-at t) put-assign.Post
 put-assign-as-array-requires t c κs = sound-below (c .before .before .pre .1 .0) (omega (arith, c .before .before .pre .1 .1))
 
-put-assign-enum-known-array : (t : ℕ) → put-assign-lts.Need-enum-known-array (put-assign-calls t) (put-assign-at t) put-assign.Post
-put-assign-enum-known-array t c = search needs
-
 put-assign-cast-put-count : (t : ℕ) → put-assign-lts.Need-cast-put-count (put-assign-calls t) (put-assign-at t) put-assign.Post
 put-assign-cast-put-count t c =
     let entry = c .before .before .before .before .before .before .before .before in
@@ -69,9 +66,6 @@ put-assign-cast-put-count t c =
       few-elements (entry .args .types .now) (entry .args .place) _ _ (sound-below (entry .pre .1 .0)
           (omega (arith, entry .pre .1 .1))) (told .0),
     )
-
-put-assign-put-count-requires : (t : ℕ) → put-assign-lts.Need-put-count-requires (put-assign-calls t) (put-assign-at t) put-assign.Post
-put-assign-put-count-requires t c κs = search needs
 
 put-assign-push-both-requires : (t : ℕ) → put-assign-lts.Need-push-both-requires (put-assign-calls t) (put-assign-at t) put-assign.Post
 put-assign-push-both-requires t c κs =
@@ -153,19 +147,10 @@ put-assign-returns-2 t c =
           (c .put-assign .ensures .1),
     )
 
-put-assign-enum-told : (t : ℕ) → put-assign-lts.Need-enum-told (put-assign-calls t) (put-assign-at t) put-assign.Post
-put-assign-enum-told t c = search needs
-
 put-assign-as-pair-requires : (t : ℕ) → put-assign-lts.Need-as-pair-requires (put-assign-calls t) (put-assign-at t) put-assign.Post
 put-assign-as-pair-requires t c κs =
     let entry = c .before .before .before .before .before in
     sound-below (entry .pre .1 .0) (omega (arith, entry .pre .1 .1))
-
-put-assign-enum-known-pair : (t : ℕ) → put-assign-lts.Need-enum-known-pair (put-assign-calls t) (put-assign-at t) put-assign.Post
-put-assign-enum-known-pair t c = search needs
-
-put-assign-enum-told-2 : (t : ℕ) → put-assign-lts.Need-enum-told-2 (put-assign-calls t) (put-assign-at t) put-assign.Post
-put-assign-enum-told-2 t c = search needs
 
 put-assign-put-set-requires : (t : ℕ) → put-assign-lts.Need-put-set-requires (put-assign-calls t) (put-assign-at t) put-assign.Post
 put-assign-put-set-requires t c κs =
@@ -191,9 +176,6 @@ put-assign-returns-3 t c =
       grown-none
           _ _ (entry .pre .1 .6),
     )
-
-put-assign-put-count-requires-2 : (t : ℕ) → put-assign-lts.Need-put-count-requires-2 (put-assign-calls t) (put-assign-at t) put-assign.Post
-put-assign-put-count-requires-2 t c κs = search needs
 
 put-assign-push-both-requires-2 : (t : ℕ) → put-assign-lts.Need-push-both-requires-2 (put-assign-calls t) (put-assign-at t) put-assign.Post
 put-assign-push-both-requires-2 t c κs =
@@ -330,32 +312,10 @@ put-assign-returns-4 t c =
 
 pub +put-assign-spec : {M : Type 1} → statement M
 +put-assign-spec = close μ-put-assign λ t. put-assign-lts.spec (put-assign-calls t)
-    (put-assign-at t)
-    put-assign.Post
-    (put-assign-returns t)
-    (put-assign-as-array-requires t)
-    (put-assign-enum-known-array t)
-    (put-assign-cast-put-count t)
-    (put-assign-put-count-requires t)
-    (put-assign-push-both-requires t)
-    (put-assign-add-put-assign t)
-    (put-assign-add-put-assign-2 t)
-    (put-assign-add-put-assign-3 t)
-    (put-assign-put-assign-requires t)
-    (put-assign-returns-2 t)
-    (put-assign-enum-told t)
-    (put-assign-as-pair-requires t)
-    (put-assign-enum-known-pair t)
-    (put-assign-enum-told-2 t)
-    (put-assign-put-set-requires t)
-    (put-assign-returns-3 t)
-    (put-assign-put-count-requires-2 t)
-    (put-assign-push-both-requires-2 t)
-    (put-assign-add-put-assign-4 t)
-    (put-assign-add-put-assign-5 t)
-    (put-assign-put-assign-requires-2 t)
-    (put-assign-push-both-requires-3 t)
-    (put-assign-add-put-assign-6 t)
-    (put-assign-add-put-assign-7 t)
-    (put-assign-put-assign-requires-3 t)
-    (put-assign-returns-4 t)
+    (put-assign-at t) put-assign.Post (put-assign-returns t) (put-assign-as-array-requires t) (λ c. search needs)
+    (put-assign-cast-put-count t) (λ c κs. search needs) (put-assign-push-both-requires t) (put-assign-add-put-assign t)
+    (put-assign-add-put-assign-2 t) (put-assign-add-put-assign-3 t) (put-assign-put-assign-requires t) (put-assign-returns-2 t)
+    (λ c. search needs) (put-assign-as-pair-requires t) (λ c. search needs) (λ c. search needs) (put-assign-put-set-requires t)
+    (put-assign-returns-3 t) (λ c κs. search needs) (put-assign-push-both-requires-2 t) (put-assign-add-put-assign-4 t)
+    (put-assign-add-put-assign-5 t) (put-assign-put-assign-requires-2 t) (put-assign-push-both-requires-3 t)
+    (put-assign-add-put-assign-6 t) (put-assign-add-put-assign-7 t) (put-assign-put-assign-requires-3 t) (put-assign-returns-4 t)

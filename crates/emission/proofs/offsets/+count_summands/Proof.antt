@@ -54,16 +54,6 @@ count-summands-as-array-requires :
     count-summands.Post
 count-summands-as-array-requires t c κs = c .before .pre .1 .0
 
-count-summands-enum-known-array :
-    (t : ℕ) → count-summands-lts.Need-enum-known-array (count-summands-calls t) (count-summands-at t)
-    count-summands.Post
-count-summands-enum-known-array t c = search needs
-
-count-summands-add-count-summands :
-    (t : ℕ) → count-summands-lts.Need-add-count-summands (count-summands-calls t) (count-summands-at t)
-    count-summands.Post
-count-summands-add-count-summands t c = search needs
-
 count-summands-count-summands-requires :
     (t : ℕ) → count-summands-lts.Need-count-summands-requires (count-summands-calls t) (count-summands-at t)
     count-summands.Post
@@ -100,22 +90,10 @@ count-summands-returns t c =
           (arith, told .1, c .count-summands .ensures .1),
     )
 
-count-summands-enum-told : (t : ℕ) → count-summands-lts.Need-enum-told (count-summands-calls t) (count-summands-at t) count-summands.Post
-count-summands-enum-told t c = search needs
-
 count-summands-as-pair-requires :
     (t : ℕ) → count-summands-lts.Need-as-pair-requires (count-summands-calls t) (count-summands-at t)
     count-summands.Post
 count-summands-as-pair-requires t c κs = c .before .before .before .before .pre .1 .0
-
-count-summands-enum-known-pair :
-    (t : ℕ) → count-summands-lts.Need-enum-known-pair (count-summands-calls t) (count-summands-at t)
-    count-summands.Post
-count-summands-enum-known-pair t c = search needs
-
-count-summands-enum-told-2 :
-    (t : ℕ) → count-summands-lts.Need-enum-told-2 (count-summands-calls t) (count-summands-at t) count-summands.Post
-count-summands-enum-told-2 t c = search needs
 
 count-summands-returns-2 : (t : ℕ) → count-summands-lts.Need-returns-2 (count-summands-calls t) (count-summands-at t) count-summands.Post
 count-summands-returns-2 t c =
@@ -134,11 +112,6 @@ count-summands-is-second-requires :
 count-summands-is-second-requires t c κs =
     let entry = c .before .before .before .before .before .before .before .before in
     (entry .pre .1 .1, omega (arith, entry .pre .1 .1, entry .pre .1 .2))
-
-count-summands-add-count-summands-2 :
-    (t : ℕ) → count-summands-lts.Need-add-count-summands-2 (count-summands-calls t) (count-summands-at t)
-    count-summands.Post
-count-summands-add-count-summands-2 t c = search needs
 
 count-summands-count-summands-requires-2 :
     (t : ℕ) → count-summands-lts.Need-count-summands-requires-2 (count-summands-calls t) (count-summands-at t)
@@ -180,11 +153,6 @@ count-summands-returns-3 t c =
           (arith, told .2, c .count-summands2 .ensures .1),
     )
 
-count-summands-add-count-summands-3 :
-    (t : ℕ) → count-summands-lts.Need-add-count-summands-3 (count-summands-calls t) (count-summands-at t)
-    count-summands.Post
-count-summands-add-count-summands-3 t c = search needs
-
 count-summands-count-summands-requires-3 :
     (t : ℕ) → count-summands-lts.Need-count-summands-requires-3 (count-summands-calls t) (count-summands-at t)
     count-summands.Post
@@ -214,24 +182,9 @@ count-summands-returns-4 t c =
 
 pub +count-summands-spec : {M : Type 1} → statement M
 +count-summands-spec = close μ-count-summands λ t. count-summands-lts.spec (count-summands-calls t)
-    (count-summands-at t)
-    count-summands.Post
-    (count-summands-as-array-requires t)
-    (count-summands-enum-known-array t)
-    (count-summands-add-count-summands t)
-    (count-summands-count-summands-requires t)
-    (count-summands-add-result t)
-    (count-summands-returns t)
-    (count-summands-enum-told t)
-    (count-summands-as-pair-requires t)
-    (count-summands-enum-known-pair t)
-    (count-summands-enum-told-2 t)
-    (count-summands-returns-2 t)
-    (count-summands-is-second-requires t)
-    (count-summands-add-count-summands-2 t)
-    (count-summands-count-summands-requires-2 t)
-    (count-summands-add-result-2 t)
-    (count-summands-returns-3 t)
-    (count-summands-add-count-summands-3 t)
-    (count-summands-count-summands-requires-3 t)
+    (count-summands-at t) count-summands.Post (count-summands-as-array-requires t) (λ c. search needs) (λ c. search needs)
+    (count-summands-count-summands-requires t) (count-summands-add-result t) (count-summands-returns t) (λ c. search needs)
+    (count-summands-as-pair-requires t) (λ c. search needs) (λ c. search needs) (count-summands-returns-2 t)
+    (count-summands-is-second-requires t) (λ c. search needs) (count-summands-count-summands-requires-2 t)
+    (count-summands-add-result-2 t) (count-summands-returns-3 t) (λ c. search needs) (count-summands-count-summands-requires-3 t)
     (count-summands-returns-4 t)

@@ -55,10 +55,6 @@ put-summands-as-array-requires :
     (t : ℕ) → put-summands-lts.Need-as-array-requires (put-summands-calls t) (put-summands-at t) put-summands.Post
 put-summands-as-array-requires t c κs = c .before .pre .1 .0
 
-put-summands-enum-known-array :
-    (t : ℕ) → put-summands-lts.Need-enum-known-array (put-summands-calls t) (put-summands-at t) put-summands.Post
-put-summands-enum-known-array t c = search needs
-
 put-summands-put-cells-requires :
     (t : ℕ) → put-summands-lts.Need-put-cells-requires (put-summands-calls t) (put-summands-at t) put-summands.Post
 put-summands-put-cells-requires t c κs =
@@ -74,10 +70,6 @@ put-summands-put-index-requires :
 put-summands-put-index-requires t c κs =
     let entry = c .before .before .before .before .before .before .before .before .before .before in
     (entry .pre .1 .1, omega (arith, entry .pre .1 .1, entry .pre .1 .2))
-
-put-summands-add-put-summands :
-    (t : ℕ) → put-summands-lts.Need-add-put-summands (put-summands-calls t) (put-summands-at t) put-summands.Post
-put-summands-add-put-summands t c = search needs
 
 put-summands-put-summands-requires :
     (t : ℕ) → put-summands-lts.Need-put-summands-requires (put-summands-calls t) (put-summands-at t)
@@ -109,18 +101,9 @@ put-summands-returns t c =
     put-index (entry .args .counters) _ _ _ _ _ _ _ _ (summands-array _ _ (entry .args .j) _ _ (told .0))
     (at-put-cells .ensures) (c .before .before .before .put-index .ensures) (c .put-summands .ensures)
 
-put-summands-enum-told : (t : ℕ) → put-summands-lts.Need-enum-told (put-summands-calls t) (put-summands-at t) put-summands.Post
-put-summands-enum-told t c = search needs
-
 put-summands-as-pair-requires :
     (t : ℕ) → put-summands-lts.Need-as-pair-requires (put-summands-calls t) (put-summands-at t) put-summands.Post
 put-summands-as-pair-requires t c κs = c .before .before .before .before .pre .1 .0
-
-put-summands-enum-known-pair : (t : ℕ) → put-summands-lts.Need-enum-known-pair (put-summands-calls t) (put-summands-at t) put-summands.Post
-put-summands-enum-known-pair t c = search needs
-
-put-summands-enum-told-2 : (t : ℕ) → put-summands-lts.Need-enum-told-2 (put-summands-calls t) (put-summands-at t) put-summands.Post
-put-summands-enum-told-2 t c = search needs
 
 put-summands-returns-2 : (t : ℕ) → put-summands-lts.Need-returns-2 (put-summands-calls t) (put-summands-at t) put-summands.Post
 put-summands-returns-2 t c =
@@ -148,10 +131,6 @@ put-summands-put-cells-requires-2 t c κs =
       told-pair (entry .args .types .now) (entry .args .place)
           (c .before .before .before .before .before .pair .given .1) (c .before .before .before .before .before .before .before .as-pair .ensures) .1,
     ))
-
-put-summands-add-put-summands-2 :
-    (t : ℕ) → put-summands-lts.Need-add-put-summands-2 (put-summands-calls t) (put-summands-at t) put-summands.Post
-put-summands-add-put-summands-2 t c = search needs
 
 put-summands-put-summands-requires-2 :
     (t : ℕ) → put-summands-lts.Need-put-summands-requires-2 (put-summands-calls t) (put-summands-at t)
@@ -183,10 +162,6 @@ put-summands-returns-3 t c =
     (sym (at-if1 .taken) ∙ at-is-second .ensures)) (c .before .before .before .put-cells2 .ensures)
     (c .put-summands2 .ensures)
 
-put-summands-add-put-summands-3 :
-    (t : ℕ) → put-summands-lts.Need-add-put-summands-3 (put-summands-calls t) (put-summands-at t) put-summands.Post
-put-summands-add-put-summands-3 t c = search needs
-
 put-summands-put-summands-requires-3 :
     (t : ℕ) → put-summands-lts.Need-put-summands-requires-3 (put-summands-calls t) (put-summands-at t)
     put-summands.Post
@@ -216,25 +191,9 @@ put-summands-returns-4 t c =
 
 pub +put-summands-spec : {M : Type 1} → statement M
 +put-summands-spec = close μ-put-summands λ t. put-summands-lts.spec (put-summands-calls t)
-    (put-summands-at t)
-    put-summands.Post
-    (put-summands-as-array-requires t)
-    (put-summands-enum-known-array t)
-    (put-summands-put-cells-requires t)
-    (put-summands-put-index-requires t)
-    (put-summands-add-put-summands t)
-    (put-summands-put-summands-requires t)
-    (put-summands-returns t)
-    (put-summands-enum-told t)
-    (put-summands-as-pair-requires t)
-    (put-summands-enum-known-pair t)
-    (put-summands-enum-told-2 t)
-    (put-summands-returns-2 t)
-    (put-summands-is-second-requires t)
-    (put-summands-put-cells-requires-2 t)
-    (put-summands-add-put-summands-2 t)
-    (put-summands-put-summands-requires-2 t)
-    (put-summands-returns-3 t)
-    (put-summands-add-put-summands-3 t)
-    (put-summands-put-summands-requires-3 t)
-    (put-summands-returns-4 t)
+    (put-summands-at t) put-summands.Post (put-summands-as-array-requires t) (λ c. search needs)
+    (put-summands-put-cells-requires t) (put-summands-put-index-requires t) (λ c. search needs)
+    (put-summands-put-summands-requires t) (put-summands-returns t) (λ c. search needs) (put-summands-as-pair-requires t)
+    (λ c. search needs) (λ c. search needs) (put-summands-returns-2 t) (put-summands-is-second-requires t)
+    (put-summands-put-cells-requires-2 t) (λ c. search needs) (put-summands-put-summands-requires-2 t) (put-summands-returns-3 t)
+    (λ c. search needs) (put-summands-put-summands-requires-3 t) (put-summands-returns-4 t)

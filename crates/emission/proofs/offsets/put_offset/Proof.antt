@@ -10,9 +10,6 @@ use Rattle.meaning.specs.Offsets.{summands}
 use Rattle.emission.proofs.offsets.put_offset.Statement.{statement}
 use Rattle.emission.proofs.offsets.put_offset.Tie as tie
 
-put-count-requires : tie.Need-put-count-requires
-put-count-requires c κs = search needs
-
 returns : tie.Need-returns
 returns c =
     let entry = c .before .before .before .before .before in
@@ -25,9 +22,6 @@ count-summands-requires c κs =
     let entry = c .before .before in
     (sound-below (entry .pre .0) (omega arith), entry .pre .1, omega (arith, entry .pre .0 .few))
 
-put-count-requires-2 : tie.Need-put-count-requires-2
-put-count-requires-2 c κs = search needs
-
 returns-2 : tie.Need-returns-2
 returns-2 c =
     let entry = c .before .before .before .before .before .before .before in
@@ -35,12 +29,6 @@ returns-2 c =
     offset-empty (entry .args .counters) (summands (typeAt (entry .args .types .now) (entry .args .place))
     (pathOf (entry .args .changes .now) (entry .args .depth))) _ _ _ (at-count-summands .ensures .0)
     (c .before .before .before .if2 .taken) (c .put-count2 .ensures)
-
-sub-put-pluses : tie.Need-sub-put-pluses
-sub-put-pluses c = search needs
-
-put-pluses-requires : tie.Need-put-pluses-requires
-put-pluses-requires c κs = search needs
 
 put-summands-requires : tie.Need-put-summands-requires
 put-summands-requires c κs =
@@ -59,13 +47,5 @@ returns-3 c =
 pub put-offset-spec : {M : Type 1} → statement M
 put-offset-spec =
     tie.close
-    (tie.spec
-    put-count-requires
-    returns
-    count-summands-requires
-    put-count-requires-2
-    returns-2
-    sub-put-pluses
-    put-pluses-requires
-    put-summands-requires
-    returns-3)
+    (tie.spec (λ c κs. search needs) returns count-summands-requires (λ c κs. search needs) returns-2 (λ c. search needs)
+    (λ c κs. search needs) put-summands-requires returns-3)

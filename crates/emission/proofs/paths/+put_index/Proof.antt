@@ -41,42 +41,12 @@ put-index-calls t = (
 put-index-returns : (t : ℕ) → put-index-lts.Need-returns (put-index-calls t) (put-index-at t) put-index.Post
 put-index-returns t c = put-none-past _ _ _ _ (c .if1 .taken)
 
-put-index-step-at-requires : (t : ℕ) → put-index-lts.Need-step-at-requires (put-index-calls t) (put-index-at t) put-index.Post
-put-index-step-at-requires t c κs = search needs
-
-put-index-enum-known-found : (t : ℕ) → put-index-lts.Need-enum-known-found (put-index-calls t) (put-index-at t) put-index.Post
-put-index-enum-known-found t c = search needs
-
-put-index-from-innermost-requires : (t : ℕ) → put-index-lts.Need-from-innermost-requires (put-index-calls t) (put-index-at t) put-index.Post
-put-index-from-innermost-requires t c κs = search needs
-
-put-index-put-count-requires : (t : ℕ) → put-index-lts.Need-put-count-requires (put-index-calls t) (put-index-at t) put-index.Post
-put-index-put-count-requires t c κs = search needs
-
-put-index-enum-known-found-2 : (t : ℕ) → put-index-lts.Need-enum-known-found-2 (put-index-calls t) (put-index-at t) put-index.Post
-put-index-enum-known-found-2 t c = search needs
-
-put-index-put-count-requires-2 : (t : ℕ) → put-index-lts.Need-put-count-requires-2 (put-index-calls t) (put-index-at t) put-index.Post
-put-index-put-count-requires-2 t c κs = search needs
-
-put-index-enum-known-found-3 : (t : ℕ) → put-index-lts.Need-enum-known-found-3 (put-index-calls t) (put-index-at t) put-index.Post
-put-index-enum-known-found-3 t c = search needs
-
 put-index-put-index-requires : (t : ℕ) → put-index-lts.Need-put-index-requires (put-index-calls t) (put-index-at t) put-index.Post
 put-index-put-index-requires t c κs =
     let entry = c .before .before .before .before .before .before .before in
     let h = depth-by _ (entry .args .depth) (entry .args .j) _ _ (c .before .before .before .before .before .step-at .ensures)
     (c .before .before .before .found3 .given .1) in
     (omega (arith, h, (entry .pre)), (omega (arith, h, (entry .pre)), omega (arith, h, (entry .pre))))
-
-put-index-enum-known-found-4 : (t : ℕ) → put-index-lts.Need-enum-known-found-4 (put-index-calls t) (put-index-at t) put-index.Post
-put-index-enum-known-found-4 t c = search needs
-
-put-index-put-count-requires-3 : (t : ℕ) → put-index-lts.Need-put-count-requires-3 (put-index-calls t) (put-index-at t) put-index.Post
-put-index-put-count-requires-3 t c κs = search needs
-
-put-index-put-count-requires-4 : (t : ℕ) → put-index-lts.Need-put-count-requires-4 (put-index-calls t) (put-index-at t) put-index.Post
-put-index-put-count-requires-4 t c κs = search needs
 
 put-index-put-index-requires-2 : (t : ℕ) → put-index-lts.Need-put-index-requires-2 (put-index-calls t) (put-index-at t) put-index.Post
 put-index-put-index-requires-2 t c κs =
@@ -96,12 +66,6 @@ put-index-put-index-requires-3 t c κs =
     .before .found4 .given .1) in
     (omega (arith, h, (entry .pre)), (omega (arith, h, (entry .pre)), omega (arith, h, (entry .pre))))
 
-put-index-enum-known-found-5 : (t : ℕ) → put-index-lts.Need-enum-known-found-5 (put-index-calls t) (put-index-at t) put-index.Post
-put-index-enum-known-found-5 t c = search needs
-
-put-index-put-count-requires-5 : (t : ℕ) → put-index-lts.Need-put-count-requires-5 (put-index-calls t) (put-index-at t) put-index.Post
-put-index-put-count-requires-5 t c κs = search needs
-
 put-index-put-index-requires-4 : (t : ℕ) → put-index-lts.Need-put-index-requires-4 (put-index-calls t) (put-index-at t) put-index.Post
 put-index-put-index-requires-4 t c κs =
     let entry = c .before .before .before .before .before .before .before .before .before .before in
@@ -109,36 +73,12 @@ put-index-put-index-requires-4 t c κs =
     (c .before .before .before .before .before .before .found5 .given .1) in
     (omega (arith, h, (entry .pre)), (omega (arith, h, (entry .pre)), omega (arith, h, (entry .pre))))
 
-put-index-enum-known-found-6 : (t : ℕ) → put-index-lts.Need-enum-known-found-6 (put-index-calls t) (put-index-at t) put-index.Post
-put-index-enum-known-found-6 t c = search needs
-
-put-index-put-count-requires-6 : (t : ℕ) → put-index-lts.Need-put-count-requires-6 (put-index-calls t) (put-index-at t) put-index.Post
-put-index-put-count-requires-6 t c κs = search needs
-
 put-index-put-index-requires-5 : (t : ℕ) → put-index-lts.Need-put-index-requires-5 (put-index-calls t) (put-index-at t) put-index.Post
 put-index-put-index-requires-5 t c κs =
     let entry = c .before .before .before .before .before .before .before .before .before .before in
     let h = depth-by _ (entry .args .depth) (entry .args .j) _ _ (c .before .before .before .before .before .before .before .before .step-at .ensures)
     (c .before .before .before .before .before .before .found6 .given .1) in
     (omega (arith, h, (entry .pre)), (omega (arith, h, (entry .pre)), omega (arith, h, (entry .pre))))
-
-put-index-enum-told : (t : ℕ) → put-index-lts.Need-enum-told (put-index-calls t) (put-index-at t) put-index.Post
-put-index-enum-told t c = search needs
-
-put-index-put-count-requires-7 : (t : ℕ) → put-index-lts.Need-put-count-requires-7 (put-index-calls t) (put-index-at t) put-index.Post
-put-index-put-count-requires-7 t c κs = search needs
-
-put-index-enum-told-2 : (t : ℕ) → put-index-lts.Need-enum-told-2 (put-index-calls t) (put-index-at t) put-index.Post
-put-index-enum-told-2 t c = search needs
-
-put-index-put-count-requires-8 : (t : ℕ) → put-index-lts.Need-put-count-requires-8 (put-index-calls t) (put-index-at t) put-index.Post
-put-index-put-count-requires-8 t c κs = search needs
-
-put-index-enum-told-3 : (t : ℕ) → put-index-lts.Need-enum-told-3 (put-index-calls t) (put-index-at t) put-index.Post
-put-index-enum-told-3 t c = search needs
-
-put-index-put-count-requires-9 : (t : ℕ) → put-index-lts.Need-put-count-requires-9 (put-index-calls t) (put-index-at t) put-index.Post
-put-index-put-count-requires-9 t c κs = search needs
 
 put-index-returns-2 : (t : ℕ) → put-index-lts.Need-returns-2 (put-index-calls t) (put-index-at t) put-index.Post
 put-index-returns-2 t c =
@@ -221,40 +161,11 @@ put-index-returns-10 t c =
 
 pub +put-index-spec : {M : Type 1} → statement M
 +put-index-spec = close μ-put-index λ t. put-index-lts.spec (put-index-calls t)
-    (put-index-at t)
-    put-index.Post
-    (put-index-returns t)
-    (put-index-step-at-requires t)
-    (put-index-enum-known-found t)
-    (put-index-from-innermost-requires t)
-    (put-index-put-count-requires t)
-    (put-index-enum-known-found-2 t)
-    (put-index-put-count-requires-2 t)
-    (put-index-enum-known-found-3 t)
-    (put-index-put-index-requires t)
-    (put-index-enum-known-found-4 t)
-    (put-index-put-count-requires-3 t)
-    (put-index-put-count-requires-4 t)
-    (put-index-put-index-requires-2 t)
-    (put-index-put-index-requires-3 t)
-    (put-index-enum-known-found-5 t)
-    (put-index-put-count-requires-5 t)
-    (put-index-put-index-requires-4 t)
-    (put-index-enum-known-found-6 t)
-    (put-index-put-count-requires-6 t)
-    (put-index-put-index-requires-5 t)
-    (put-index-enum-told t)
-    (put-index-put-count-requires-7 t)
-    (put-index-enum-told-2 t)
-    (put-index-put-count-requires-8 t)
-    (put-index-enum-told-3 t)
-    (put-index-put-count-requires-9 t)
-    (put-index-returns-2 t)
-    (put-index-returns-3 t)
-    (put-index-returns-4 t)
-    (put-index-returns-5 t)
-    (put-index-returns-6 t)
-    (put-index-returns-7 t)
-    (put-index-returns-8 t)
-    (put-index-returns-9 t)
-    (put-index-returns-10 t)
+    (put-index-at t) put-index.Post (put-index-returns t) (λ c κs. search needs) (λ c. search needs) (λ c κs. search needs)
+    (λ c κs. search needs) (λ c. search needs) (λ c κs. search needs) (λ c. search needs) (put-index-put-index-requires t)
+    (λ c. search needs) (λ c κs. search needs) (λ c κs. search needs) (put-index-put-index-requires-2 t)
+    (put-index-put-index-requires-3 t) (λ c. search needs) (λ c κs. search needs) (put-index-put-index-requires-4 t)
+    (λ c. search needs) (λ c κs. search needs) (put-index-put-index-requires-5 t) (λ c. search needs) (λ c κs. search needs)
+    (λ c. search needs) (λ c κs. search needs) (λ c. search needs) (λ c κs. search needs) (put-index-returns-2 t)
+    (put-index-returns-3 t) (put-index-returns-4 t) (put-index-returns-5 t) (put-index-returns-6 t) (put-index-returns-7 t)
+    (put-index-returns-8 t) (put-index-returns-9 t) (put-index-returns-10 t)

@@ -50,30 +50,6 @@ step-at-calls t = (
 step-at-returns : (t : ℕ) → step-at-lts.Need-returns (step-at-calls t) (step-at-at t) step-at.Post
 step-at-returns t c = found-none _ _ _ (c .if1 .taken)
 
-step-at-sub-behind : (t : ℕ) → step-at-lts.Need-sub-behind (step-at-calls t) (step-at-at t) step-at.Post
-step-at-sub-behind t c = search needs
-
-step-at-mul-node : (t : ℕ) → step-at-lts.Need-mul-node (step-at-calls t) (step-at-at t) step-at.Post
-step-at-mul-node t c = search needs
-
-step-at-element-copy-out-node : (t : ℕ) → step-at-lts.Need-element-copy-out-node (step-at-calls t) (step-at-at t) step-at.Post
-step-at-element-copy-out-node t c = search needs
-
-step-at-kind-in-requires : (t : ℕ) → step-at-lts.Need-kind-in-requires (step-at-calls t) (step-at-at t) step-at.Post
-step-at-kind-in-requires t c κs = search needs
-
-step-at-change-of-requires : (t : ℕ) → step-at-lts.Need-change-of-requires (step-at-calls t) (step-at-at t) step-at.Post
-step-at-change-of-requires t c κs = search needs
-
-step-at-made-requires : (t : ℕ) → step-at-lts.Need-made-requires (step-at-calls t) (step-at-at t) step-at.Post
-step-at-made-requires t c κs = search needs
-
-step-at-number-in-requires : (t : ℕ) → step-at-lts.Need-number-in-requires (step-at-calls t) (step-at-at t) step-at.Post
-step-at-number-in-requires t c κs = search needs
-
-step-at-own-step-requires : (t : ℕ) → step-at-lts.Need-own-step-requires (step-at-calls t) (step-at-at t) step-at.Post
-step-at-own-step-requires t c κs = search needs
-
 step-at-returns-2 : (t : ℕ) → step-at-lts.Need-returns-2 (step-at-calls t) (step-at-at t) step-at.Post
 step-at-returns-2 t c =
     let entry = c .before .before .before .before .before .before .before .before in
@@ -81,9 +57,6 @@ step-at-returns-2 t c =
     (c .before .before .before .before .change-of .ensures ∙ ap changeOf (c .before .before .before .before .before .kind-in .ensures))
     _ _ (c .before .number-in .ensures) (omega (arith, c .before .before .before .made .ensures))
     (c .own-step .ensures)
-
-step-at-gone-requires : (t : ℕ) → step-at-lts.Need-gone-requires (step-at-calls t) (step-at-at t) step-at.Post
-step-at-gone-requires t c κs = search needs
 
 step-at-add-step-at : (t : ℕ) → step-at-lts.Need-add-step-at (step-at-calls t) (step-at-at t) step-at.Post
 step-at-add-step-at t c = omega (
@@ -118,19 +91,6 @@ step-at-returns-3 t c =
 
 pub +step-at-spec : {M : Type 1} → statement M
 +step-at-spec = close μ-step-at λ t. step-at-lts.spec (step-at-calls t)
-    (step-at-at t)
-    step-at.Post
-    (step-at-returns t)
-    (step-at-sub-behind t)
-    (step-at-mul-node t)
-    (step-at-element-copy-out-node t)
-    (step-at-kind-in-requires t)
-    (step-at-change-of-requires t)
-    (step-at-made-requires t)
-    (step-at-number-in-requires t)
-    (step-at-own-step-requires t)
-    (step-at-returns-2 t)
-    (step-at-gone-requires t)
-    (step-at-add-step-at t)
-    (step-at-step-at-requires t)
-    (step-at-returns-3 t)
+    (step-at-at t) step-at.Post (step-at-returns t) (λ c. search needs) (λ c. search needs) (λ c. search needs)
+    (λ c κs. search needs) (λ c κs. search needs) (λ c κs. search needs) (λ c κs. search needs) (λ c κs. search needs)
+    (step-at-returns-2 t) (λ c κs. search needs) (step-at-add-step-at t) (step-at-step-at-requires t) (step-at-returns-3 t)

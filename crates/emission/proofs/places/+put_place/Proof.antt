@@ -67,21 +67,6 @@ put-place-calls t = (
   put-place.Post,
 )
 
-put-place-mul-node : (t : ℕ) → put-place-lts.Need-mul-node (put-place-calls t) (put-place-at t) put-place.Post
-put-place-mul-node t c = search needs
-
-put-place-element-copy-out-node : (t : ℕ) → put-place-lts.Need-element-copy-out-node (put-place-calls t) (put-place-at t) put-place.Post
-put-place-element-copy-out-node t c = search needs
-
-put-place-left-in-requires : (t : ℕ) → put-place-lts.Need-left-in-requires (put-place-calls t) (put-place-at t) put-place.Post
-put-place-left-in-requires t c κs = search needs
-
-put-place-right-in-requires : (t : ℕ) → put-place-lts.Need-right-in-requires (put-place-calls t) (put-place-at t) put-place.Post
-put-place-right-in-requires t c κs = search needs
-
-put-place-put-nowhere-requires : (t : ℕ) → put-place-lts.Need-put-nowhere-requires (put-place-calls t) (put-place-at t) put-place.Post
-put-place-put-nowhere-requires t c κs = search needs
-
 put-place-returns : (t : ℕ) → put-place-lts.Need-returns (put-place-calls t) (put-place-at t) put-place.Post
 put-place-returns t c =
     let entry = c .before .before .before .before .before .before .before .before in (
@@ -90,9 +75,6 @@ put-place-returns t c =
           (c .before .before .before .before .right-in .ensures) _ _ _ (omega arith) (c .put-nowhere .ensures),
       entry .pre .1 .3,
     )
-
-put-place-put-nowhere-requires-2 : (t : ℕ) → put-place-lts.Need-put-nowhere-requires-2 (put-place-calls t) (put-place-at t) put-place.Post
-put-place-put-nowhere-requires-2 t c κs = search needs
 
 put-place-returns-2 : (t : ℕ) → put-place-lts.Need-returns-2 (put-place-calls t) (put-place-at t) put-place.Post
 put-place-returns-2 t c =
@@ -104,63 +86,17 @@ put-place-returns-2 t c =
       entry .pre .1 .3,
     )
 
-put-place-kind-in-requires : (t : ℕ) → put-place-lts.Need-kind-in-requires (put-place-calls t) (put-place-at t) put-place.Post
-put-place-kind-in-requires t c κs = search needs
-
-put-place-class-of-requires : (t : ℕ) → put-place-lts.Need-class-of-requires (put-place-calls t) (put-place-at t) put-place.Post
-put-place-class-of-requires t c κs = search needs
-
-put-place-enum-told : (t : ℕ) → put-place-lts.Need-enum-told (put-place-calls t) (put-place-at t) put-place.Post
-put-place-enum-told t c = search needs
-
-put-place-put-count-requires : (t : ℕ) → put-place-lts.Need-put-count-requires (put-place-calls t) (put-place-at t) put-place.Post
-put-place-put-count-requires t c κs = search needs
-
-put-place-type-in-requires : (t : ℕ) → put-place-lts.Need-type-in-requires (put-place-calls t) (put-place-at t) put-place.Post
-put-place-type-in-requires t c κs = search needs
-
 put-place-put-offset-requires : (t : ℕ) → put-place-lts.Need-put-offset-requires (put-place-calls t) (put-place-at t) put-place.Post
 put-place-put-offset-requires t c κs =
     let entry = c .before .before .before .before .before .before .before .before .before .before .before
     .before .before .before .before .before .before in
     (entry .pre .1 .0, omega (arith, entry .pre .1 .2))
 
-put-place-enum-told-2 : (t : ℕ) → put-place-lts.Need-enum-told-2 (put-place-calls t) (put-place-at t) put-place.Post
-put-place-enum-told-2 t c = search needs
-
-put-place-number-in-requires : (t : ℕ) → put-place-lts.Need-number-in-requires (put-place-calls t) (put-place-at t) put-place.Post
-put-place-number-in-requires t c κs = search needs
-
-put-place-from-innermost-requires : (t : ℕ) → put-place-lts.Need-from-innermost-requires (put-place-calls t) (put-place-at t) put-place.Post
-put-place-from-innermost-requires t c κs = search needs
-
-put-place-put-count-requires-2 : (t : ℕ) → put-place-lts.Need-put-count-requires-2 (put-place-calls t) (put-place-at t) put-place.Post
-put-place-put-count-requires-2 t c κs = search needs
-
-put-place-type-in-requires-2 : (t : ℕ) → put-place-lts.Need-type-in-requires-2 (put-place-calls t) (put-place-at t) put-place.Post
-put-place-type-in-requires-2 t c κs = search needs
-
 put-place-put-offset-requires-2 : (t : ℕ) → put-place-lts.Need-put-offset-requires-2 (put-place-calls t) (put-place-at t) put-place.Post
 put-place-put-offset-requires-2 t c κs =
     let entry = c .before .before .before .before .before .before .before .before .before .before .before
     .before .before .before .before .before .before .before .before in
     (entry .pre .1 .0, omega (arith, entry .pre .1 .2))
-
-put-place-enum-told-3 : (t : ℕ) → put-place-lts.Need-enum-told-3 (put-place-calls t) (put-place-at t) put-place.Post
-put-place-enum-told-3 t c = search needs
-
-put-place-operand-written-requires :
-    (t : ℕ) → put-place-lts.Need-operand-written-requires (put-place-calls t) (put-place-at t) put-place.Post
-put-place-operand-written-requires t c κs = search needs
-
-put-place-mul-changes : (t : ℕ) → put-place-lts.Need-mul-changes (put-place-calls t) (put-place-at t) put-place.Post
-put-place-mul-changes t c = search needs
-
-put-place-element-write-changes : (t : ℕ) → put-place-lts.Need-element-write-changes (put-place-calls t) (put-place-at t) put-place.Post
-put-place-element-write-changes t c = search needs
-
-put-place-add-put-place : (t : ℕ) → put-place-lts.Need-add-put-place (put-place-calls t) (put-place-at t) put-place.Post
-put-place-add-put-place t c = search needs
 
 put-place-put-place-requires : (t : ℕ) → put-place-lts.Need-put-place-requires (put-place-calls t) (put-place-at t) put-place.Post
 put-place-put-place-requires t c κs =
@@ -185,30 +121,6 @@ put-place-put-place-requires t c κs =
             (entry .args .depth) (getD (entry .args .references .now) (entry .args .from) 0) ∙ entry .pre .1 .3,
       ),
     )
-
-put-place-enum-told-4 : (t : ℕ) → put-place-lts.Need-enum-told-4 (put-place-calls t) (put-place-at t) put-place.Post
-put-place-enum-told-4 t c = search needs
-
-put-place-put-nowhere-requires-3 : (t : ℕ) → put-place-lts.Need-put-nowhere-requires-3 (put-place-calls t) (put-place-at t) put-place.Post
-put-place-put-nowhere-requires-3 t c κs = search needs
-
-put-place-enum-told-5 : (t : ℕ) → put-place-lts.Need-enum-told-5 (put-place-calls t) (put-place-at t) put-place.Post
-put-place-enum-told-5 t c = search needs
-
-put-place-put-nowhere-requires-4 : (t : ℕ) → put-place-lts.Need-put-nowhere-requires-4 (put-place-calls t) (put-place-at t) put-place.Post
-put-place-put-nowhere-requires-4 t c κs = search needs
-
-put-place-enum-told-6 : (t : ℕ) → put-place-lts.Need-enum-told-6 (put-place-calls t) (put-place-at t) put-place.Post
-put-place-enum-told-6 t c = search needs
-
-put-place-put-nowhere-requires-5 : (t : ℕ) → put-place-lts.Need-put-nowhere-requires-5 (put-place-calls t) (put-place-at t) put-place.Post
-put-place-put-nowhere-requires-5 t c κs = search needs
-
-put-place-enum-told-7 : (t : ℕ) → put-place-lts.Need-enum-told-7 (put-place-calls t) (put-place-at t) put-place.Post
-put-place-enum-told-7 t c = search needs
-
-put-place-put-nowhere-requires-6 : (t : ℕ) → put-place-lts.Need-put-nowhere-requires-6 (put-place-calls t) (put-place-at t) put-place.Post
-put-place-put-nowhere-requires-6 t c κs = search needs
 
 put-place-returns-3 : (t : ℕ) → put-place-lts.Need-returns-3 (put-place-calls t) (put-place-at t) put-place.Post
 put-place-returns-3 t c =
@@ -318,46 +230,12 @@ put-place-returns-9 t c =
 
 pub +put-place-spec : {M : Type 1} → statement M
 +put-place-spec = close μ-put-place λ t. put-place-lts.spec (put-place-calls t)
-    (put-place-at t)
-    put-place.Post
-    (put-place-mul-node t)
-    (put-place-element-copy-out-node t)
-    (put-place-left-in-requires t)
-    (put-place-right-in-requires t)
-    (put-place-put-nowhere-requires t)
-    (put-place-returns t)
-    (put-place-put-nowhere-requires-2 t)
-    (put-place-returns-2 t)
-    (put-place-kind-in-requires t)
-    (put-place-class-of-requires t)
-    (put-place-enum-told t)
-    (put-place-put-count-requires t)
-    (put-place-type-in-requires t)
-    (put-place-put-offset-requires t)
-    (put-place-enum-told-2 t)
-    (put-place-number-in-requires t)
-    (put-place-from-innermost-requires t)
-    (put-place-put-count-requires-2 t)
-    (put-place-type-in-requires-2 t)
-    (put-place-put-offset-requires-2 t)
-    (put-place-enum-told-3 t)
-    (put-place-operand-written-requires t)
-    (put-place-mul-changes t)
-    (put-place-element-write-changes t)
-    (put-place-add-put-place t)
-    (put-place-put-place-requires t)
-    (put-place-enum-told-4 t)
-    (put-place-put-nowhere-requires-3 t)
-    (put-place-enum-told-5 t)
-    (put-place-put-nowhere-requires-4 t)
-    (put-place-enum-told-6 t)
-    (put-place-put-nowhere-requires-5 t)
-    (put-place-enum-told-7 t)
-    (put-place-put-nowhere-requires-6 t)
-    (put-place-returns-3 t)
-    (put-place-returns-4 t)
-    (put-place-returns-5 t)
-    (put-place-returns-6 t)
-    (put-place-returns-7 t)
-    (put-place-returns-8 t)
-    (put-place-returns-9 t)
+    (put-place-at t) put-place.Post (λ c. search needs) (λ c. search needs) (λ c κs. search needs) (λ c κs. search needs)
+    (λ c κs. search needs) (put-place-returns t) (λ c κs. search needs) (put-place-returns-2 t) (λ c κs. search needs)
+    (λ c κs. search needs) (λ c. search needs) (λ c κs. search needs) (λ c κs. search needs) (put-place-put-offset-requires t)
+    (λ c. search needs) (λ c κs. search needs) (λ c κs. search needs) (λ c κs. search needs) (λ c κs. search needs)
+    (put-place-put-offset-requires-2 t) (λ c. search needs) (λ c κs. search needs) (λ c. search needs) (λ c. search needs)
+    (λ c. search needs) (put-place-put-place-requires t) (λ c. search needs) (λ c κs. search needs) (λ c. search needs)
+    (λ c κs. search needs) (λ c. search needs) (λ c κs. search needs) (λ c. search needs) (λ c κs. search needs)
+    (put-place-returns-3 t) (put-place-returns-4 t) (put-place-returns-5 t) (put-place-returns-6 t) (put-place-returns-7 t)
+    (put-place-returns-8 t) (put-place-returns-9 t)

@@ -5,17 +5,8 @@ use Rattle.emission.specs.Laws.Growth.{pushed}
 use Rattle.emission.proofs.references.push.Statement.{statement}
 use Rattle.emission.proofs.references.push.Tie as tie
 
-node-requires : tie.Need-node-requires
-node-requires c κs = search needs
-
-mul-references : tie.Need-mul-references
-mul-references c = search needs
-
-element-write-references : tie.Need-element-write-references
-element-write-references c = search needs
-
 returns : tie.Need-returns
 returns c = pushed _ _ _ _ _ (c .before .pre .0) (c .before .pre .3) (c .node .ensures) refl
 
 pub push-spec : {M : Type 1} → statement M
-push-spec = tie.close (tie.spec node-requires mul-references element-write-references returns)
+push-spec = tie.close (tie.spec (λ c κs. search needs) (λ c. search needs) (λ c. search needs) returns)

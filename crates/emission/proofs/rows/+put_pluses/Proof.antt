@@ -35,25 +35,11 @@ put-pluses-calls t = (
 put-pluses-returns : (t : ℕ) → put-pluses-lts.Need-returns (put-pluses-calls t) (put-pluses-at t) put-pluses.Post
 put-pluses-returns t c = pluses-none (c .before .args .many) _ (omega arith)
 
-put-pluses-put-count-requires : (t : ℕ) → put-pluses-lts.Need-put-count-requires (put-pluses-calls t) (put-pluses-at t) put-pluses.Post
-put-pluses-put-count-requires t c κs = search needs
-
-put-pluses-sub-put-pluses : (t : ℕ) → put-pluses-lts.Need-sub-put-pluses (put-pluses-calls t) (put-pluses-at t) put-pluses.Post
-put-pluses-sub-put-pluses t c = search needs
-
-put-pluses-put-pluses-requires : (t : ℕ) → put-pluses-lts.Need-put-pluses-requires (put-pluses-calls t) (put-pluses-at t) put-pluses.Post
-put-pluses-put-pluses-requires t c κs = search needs
-
 put-pluses-returns-2 : (t : ℕ) → put-pluses-lts.Need-returns-2 (put-pluses-calls t) (put-pluses-at t) put-pluses.Post
 put-pluses-returns-2 t c = pluses-more (c .before .before .before .before .before .before .before .args .many) _ _ _
     (omega arith) (c .before .before .before .put-count .ensures) (c .put-pluses .ensures)
 
 pub +put-pluses-spec : {M : Type 1} → statement M
 +put-pluses-spec = close μ-put-pluses λ t. put-pluses-lts.spec (put-pluses-calls t)
-    (put-pluses-at t)
-    put-pluses.Post
-    (put-pluses-returns t)
-    (put-pluses-put-count-requires t)
-    (put-pluses-sub-put-pluses t)
-    (put-pluses-put-pluses-requires t)
+    (put-pluses-at t) put-pluses.Post (put-pluses-returns t) (λ c κs. search needs) (λ c. search needs) (λ c κs. search needs)
     (put-pluses-returns-2 t)

@@ -7,18 +7,6 @@ use Rattle.emission.specs.Laws.Table.{put-room-as, put-full, put-past}
 use Rattle.emission.proofs.rows.put.Statement.{statement}
 use Rattle.emission.proofs.rows.put.Tie as tie
 
-element-write-kinds : tie.Need-element-write-kinds
-element-write-kinds c = search needs
-
-mul-number : tie.Need-mul-number
-mul-number c = search needs
-
-element-set-from-number : tie.Need-element-set-from-number
-element-set-from-number c = search needs
-
-add-result : tie.Need-add-result
-add-result c = search needs
-
 returns : tie.Need-returns
 returns c = put-room-as _ _ _ _ _ _ (toZ-ofZ w32 (c .before .args .number) (c .before .fits .number)) (omega arith)
 
@@ -31,11 +19,4 @@ returns-3 c = put-past _ _ _ _ (omega arith)
 pub put-spec : {M : Type 1} → statement M
 put-spec =
     tie.close
-    (tie.spec
-    element-write-kinds
-    mul-number
-    element-set-from-number
-    add-result
-    returns
-    returns-2
-    returns-3)
+    (tie.spec (λ c. search needs) (λ c. search needs) (λ c. search needs) (λ c. search needs) returns returns-2 returns-3)

@@ -7,14 +7,8 @@ use Rattle.emission.specs.Laws.Table.{put-as}
 use Rattle.emission.proofs.rows.put_count.Statement.{statement}
 use Rattle.emission.proofs.rows.put_count.Tie as tie
 
-cast-put : tie.Need-cast-put
-cast-put c = search needs
-
-put-requires : tie.Need-put-requires
-put-requires c κs = search needs
-
 returns : tie.Need-returns
 returns c = put-as _ _ _ _ _ (toZ-pos w32 (omega arith)) (c .put .ensures)
 
 pub put-count-spec : {M : Type 1} → statement M
-put-count-spec = tie.close (tie.spec cast-put put-requires returns)
+put-count-spec = tie.close (tie.spec (λ c. search needs) (λ c κs. search needs) returns)

@@ -68,23 +68,8 @@ put-value-calls t = (
   operand-read-reads.Learnt,
 )
 
-put-value-mul-node : (t : ℕ) → put-value-lts.Need-mul-node (put-value-calls t) (put-value-at t) put-value.Post
-put-value-mul-node t c = search needs
-
-put-value-element-copy-out-node : (t : ℕ) → put-value-lts.Need-element-copy-out-node (put-value-calls t) (put-value-at t) put-value.Post
-put-value-element-copy-out-node t c = search needs
-
-put-value-left-in-requires : (t : ℕ) → put-value-lts.Need-left-in-requires (put-value-calls t) (put-value-at t) put-value.Post
-put-value-left-in-requires t c κs = search needs
-
-put-value-right-in-requires : (t : ℕ) → put-value-lts.Need-right-in-requires (put-value-calls t) (put-value-at t) put-value.Post
-put-value-right-in-requires t c κs = search needs
-
 put-value-returns : (t : ℕ) → put-value-lts.Need-returns (put-value-calls t) (put-value-at t) put-value.Post
 put-value-returns t c = (put-none-past _ _ _ _ (omega arith), (refl, c .before .before .before .before .before .pre .1 .3))
-
-put-value-put-count-requires : (t : ℕ) → put-value-lts.Need-put-count-requires (put-value-calls t) (put-value-at t) put-value.Post
-put-value-put-count-requires t c κs = search needs
 
 put-value-returns-2 : (t : ℕ) → put-value-lts.Need-returns-2 (put-value-calls t) (put-value-at t) put-value.Post
 put-value-returns-2 t c =
@@ -94,9 +79,6 @@ put-value-returns-2 t c =
           (c .before .before .before .before .before .right-in .ensures) _ _ _ (omega arith) (c .put-count .ensures),
       (refl, entry .pre .1 .3),
     )
-
-put-value-put-count-requires-2 : (t : ℕ) → put-value-lts.Need-put-count-requires-2 (put-value-calls t) (put-value-at t) put-value.Post
-put-value-put-count-requires-2 t c κs = search needs
 
 put-value-returns-3 : (t : ℕ) → put-value-lts.Need-returns-3 (put-value-calls t) (put-value-at t) put-value.Post
 put-value-returns-3 t c =
@@ -108,71 +90,17 @@ put-value-returns-3 t c =
       (refl, entry .pre .1 .3),
     )
 
-put-value-kind-in-requires : (t : ℕ) → put-value-lts.Need-kind-in-requires (put-value-calls t) (put-value-at t) put-value.Post
-put-value-kind-in-requires t c κs = search needs
-
-put-value-class-of-requires : (t : ℕ) → put-value-lts.Need-class-of-requires (put-value-calls t) (put-value-at t) put-value.Post
-put-value-class-of-requires t c κs = search needs
-
-put-value-enum-told : (t : ℕ) → put-value-lts.Need-enum-told (put-value-calls t) (put-value-at t) put-value.Post
-put-value-enum-told t c = search needs
-
-put-value-number-in-requires : (t : ℕ) → put-value-lts.Need-number-in-requires (put-value-calls t) (put-value-at t) put-value.Post
-put-value-number-in-requires t c κs = search needs
-
-put-value-put-literal-requires : (t : ℕ) → put-value-lts.Need-put-literal-requires (put-value-calls t) (put-value-at t) put-value.Post
-put-value-put-literal-requires t c κs = search needs
-
-put-value-enum-told-2 : (t : ℕ) → put-value-lts.Need-enum-told-2 (put-value-calls t) (put-value-at t) put-value.Post
-put-value-enum-told-2 t c = search needs
-
-put-value-number-in-requires-2 : (t : ℕ) → put-value-lts.Need-number-in-requires-2 (put-value-calls t) (put-value-at t) put-value.Post
-put-value-number-in-requires-2 t c κs = search needs
-
-put-value-put-count-requires-3 : (t : ℕ) → put-value-lts.Need-put-count-requires-3 (put-value-calls t) (put-value-at t) put-value.Post
-put-value-put-count-requires-3 t c κs = search needs
-
-put-value-type-in-requires : (t : ℕ) → put-value-lts.Need-type-in-requires (put-value-calls t) (put-value-at t) put-value.Post
-put-value-type-in-requires t c κs = search needs
-
 put-value-put-offset-requires : (t : ℕ) → put-value-lts.Need-put-offset-requires (put-value-calls t) (put-value-at t) put-value.Post
 put-value-put-offset-requires t c κs =
     let entry = c .before .before .before .before .before .before .before .before .before .before .before
     .before .before .before .before .before .before .before .before in
     (entry .pre .1 .0, omega (arith, entry .pre .1 .2))
 
-put-value-enum-told-3 : (t : ℕ) → put-value-lts.Need-enum-told-3 (put-value-calls t) (put-value-at t) put-value.Post
-put-value-enum-told-3 t c = search needs
-
-put-value-number-in-requires-3 : (t : ℕ) → put-value-lts.Need-number-in-requires-3 (put-value-calls t) (put-value-at t) put-value.Post
-put-value-number-in-requires-3 t c κs = search needs
-
-put-value-from-innermost-requires : (t : ℕ) → put-value-lts.Need-from-innermost-requires (put-value-calls t) (put-value-at t) put-value.Post
-put-value-from-innermost-requires t c κs = search needs
-
-put-value-put-count-requires-4 : (t : ℕ) → put-value-lts.Need-put-count-requires-4 (put-value-calls t) (put-value-at t) put-value.Post
-put-value-put-count-requires-4 t c κs = search needs
-
-put-value-type-in-requires-2 : (t : ℕ) → put-value-lts.Need-type-in-requires-2 (put-value-calls t) (put-value-at t) put-value.Post
-put-value-type-in-requires-2 t c κs = search needs
-
 put-value-put-offset-requires-2 : (t : ℕ) → put-value-lts.Need-put-offset-requires-2 (put-value-calls t) (put-value-at t) put-value.Post
 put-value-put-offset-requires-2 t c κs =
     let entry = c .before .before .before .before .before .before .before .before .before .before .before
     .before .before .before .before .before .before .before .before .before in
     (entry .pre .1 .0, omega (arith, entry .pre .1 .2))
-
-put-value-enum-told-4 : (t : ℕ) → put-value-lts.Need-enum-told-4 (put-value-calls t) (put-value-at t) put-value.Post
-put-value-enum-told-4 t c = search needs
-
-put-value-put-count-requires-5 : (t : ℕ) → put-value-lts.Need-put-count-requires-5 (put-value-calls t) (put-value-at t) put-value.Post
-put-value-put-count-requires-5 t c κs = search needs
-
-put-value-enum-told-5 : (t : ℕ) → put-value-lts.Need-enum-told-5 (put-value-calls t) (put-value-at t) put-value.Post
-put-value-enum-told-5 t c = search needs
-
-put-value-put-count-requires-6 : (t : ℕ) → put-value-lts.Need-put-count-requires-6 (put-value-calls t) (put-value-at t) put-value.Post
-put-value-put-count-requires-6 t c κs = search needs
 
 put-value-put-value-requires : (t : ℕ) → put-value-lts.Need-put-value-requires (put-value-calls t) (put-value-at t) put-value.Post
 put-value-put-value-requires t c κs =
@@ -187,15 +115,6 @@ put-value-put-value-requires t c κs =
         entry .pre .1 .3,
       ),
     )
-
-put-value-enum-told-6 : (t : ℕ) → put-value-lts.Need-enum-told-6 (put-value-calls t) (put-value-at t) put-value.Post
-put-value-enum-told-6 t c = search needs
-
-put-value-kind-in-requires-2 : (t : ℕ) → put-value-lts.Need-kind-in-requires-2 (put-value-calls t) (put-value-at t) put-value.Post
-put-value-kind-in-requires-2 t c κs = search needs
-
-put-value-put-count-requires-7 : (t : ℕ) → put-value-lts.Need-put-count-requires-7 (put-value-calls t) (put-value-at t) put-value.Post
-put-value-put-count-requires-7 t c κs = search needs
 
 put-value-put-value-requires-2 : (t : ℕ) → put-value-lts.Need-put-value-requires-2 (put-value-calls t) (put-value-at t) put-value.Post
 put-value-put-value-requires-2 t c κs =
@@ -227,23 +146,11 @@ put-value-put-value-requires-3 t c κs =
       ),
     )
 
-put-value-enum-told-7 : (t : ℕ) → put-value-lts.Need-enum-told-7 (put-value-calls t) (put-value-at t) put-value.Post
-put-value-enum-told-7 t c = search needs
-
 put-value-operand-read-requires : (t : ℕ) → put-value-lts.Need-operand-read-requires (put-value-calls t) (put-value-at t) put-value.Post
 put-value-operand-read-requires t c κs = omega (
   arith,
   c .before .before .before .before .before .before .before .before .before .before .before .before .pre .1 .2,
 )
-
-put-value-mul-changes : (t : ℕ) → put-value-lts.Need-mul-changes (put-value-calls t) (put-value-at t) put-value.Post
-put-value-mul-changes t c = search needs
-
-put-value-element-write-changes : (t : ℕ) → put-value-lts.Need-element-write-changes (put-value-calls t) (put-value-at t) put-value.Post
-put-value-element-write-changes t c = search needs
-
-put-value-add-put-value : (t : ℕ) → put-value-lts.Need-add-put-value (put-value-calls t) (put-value-at t) put-value.Post
-put-value-add-put-value t c = search needs
 
 put-value-put-value-requires-4 : (t : ℕ) → put-value-lts.Need-put-value-requires-4 (put-value-calls t) (put-value-at t) put-value.Post
 put-value-put-value-requires-4 t c κs =
@@ -418,53 +325,14 @@ put-value-returns-10 t c =
 
 pub +put-value-spec : {M : Type 1} → statement M
 +put-value-spec = close μ-put-value λ t. put-value-lts.spec (put-value-calls t)
-    (put-value-at t)
-    put-value.Post
-    (put-value-mul-node t)
-    (put-value-element-copy-out-node t)
-    (put-value-left-in-requires t)
-    (put-value-right-in-requires t)
-    (put-value-returns t)
-    (put-value-put-count-requires t)
-    (put-value-returns-2 t)
-    (put-value-put-count-requires-2 t)
-    (put-value-returns-3 t)
-    (put-value-kind-in-requires t)
-    (put-value-class-of-requires t)
-    (put-value-enum-told t)
-    (put-value-number-in-requires t)
-    (put-value-put-literal-requires t)
-    (put-value-enum-told-2 t)
-    (put-value-number-in-requires-2 t)
-    (put-value-put-count-requires-3 t)
-    (put-value-type-in-requires t)
-    (put-value-put-offset-requires t)
-    (put-value-enum-told-3 t)
-    (put-value-number-in-requires-3 t)
-    (put-value-from-innermost-requires t)
-    (put-value-put-count-requires-4 t)
-    (put-value-type-in-requires-2 t)
-    (put-value-put-offset-requires-2 t)
-    (put-value-enum-told-4 t)
-    (put-value-put-count-requires-5 t)
-    (put-value-enum-told-5 t)
-    (put-value-put-count-requires-6 t)
-    (put-value-put-value-requires t)
-    (put-value-enum-told-6 t)
-    (put-value-kind-in-requires-2 t)
-    (put-value-put-count-requires-7 t)
-    (put-value-put-value-requires-2 t)
-    (put-value-put-value-requires-3 t)
-    (put-value-enum-told-7 t)
-    (put-value-operand-read-requires t)
-    (put-value-mul-changes t)
-    (put-value-element-write-changes t)
-    (put-value-add-put-value t)
-    (put-value-put-value-requires-4 t)
-    (put-value-returns-4 t)
-    (put-value-returns-5 t)
-    (put-value-returns-6 t)
-    (put-value-returns-7 t)
-    (put-value-returns-8 t)
-    (put-value-returns-9 t)
+    (put-value-at t) put-value.Post (λ c. search needs) (λ c. search needs) (λ c κs. search needs) (λ c κs. search needs)
+    (put-value-returns t) (λ c κs. search needs) (put-value-returns-2 t) (λ c κs. search needs) (put-value-returns-3 t)
+    (λ c κs. search needs) (λ c κs. search needs) (λ c. search needs) (λ c κs. search needs) (λ c κs. search needs)
+    (λ c. search needs) (λ c κs. search needs) (λ c κs. search needs) (λ c κs. search needs) (put-value-put-offset-requires t)
+    (λ c. search needs) (λ c κs. search needs) (λ c κs. search needs) (λ c κs. search needs) (λ c κs. search needs)
+    (put-value-put-offset-requires-2 t) (λ c. search needs) (λ c κs. search needs) (λ c. search needs) (λ c κs. search needs)
+    (put-value-put-value-requires t) (λ c. search needs) (λ c κs. search needs) (λ c κs. search needs)
+    (put-value-put-value-requires-2 t) (put-value-put-value-requires-3 t) (λ c. search needs) (put-value-operand-read-requires t)
+    (λ c. search needs) (λ c. search needs) (λ c. search needs) (put-value-put-value-requires-4 t) (put-value-returns-4 t)
+    (put-value-returns-5 t) (put-value-returns-6 t) (put-value-returns-7 t) (put-value-returns-8 t) (put-value-returns-9 t)
     (put-value-returns-10 t)

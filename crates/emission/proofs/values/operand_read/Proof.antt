@@ -7,81 +7,6 @@ use Rattle.emission.specs.Nodes.{leftIn, rightIn}
 use Rattle.emission.proofs.values.operand_read.Statement.{statement}
 use Rattle.emission.proofs.values.operand_read.Tie as tie
 
-kind-in-requires : tie.Need-kind-in-requires
-kind-in-requires c κs = search needs
-
-change-of-requires : tie.Need-change-of-requires
-change-of-requires c κs = search needs
-
-enum-told : tie.Need-enum-told
-enum-told c = search needs
-
-is-second-requires : tie.Need-is-second-requires
-is-second-requires c κs = search needs
-
-right-in-requires : tie.Need-right-in-requires
-right-in-requires c κs = search needs
-
-left-in-requires : tie.Need-left-in-requires
-left-in-requires c κs = search needs
-
-enum-told-2 : tie.Need-enum-told-2
-enum-told-2 c = search needs
-
-is-second-requires-2 : tie.Need-is-second-requires-2
-is-second-requires-2 c κs = search needs
-
-right-in-requires-2 : tie.Need-right-in-requires-2
-right-in-requires-2 c κs = search needs
-
-left-in-requires-2 : tie.Need-left-in-requires-2
-left-in-requires-2 c κs = search needs
-
-enum-told-3 : tie.Need-enum-told-3
-enum-told-3 c = search needs
-
-left-in-requires-3 : tie.Need-left-in-requires-3
-left-in-requires-3 c κs = search needs
-
-enum-told-4 : tie.Need-enum-told-4
-enum-told-4 c = search needs
-
-left-in-requires-4 : tie.Need-left-in-requires-4
-left-in-requires-4 c κs = search needs
-
-enum-told-5 : tie.Need-enum-told-5
-enum-told-5 c = search needs
-
-left-in-requires-5 : tie.Need-left-in-requires-5
-left-in-requires-5 c κs = search needs
-
-enum-told-6 : tie.Need-enum-told-6
-enum-told-6 c = search needs
-
-left-in-requires-6 : tie.Need-left-in-requires-6
-left-in-requires-6 c κs = search needs
-
-enum-told-7 : tie.Need-enum-told-7
-enum-told-7 c = search needs
-
-left-in-requires-7 : tie.Need-left-in-requires-7
-left-in-requires-7 c κs = search needs
-
-enum-told-8 : tie.Need-enum-told-8
-enum-told-8 c = search needs
-
-left-in-requires-8 : tie.Need-left-in-requires-8
-left-in-requires-8 c κs = search needs
-
-enum-told-9 : tie.Need-enum-told-9
-enum-told-9 c = search needs
-
-enum-told-10 : tie.Need-enum-told-10
-enum-told-10 c = search needs
-
-enum-told-11 : tie.Need-enum-told-11
-enum-told-11 c = search needs
-
 returns : tie.Need-returns
 returns c =
     let entry = c .before .before .before .before .before .before .before in
@@ -203,42 +128,9 @@ returns-13 c =
 pub operand-read-spec : {M : Type 1} → statement M
 operand-read-spec =
     tie.close
-    (tie.spec
-    kind-in-requires
-    change-of-requires
-    enum-told
-    is-second-requires
-    right-in-requires
-    left-in-requires
-    enum-told-2
-    is-second-requires-2
-    right-in-requires-2
-    left-in-requires-2
-    enum-told-3
-    left-in-requires-3
-    enum-told-4
-    left-in-requires-4
-    enum-told-5
-    left-in-requires-5
-    enum-told-6
-    left-in-requires-6
-    enum-told-7
-    left-in-requires-7
-    enum-told-8
-    left-in-requires-8
-    enum-told-9
-    enum-told-10
-    enum-told-11
-    returns
-    returns-2
-    returns-3
-    returns-4
-    returns-5
-    returns-6
-    returns-7
-    returns-8
-    returns-9
-    returns-10
-    returns-11
-    returns-12
-    returns-13)
+    (tie.spec (λ c κs. search needs) (λ c κs. search needs) (λ c. search needs) (λ c κs. search needs) (λ c κs. search needs)
+    (λ c κs. search needs) (λ c. search needs) (λ c κs. search needs) (λ c κs. search needs) (λ c κs. search needs)
+    (λ c. search needs) (λ c κs. search needs) (λ c. search needs) (λ c κs. search needs) (λ c. search needs)
+    (λ c κs. search needs) (λ c. search needs) (λ c κs. search needs) (λ c. search needs) (λ c κs. search needs)
+    (λ c. search needs) (λ c κs. search needs) (λ c. search needs) (λ c. search needs) (λ c. search needs) returns returns-2
+    returns-3 returns-4 returns-5 returns-6 returns-7 returns-8 returns-9 returns-10 returns-11 returns-12 returns-13)

@@ -11,23 +11,11 @@ use Rattle.emission.specs.Laws.Table.{put-as}
 use Rattle.emission.proofs.values.put_literal.Statement.{statement}
 use Rattle.emission.proofs.values.put_literal.Tie as tie
 
-put-requires : tie.Need-put-requires
-put-requires c κs = search needs
-
 returns : tie.Need-returns
 returns c =
     let entry = c .before .before .before .before in
     put-as _ _ _ _ _ (sym (getD-past (entry .args .plan .now) (entry .args .row) (pos 0) (omega arith)))
     (c .put .ensures)
-
-mul-put : tie.Need-mul-put
-mul-put c = search needs
-
-shared-slice-copy-out-put : tie.Need-shared-slice-copy-out-put
-shared-slice-copy-out-put c = search needs
-
-put-requires-2 : tie.Need-put-requires-2
-put-requires-2 c κs = search needs
 
 returns-2 : tie.Need-returns-2
 returns-2 c =
@@ -38,4 +26,4 @@ returns-2 c =
 pub put-literal-spec : {M : Type 1} → statement M
 put-literal-spec =
     tie.close
-    (tie.spec put-requires returns mul-put shared-slice-copy-out-put put-requires-2 returns-2)
+    (tie.spec (λ c κs. search needs) returns (λ c. search needs) (λ c. search needs) (λ c κs. search needs) returns-2)

@@ -53,21 +53,6 @@ evaluate-returns t c =
           (entry (drop (a .c) (a .counters .now))) 0 (a .at) (c .if1 .taken),
     )
 
-evaluate-element-copy-out-kind : (t : ℕ) → evaluate-lts.Need-element-copy-out-kind (evaluate-calls t) (evaluate-at t) evaluate.Post
-evaluate-element-copy-out-kind t c = search needs
-
-evaluate-mul-natural : (t : ℕ) → evaluate-lts.Need-mul-natural (evaluate-calls t) (evaluate-at t) evaluate.Post
-evaluate-mul-natural t c = search needs
-
-evaluate-element-copy-out-natural : (t : ℕ) → evaluate-lts.Need-element-copy-out-natural (evaluate-calls t) (evaluate-at t) evaluate.Post
-evaluate-element-copy-out-natural t c = search needs
-
-evaluate-natural-requires : (t : ℕ) → evaluate-lts.Need-natural-requires (evaluate-calls t) (evaluate-at t) evaluate.Post
-evaluate-natural-requires t c κs = search needs
-
-evaluate-add-t18 : (t : ℕ) → evaluate-lts.Need-add-t18 (evaluate-calls t) (evaluate-at t) evaluate.Post
-evaluate-add-t18 t c = search needs
-
 evaluate-returns-2 : (t : ℕ) → evaluate-lts.Need-returns-2 (evaluate-calls t) (evaluate-at t) evaluate.Post
 evaluate-returns-2 t c =
     let a = c .before .before .before .before .before .args in (
@@ -76,12 +61,6 @@ evaluate-returns-2 t c =
           (c .before .natural .result) (c .if2 .taken) (natural-of (getD (a .numbers .now) (a .at) (pos 0))
           (record { sfits = c .before .before .natural-arg .given }) (c .before .natural .ensures)),
     )
-
-evaluate-entry-requires : (t : ℕ) → evaluate-lts.Need-entry-requires (evaluate-calls t) (evaluate-at t) evaluate.Post
-evaluate-entry-requires t c κs = search needs
-
-evaluate-add-t22 : (t : ℕ) → evaluate-lts.Need-add-t22 (evaluate-calls t) (evaluate-at t) evaluate.Post
-evaluate-add-t22 t c = search needs
 
 evaluate-returns-3 : (t : ℕ) → evaluate-lts.Need-returns-3 (evaluate-calls t) (evaluate-at t) evaluate.Post
 evaluate-returns-3 t c =
@@ -94,18 +73,6 @@ evaluate-returns-3 t c =
           (c .before .before .before .before .natural .ensures))),
     )
 
-evaluate-add-evaluate : (t : ℕ) → evaluate-lts.Need-add-evaluate (evaluate-calls t) (evaluate-at t) evaluate.Post
-evaluate-add-evaluate t c = search needs
-
-evaluate-evaluate-requires : (t : ℕ) → evaluate-lts.Need-evaluate-requires (evaluate-calls t) (evaluate-at t) evaluate.Post
-evaluate-evaluate-requires t c κs = search needs
-
-evaluate-evaluate-requires-2 : (t : ℕ) → evaluate-lts.Need-evaluate-requires-2 (evaluate-calls t) (evaluate-at t) evaluate.Post
-evaluate-evaluate-requires-2 t c κs = search needs
-
-evaluate-sum-requires : (t : ℕ) → evaluate-lts.Need-sum-requires (evaluate-calls t) (evaluate-at t) evaluate.Post
-evaluate-sum-requires t c κs = search needs
-
 evaluate-returns-4 : (t : ℕ) → evaluate-lts.Need-returns-4 (evaluate-calls t) (evaluate-at t) evaluate.Post
 evaluate-returns-4 t c =
     let a = c .before .before .before .before .before .before .before .before .before .before .args in
@@ -117,9 +84,6 @@ evaluate-returns-4 t c =
           (second .result .number) (second .result .next) (c .before .before .if4 .taken) (first .ensures .1)
           (second .ensures .1) (c .sum .ensures),
     )
-
-evaluate-scaled-requires : (t : ℕ) → evaluate-lts.Need-scaled-requires (evaluate-calls t) (evaluate-at t) evaluate.Post
-evaluate-scaled-requires t c κs = search needs
 
 evaluate-returns-5 : (t : ℕ) → evaluate-lts.Need-returns-5 (evaluate-calls t) (evaluate-at t) evaluate.Post
 evaluate-returns-5 t c =
@@ -140,22 +104,7 @@ evaluate-returns-5 t c =
 
 pub +evaluate-spec : {M : Type 1} → statement M
 +evaluate-spec = close μ-evaluate λ t. evaluate-lts.spec (evaluate-calls t)
-    (evaluate-at t)
-    evaluate.Post
-    (evaluate-returns t)
-    (evaluate-element-copy-out-kind t)
-    (evaluate-mul-natural t)
-    (evaluate-element-copy-out-natural t)
-    (evaluate-natural-requires t)
-    (evaluate-add-t18 t)
-    (evaluate-returns-2 t)
-    (evaluate-entry-requires t)
-    (evaluate-add-t22 t)
-    (evaluate-returns-3 t)
-    (evaluate-add-evaluate t)
-    (evaluate-evaluate-requires t)
-    (evaluate-evaluate-requires-2 t)
-    (evaluate-sum-requires t)
-    (evaluate-returns-4 t)
-    (evaluate-scaled-requires t)
-    (evaluate-returns-5 t)
+    (evaluate-at t) evaluate.Post (evaluate-returns t) (λ c. search needs) (λ c. search needs) (λ c. search needs)
+    (λ c κs. search needs) (λ c. search needs) (evaluate-returns-2 t) (λ c κs. search needs) (λ c. search needs)
+    (evaluate-returns-3 t) (λ c. search needs) (λ c κs. search needs) (λ c κs. search needs) (λ c κs. search needs)
+    (evaluate-returns-4 t) (λ c κs. search needs) (evaluate-returns-5 t)

@@ -7,11 +7,5 @@ use Rattle.evaluation.proofs.sums.product.Tie as tie
 mul-capped : tie.Need-mul-capped
 mul-capped c = record { fits = operations.product-fits (search needs) (search needs) }
 
-capped-requires : tie.Need-capped-requires
-capped-requires c κs = search needs
-
-returns : tie.Need-returns
-returns c = search needs
-
 pub product-spec : {M : Type 1} → statement M
-product-spec = tie.close (tie.spec mul-capped capped-requires returns)
+product-spec = tie.close (tie.spec mul-capped (λ c κs. search needs) (λ c. search needs))

@@ -60,18 +60,6 @@ evaluate-returns t c =
           (storeOf (a .cells .now) (a .bytes .now)) (pos 0) (a .at) (c .if1 .taken),
     )
 
-evaluate-element-copy-out-kind : (t : ℕ) → evaluate-lts.Need-element-copy-out-kind (evaluate-calls t) (evaluate-at t) evaluate.Post
-evaluate-element-copy-out-kind t c = search needs
-
-evaluate-mul-n : (t : ℕ) → evaluate-lts.Need-mul-n (evaluate-calls t) (evaluate-at t) evaluate.Post
-evaluate-mul-n t c = search needs
-
-evaluate-element-copy-out-n : (t : ℕ) → evaluate-lts.Need-element-copy-out-n (evaluate-calls t) (evaluate-at t) evaluate.Post
-evaluate-element-copy-out-n t c = search needs
-
-evaluate-add-t25 : (t : ℕ) → evaluate-lts.Need-add-t25 (evaluate-calls t) (evaluate-at t) evaluate.Post
-evaluate-add-t25 t c = search needs
-
 evaluate-returns-2 : (t : ℕ) → evaluate-lts.Need-returns-2 (evaluate-calls t) (evaluate-at t) evaluate.Post
 evaluate-returns-2 t c =
     let a = c .before .before .before .before .before .args in (
@@ -80,18 +68,6 @@ evaluate-returns-2 t c =
           (entry (drop (a .c) (a .counters .now))) (entry (drop (a .r) (a .regions .now)))
           (storeOf (a .cells .now) (a .bytes .now)) _ (c .if2 .taken) (back _ (c .before .n .given)),
     )
-
-evaluate-natural-requires : (t : ℕ) → evaluate-lts.Need-natural-requires (evaluate-calls t) (evaluate-at t) evaluate.Post
-evaluate-natural-requires t c κs = search needs
-
-evaluate-entry-requires : (t : ℕ) → evaluate-lts.Need-entry-requires (evaluate-calls t) (evaluate-at t) evaluate.Post
-evaluate-entry-requires t c κs = search needs
-
-evaluate-add-reading : (t : ℕ) → evaluate-lts.Need-add-reading (evaluate-calls t) (evaluate-at t) evaluate.Post
-evaluate-add-reading t c = search needs
-
-evaluate-reading-requires : (t : ℕ) → evaluate-lts.Need-reading-requires (evaluate-calls t) (evaluate-at t) evaluate.Post
-evaluate-reading-requires t c κs = search needs
 
 evaluate-returns-3 : (t : ℕ) → evaluate-lts.Need-returns-3 (evaluate-calls t) (evaluate-at t) evaluate.Post
 evaluate-returns-3 t c =
@@ -107,18 +83,6 @@ evaluate-returns-3 t c =
           (c .before .before .natural .ensures))) (reading .ensures .1),
     )
 
-evaluate-natural-requires-2 : (t : ℕ) → evaluate-lts.Need-natural-requires-2 (evaluate-calls t) (evaluate-at t) evaluate.Post
-evaluate-natural-requires-2 t c κs = search needs
-
-evaluate-entry-requires-2 : (t : ℕ) → evaluate-lts.Need-entry-requires-2 (evaluate-calls t) (evaluate-at t) evaluate.Post
-evaluate-entry-requires-2 t c κs = search needs
-
-evaluate-add-reading-2 : (t : ℕ) → evaluate-lts.Need-add-reading-2 (evaluate-calls t) (evaluate-at t) evaluate.Post
-evaluate-add-reading-2 t c = search needs
-
-evaluate-reading-requires-2 : (t : ℕ) → evaluate-lts.Need-reading-requires-2 (evaluate-calls t) (evaluate-at t) evaluate.Post
-evaluate-reading-requires-2 t c κs = search needs
-
 evaluate-returns-4 : (t : ℕ) → evaluate-lts.Need-returns-4 (evaluate-calls t) (evaluate-at t) evaluate.Post
 evaluate-returns-4 t c =
     let a = c .before .before .before .before .before .before .before .before .before .before .before .args in
@@ -133,15 +97,6 @@ evaluate-returns-4 t c =
           (c .before .before .natural2 .ensures))) (reading .ensures .1),
     )
 
-evaluate-add-evaluate : (t : ℕ) → evaluate-lts.Need-add-evaluate (evaluate-calls t) (evaluate-at t) evaluate.Post
-evaluate-add-evaluate t c = search needs
-
-evaluate-evaluate-requires : (t : ℕ) → evaluate-lts.Need-evaluate-requires (evaluate-calls t) (evaluate-at t) evaluate.Post
-evaluate-evaluate-requires t c κs = search needs
-
-evaluate-neg-requires : (t : ℕ) → evaluate-lts.Need-neg-requires (evaluate-calls t) (evaluate-at t) evaluate.Post
-evaluate-neg-requires t c κs = search needs
-
 evaluate-returns-5 : (t : ℕ) → evaluate-lts.Need-returns-5 (evaluate-calls t) (evaluate-at t) evaluate.Post
 evaluate-returns-5 t c =
     let a = c .before .before .before .before .before .before .before .before .before .before .before .args in
@@ -153,12 +108,6 @@ evaluate-returns-5 t c =
           (c .before .before .if5 .taken) (first .ensures .1) (back _ (c .neg .ok) ∙ c .neg .ensures ∙ ap negation
           (back (first .result .number) (c .before .struct-told .given .0 .1))),
     )
-
-evaluate-evaluate-requires-2 : (t : ℕ) → evaluate-lts.Need-evaluate-requires-2 (evaluate-calls t) (evaluate-at t) evaluate.Post
-evaluate-evaluate-requires-2 t c κs = search needs
-
-evaluate-operate-requires : (t : ℕ) → evaluate-lts.Need-operate-requires (evaluate-calls t) (evaluate-at t) evaluate.Post
-evaluate-operate-requires t c κs = search needs
 
 evaluate-returns-6 : (t : ℕ) → evaluate-lts.Need-returns-6 (evaluate-calls t) (evaluate-at t) evaluate.Post
 evaluate-returns-6 t c =
@@ -181,28 +130,8 @@ evaluate-returns-6 t c =
 
 pub +evaluate-spec : {M : Type 1} → statement M
 +evaluate-spec = close μ-evaluate λ t. evaluate-lts.spec (evaluate-calls t)
-    (evaluate-at t)
-    evaluate.Post
-    (evaluate-returns t)
-    (evaluate-element-copy-out-kind t)
-    (evaluate-mul-n t)
-    (evaluate-element-copy-out-n t)
-    (evaluate-add-t25 t)
-    (evaluate-returns-2 t)
-    (evaluate-natural-requires t)
-    (evaluate-entry-requires t)
-    (evaluate-add-reading t)
-    (evaluate-reading-requires t)
-    (evaluate-returns-3 t)
-    (evaluate-natural-requires-2 t)
-    (evaluate-entry-requires-2 t)
-    (evaluate-add-reading-2 t)
-    (evaluate-reading-requires-2 t)
-    (evaluate-returns-4 t)
-    (evaluate-add-evaluate t)
-    (evaluate-evaluate-requires t)
-    (evaluate-neg-requires t)
-    (evaluate-returns-5 t)
-    (evaluate-evaluate-requires-2 t)
-    (evaluate-operate-requires t)
-    (evaluate-returns-6 t)
+    (evaluate-at t) evaluate.Post (evaluate-returns t) (λ c. search needs) (λ c. search needs) (λ c. search needs)
+    (λ c. search needs) (evaluate-returns-2 t) (λ c κs. search needs) (λ c κs. search needs) (λ c. search needs)
+    (λ c κs. search needs) (evaluate-returns-3 t) (λ c κs. search needs) (λ c κs. search needs) (λ c. search needs)
+    (λ c κs. search needs) (evaluate-returns-4 t) (λ c. search needs) (λ c κs. search needs) (λ c κs. search needs)
+    (evaluate-returns-5 t) (λ c κs. search needs) (λ c κs. search needs) (evaluate-returns-6 t)

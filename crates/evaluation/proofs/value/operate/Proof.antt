@@ -5,9 +5,6 @@ use Rattle.evaluation.proofs.Operations as operations
 use Rattle.evaluation.proofs.value.operate.Statement.{statement}
 use Rattle.evaluation.proofs.value.operate.Tie as tie
 
-add-requires : tie.Need-add-requires
-add-requires c κs = search needs
-
 returns : tie.Need-returns
 unfolding operate
 returns c =
@@ -15,18 +12,12 @@ returns c =
     operations.named _ _ _ _ Operation.addition (c .before .if1 .taken) (operations.handed
     (operate Operation.addition) (fits .x) (fits .y) (record { sfits = c .add .ok }) (c .add .ensures))
 
-sub-requires : tie.Need-sub-requires
-sub-requires c κs = search needs
-
 returns-2 : tie.Need-returns-2
 unfolding operate
 returns-2 c =
     let fits = c .before .before .before .fits in
     operations.named _ _ _ _ Operation.subtraction (c .before .if2 .taken) (operations.handed
     (operate Operation.subtraction) (fits .x) (fits .y) (record { sfits = c .sub .ok }) (c .sub .ensures))
-
-mul-requires : tie.Need-mul-requires
-mul-requires c κs = search needs
 
 returns-3 : tie.Need-returns-3
 unfolding operate
@@ -36,9 +27,6 @@ returns-3 c =
     operations.named _ _ _ _ Operation.multiplication (c .before .if3 .taken) (operations.handed
     (operate Operation.multiplication) (fits .x) (fits .y) (record { sfits = c .mul .ok }) (c .mul .ensures))
 
-div-requires : tie.Need-div-requires
-div-requires c κs = search needs
-
 returns-4 : tie.Need-returns-4
 unfolding operate
 returns-4 c =
@@ -47,9 +35,6 @@ returns-4 c =
     operations.named _ _ _ _ Operation.division (c .before .if4 .taken) (operations.handed
     (operate Operation.division) (fits .x) (fits .y) (record { sfits = c .div .ok }) (c .div .ensures))
 
-min-requires : tie.Need-min-requires
-min-requires c κs = search needs
-
 returns-5 : tie.Need-returns-5
 unfolding operate
 returns-5 c =
@@ -57,9 +42,6 @@ returns-5 c =
     let fits = at-fits in
     operations.named _ _ _ _ Operation.minimum (c .before .if5 .taken) (operations.handed
     (operate Operation.minimum) (fits .x) (fits .y) (record { sfits = c .min .ok }) (c .min .ensures))
-
-max-requires : tie.Need-max-requires
-max-requires c κs = search needs
 
 returns-6 : tie.Need-returns-6
 unfolding operate
@@ -75,16 +57,5 @@ returns-6 c =
 pub operate-spec : {M : Type 1} → statement M
 operate-spec =
     tie.close
-    (tie.spec
-    add-requires
-    returns
-    sub-requires
-    returns-2
-    mul-requires
-    returns-3
-    div-requires
-    returns-4
-    min-requires
-    returns-5
-    max-requires
-    returns-6)
+    (tie.spec (λ c κs. search needs) returns (λ c κs. search needs) returns-2 (λ c κs. search needs) returns-3
+    (λ c κs. search needs) returns-4 (λ c κs. search needs) returns-5 (λ c κs. search needs) returns-6)

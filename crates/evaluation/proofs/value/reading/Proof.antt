@@ -10,18 +10,6 @@ use Rattle.evaluation.proofs.Operations.{back}
 use Rattle.evaluation.proofs.value.reading.Statement.{statement}
 use Rattle.evaluation.proofs.value.reading.Tie as tie
 
-evaluate-requires : tie.Need-evaluate-requires
-evaluate-requires c κs = search needs
-
-cast-cell : tie.Need-cast-cell
-cast-cell c = search needs
-
-add-cell : tie.Need-add-cell
-add-cell c = search needs
-
-read-requires : tie.Need-read-requires
-read-requires c κs = search needs
-
 returns : tie.Need-returns
 returns c =
     let at-evaluate = c .before .before .evaluate in
@@ -35,4 +23,4 @@ returns c =
     )
 
 pub reading-spec : {M : Type 1} → statement M
-reading-spec = tie.close (tie.spec evaluate-requires cast-cell add-cell read-requires returns)
+reading-spec = tie.close (tie.spec (λ c κs. search needs) (λ c. search needs) (λ c. search needs) (λ c κs. search needs) returns)

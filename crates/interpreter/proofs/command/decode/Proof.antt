@@ -10,24 +10,6 @@ use Rattle.interpreter.proofs.Commands as commands
 use Rattle.interpreter.proofs.command.decode.Statement.{statement}
 use Rattle.interpreter.proofs.command.decode.Tie as tie
 
-element-copy-out-kind : tie.Need-element-copy-out-kind
-element-copy-out-kind c = search needs
-
-mul-natural : tie.Need-mul-natural
-mul-natural c = search needs
-
-element-copy-out-natural : tie.Need-element-copy-out-natural
-element-copy-out-natural c = search needs
-
-natural-requires : tie.Need-natural-requires
-natural-requires c κs = search needs
-
-add-set-at : tie.Need-add-set-at
-add-set-at c = search needs
-
-set-at-requires : tie.Need-set-at-requires
-set-at-requires c κs = search needs
-
 returns : tie.Need-returns
 returns c =
     let at-args = c .before .before .before .before .before .args in
@@ -97,16 +79,5 @@ returns-6 c =
 pub decode-spec : {M : Type 1} → statement M
 decode-spec =
     tie.close
-    (tie.spec
-    element-copy-out-kind
-    mul-natural
-    element-copy-out-natural
-    natural-requires
-    add-set-at
-    set-at-requires
-    returns
-    returns-2
-    returns-3
-    returns-4
-    returns-5
-    returns-6)
+    (tie.spec (λ c. search needs) (λ c. search needs) (λ c. search needs) (λ c κs. search needs) (λ c. search needs)
+    (λ c κs. search needs) returns returns-2 returns-3 returns-4 returns-5 returns-6)

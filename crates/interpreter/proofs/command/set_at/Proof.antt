@@ -18,15 +18,6 @@ returns c =
           (entry (drop (a .c) (a .counters .now))) Nothing (c .if1 .taken),
     )
 
-add-evaluate : tie.Need-add-evaluate
-add-evaluate c = search needs
-
-evaluate-requires : tie.Need-evaluate-requires
-evaluate-requires c κs = search needs
-
-element-copy-out-if2 : tie.Need-element-copy-out-if2
-element-copy-out-if2 c = search needs
-
 returns-2 : tie.Need-returns-2
 returns-2 c =
     let at-evaluate = c .before .before .evaluate in
@@ -36,15 +27,6 @@ returns-2 c =
           (entry (drop (a .c) (a .counters .now))) (at-evaluate .result .number) (at-evaluate .result .next)
           (c .if2 .taken) (at-evaluate .ensures .1),
     )
-
-mul-natural : tie.Need-mul-natural
-mul-natural c = search needs
-
-element-copy-out-natural : tie.Need-element-copy-out-natural
-element-copy-out-natural c = search needs
-
-natural-requires : tie.Need-natural-requires
-natural-requires c κs = search needs
 
 returns-3 : tie.Need-returns-3
 returns-3 c =
@@ -61,13 +43,5 @@ returns-3 c =
 pub set-at-spec : {M : Type 1} → statement M
 set-at-spec =
     tie.close
-    (tie.spec
-    returns
-    add-evaluate
-    evaluate-requires
-    element-copy-out-if2
-    returns-2
-    mul-natural
-    element-copy-out-natural
-    natural-requires
-    returns-3)
+    (tie.spec returns (λ c. search needs) (λ c κs. search needs) (λ c. search needs) returns-2 (λ c. search needs)
+    (λ c. search needs) (λ c κs. search needs) returns-3)

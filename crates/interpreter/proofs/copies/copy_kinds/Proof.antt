@@ -21,18 +21,6 @@ returns c = λ h. absurd (omega (arith, h, c .if1 .taken))
 loop-holds : tie.Need-loop-holds Inv-loop μ-loop
 loop-holds c = (omega arith, refl, omega (arith, c .if1 .left), refl)
 
-shared-slice-read-to : tie.Need-shared-slice-read-to Inv-loop μ-loop
-shared-slice-read-to c = search needs
-
-slice-write-to : tie.Need-slice-write-to Inv-loop μ-loop
-slice-write-to c = search needs
-
-add-k : tie.Need-add-k Inv-loop μ-loop
-add-k c = search needs
-
-loop-less : tie.Need-loop-less Inv-loop μ-loop
-loop-less c = search needs
-
 loop-again : tie.Need-loop-again Inv-loop μ-loop
 loop-again c =
     let at = c .before .before .loop in (
@@ -44,9 +32,6 @@ loop-again c =
           (at .inv .3),
     )
 
-same-length : tie.Need-same-length Inv-loop μ-loop
-same-length c = search needs
-
 returns-2 : tie.Need-returns-2 Inv-loop μ-loop
 returns-2 c = λ h. copying.copied-all (c .before .before .before .args .from .now) (c .before .loop .to)
     (c .before .loop .k) (omega (arith, c .before .loop .inv .0, c .loop-test .left)) (c .before .loop .inv .3)
@@ -54,15 +39,5 @@ returns-2 c = λ h. copying.copied-all (c .before .before .before .args .from .n
 pub copy-kinds-spec : {M : Type 1} → statement M
 copy-kinds-spec =
     tie.close
-    (tie.spec
-    Inv-loop
-    μ-loop
-    returns
-    loop-holds
-    shared-slice-read-to
-    slice-write-to
-    add-k
-    loop-less
-    loop-again
-    same-length
-    returns-2)
+    (tie.spec Inv-loop μ-loop returns loop-holds (λ c. search needs) (λ c. search needs) (λ c. search needs) (λ c. search needs)
+    loop-again (λ c. search needs) returns-2)

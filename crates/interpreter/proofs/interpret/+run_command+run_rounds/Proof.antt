@@ -77,45 +77,6 @@ run-command-returns t c =
       ),
     )
 
-run-command-decode-requires : (t : ℕ) → run-command-lts.Need-decode-requires (run-command-calls t) (run-command-at t) run-command.Post
-run-command-decode-requires t c κs = search needs
-
-run-command-enum-known-place : (t : ℕ) → run-command-lts.Need-enum-known-place (run-command-calls t) (run-command-at t) run-command.Post
-run-command-enum-known-place t c = search needs
-
-run-command-assign-requires : (t : ℕ) → run-command-lts.Need-assign-requires (run-command-calls t) (run-command-at t) run-command.Post
-run-command-assign-requires t c κs = search needs
-
-run-command-sum-requires : (t : ℕ) → run-command-lts.Need-sum-requires (run-command-calls t) (run-command-at t) run-command.Post
-run-command-sum-requires t c κs = search needs
-
-run-command-enum-told : (t : ℕ) → run-command-lts.Need-enum-told (run-command-calls t) (run-command-at t) run-command.Post
-run-command-enum-told t c = search needs
-
-run-command-add-run-command : (t : ℕ) → run-command-lts.Need-add-run-command (run-command-calls t) (run-command-at t) run-command.Post
-run-command-add-run-command t c = search needs
-
-run-command-run-command-requires :
-    (t : ℕ) → run-command-lts.Need-run-command-requires (run-command-calls t) (run-command-at t) run-command.Post
-run-command-run-command-requires t c κs = search needs
-
-run-command-run-command-requires-2 :
-    (t : ℕ) → run-command-lts.Need-run-command-requires-2 (run-command-calls t) (run-command-at t) run-command.Post
-run-command-run-command-requires-2 t c κs = search needs
-
-run-command-enum-known-turns : (t : ℕ) → run-command-lts.Need-enum-known-turns (run-command-calls t) (run-command-at t) run-command.Post
-run-command-enum-known-turns t c = search needs
-
-run-command-add-run-rounds : (t : ℕ) → run-command-lts.Need-add-run-rounds (run-command-calls t) (run-command-at t) run-command.Post
-run-command-add-run-rounds t c = search needs
-
-run-command-run-rounds-requires :
-    (t : ℕ) → run-command-lts.Need-run-rounds-requires (run-command-calls t) (run-command-at t) run-command.Post
-run-command-run-rounds-requires t c κs = search needs
-
-run-command-enum-known-n : (t : ℕ) → run-command-lts.Need-enum-known-n (run-command-calls t) (run-command-at t) run-command.Post
-run-command-enum-known-n t c = search needs
-
 run-command-returns-2 : (t : ℕ) → run-command-lts.Need-returns-2 (run-command-calls t) (run-command-at t) run-command.Post
 run-command-returns-2 t c =
     let entry = c .before .before .before .before .before .before .before .before in
@@ -132,22 +93,6 @@ run-command-returns-2 t c =
             (storeOf (a .cells .now) (a .bytes .now)) _ (at-n .given .1) (c .if2 .taken),
       ),
     )
-
-run-command-sub-inner : (t : ℕ) → run-command-lts.Need-sub-inner (run-command-calls t) (run-command-at t) run-command.Post
-run-command-sub-inner t c = search needs
-
-run-command-mul-regions : (t : ℕ) → run-command-lts.Need-mul-regions (run-command-calls t) (run-command-at t) run-command.Post
-run-command-mul-regions t c = search needs
-
-run-command-element-write-regions :
-    (t : ℕ) → run-command-lts.Need-element-write-regions (run-command-calls t) (run-command-at t) run-command.Post
-run-command-element-write-regions t c = search needs
-
-run-command-add-run-command-2 : (t : ℕ) → run-command-lts.Need-add-run-command-2 (run-command-calls t) (run-command-at t) run-command.Post
-run-command-add-run-command-2 t c = search needs
-
-run-command-sum-requires-2 : (t : ℕ) → run-command-lts.Need-sum-requires-2 (run-command-calls t) (run-command-at t) run-command.Post
-run-command-sum-requires-2 t c κs = search needs
 
 run-command-run-command-requires-3 :
     (t : ℕ) → run-command-lts.Need-run-command-requires-3 (run-command-calls t) (run-command-at t) run-command.Post
@@ -168,15 +113,6 @@ run-command-run-command-requires-3 t c κs =
             (a .r - 1) (a .free) ∙ entry .pre .1 .3,
       ),
     )
-
-run-command-enum-told-2 : (t : ℕ) → run-command-lts.Need-enum-told-2 (run-command-calls t) (run-command-at t) run-command.Post
-run-command-enum-told-2 t c = search needs
-
-run-command-same-length : (t : ℕ) → run-command-lts.Need-same-length (run-command-calls t) (run-command-at t) run-command.Post
-run-command-same-length t c = search needs
-
-run-command-same-length-2 : (t : ℕ) → run-command-lts.Need-same-length-2 (run-command-calls t) (run-command-at t) run-command.Post
-run-command-same-length-2 t c = search needs
 
 run-command-returns-3 : (t : ℕ) → run-command-lts.Need-returns-3 (run-command-calls t) (run-command-at t) run-command.Post
 run-command-returns-3 t c =
@@ -199,12 +135,6 @@ run-command-returns-3 t c =
             (c .sum .ensures),
       ),
     )
-
-run-command-same-length-3 : (t : ℕ) → run-command-lts.Need-same-length-3 (run-command-calls t) (run-command-at t) run-command.Post
-run-command-same-length-3 t c = search needs
-
-run-command-same-length-4 : (t : ℕ) → run-command-lts.Need-same-length-4 (run-command-calls t) (run-command-at t) run-command.Post
-run-command-same-length-4 t c = search needs
 
 run-command-returns-4 : (t : ℕ) → run-command-lts.Need-returns-4 (run-command-calls t) (run-command-at t) run-command.Post
 run-command-returns-4 t c =
@@ -245,12 +175,6 @@ run-command-returns-4 t c =
       ),
     )
 
-run-command-same-length-5 : (t : ℕ) → run-command-lts.Need-same-length-5 (run-command-calls t) (run-command-at t) run-command.Post
-run-command-same-length-5 t c = search needs
-
-run-command-same-length-6 : (t : ℕ) → run-command-lts.Need-same-length-6 (run-command-calls t) (run-command-at t) run-command.Post
-run-command-same-length-6 t c = search needs
-
 run-command-returns-5 : (t : ℕ) → run-command-lts.Need-returns-5 (run-command-calls t) (run-command-at t) run-command.Post
 run-command-returns-5 t c =
     let a = c .before .before .before .before .before .before .before .before .before .before .before
@@ -271,12 +195,6 @@ run-command-returns-5 t c =
             (done .ensures .1 .1),
       ),
     )
-
-run-command-same-length-7 : (t : ℕ) → run-command-lts.Need-same-length-7 (run-command-calls t) (run-command-at t) run-command.Post
-run-command-same-length-7 t c = search needs
-
-run-command-same-length-8 : (t : ℕ) → run-command-lts.Need-same-length-8 (run-command-calls t) (run-command-at t) run-command.Post
-run-command-same-length-8 t c = search needs
 
 run-command-returns-6 : (t : ℕ) → run-command-lts.Need-returns-6 (run-command-calls t) (run-command-at t) run-command.Post
 run-command-returns-6 t c =
@@ -365,11 +283,6 @@ run-rounds-returns t c =
       ),
     )
 
-run-rounds-sub-inner :
-    (t : ℕ) → run-rounds-lts.Need-sub-inner (run-rounds-calls t) (run-rounds-at t) run-rounds.Post
-    run-rounds-Inv-loop run-rounds-μ-loop
-run-rounds-sub-inner t c = search needs
-
 run-rounds-loop-holds :
     (t : ℕ) → run-rounds-lts.Need-loop-holds (run-rounds-calls t) (run-rounds-at t) run-rounds.Post
     run-rounds-Inv-loop run-rounds-μ-loop
@@ -395,21 +308,6 @@ run-rounds-loop-holds t c =
           (storeOf (a .cells .now) (a .bytes .now)) (a .writes) _ refl,
     )
 
-run-rounds-counter-requires :
-    (t : ℕ) → run-rounds-lts.Need-counter-requires (run-rounds-calls t) (run-rounds-at t) run-rounds.Post
-    run-rounds-Inv-loop run-rounds-μ-loop
-run-rounds-counter-requires t c κs = search needs
-
-run-rounds-mul-counters :
-    (t : ℕ) → run-rounds-lts.Need-mul-counters (run-rounds-calls t) (run-rounds-at t) run-rounds.Post
-    run-rounds-Inv-loop run-rounds-μ-loop
-run-rounds-mul-counters t c = search needs
-
-run-rounds-element-write-counters :
-    (t : ℕ) → run-rounds-lts.Need-element-write-counters (run-rounds-calls t) (run-rounds-at t) run-rounds.Post
-    run-rounds-Inv-loop run-rounds-μ-loop
-run-rounds-element-write-counters t c = search needs
-
 run-rounds-run-command-requires :
     (t : ℕ) → run-rounds-lts.Need-run-command-requires (run-rounds-calls t) (run-rounds-at t) run-rounds.Post
     run-rounds-Inv-loop run-rounds-μ-loop
@@ -426,16 +324,6 @@ run-rounds-run-command-requires t c κs =
         at .inv .2,
       ),
     )
-
-run-rounds-add-k :
-    (t : ℕ) → run-rounds-lts.Need-add-k (run-rounds-calls t) (run-rounds-at t) run-rounds.Post run-rounds-Inv-loop
-    run-rounds-μ-loop
-run-rounds-add-k t c = search needs
-
-run-rounds-loop-less :
-    (t : ℕ) → run-rounds-lts.Need-loop-less (run-rounds-calls t) (run-rounds-at t) run-rounds.Post
-    run-rounds-Inv-loop run-rounds-μ-loop
-run-rounds-loop-less t c = search needs
 
 run-rounds-loop-again :
     (t : ℕ) → run-rounds-lts.Need-loop-again (run-rounds-calls t) (run-rounds-at t) run-rounds.Post
@@ -478,16 +366,6 @@ run-rounds-loop-again t c =
           (λ (l : List ℕ). counter .result ∷ l) (at .inv .6)) (at .inv .7) (round .ensures .1 .1)),
     )
 
-run-rounds-same-length :
-    (t : ℕ) → run-rounds-lts.Need-same-length (run-rounds-calls t) (run-rounds-at t) run-rounds.Post
-    run-rounds-Inv-loop run-rounds-μ-loop
-run-rounds-same-length t c = search needs
-
-run-rounds-same-length-2 :
-    (t : ℕ) → run-rounds-lts.Need-same-length-2 (run-rounds-calls t) (run-rounds-at t) run-rounds.Post
-    run-rounds-Inv-loop run-rounds-μ-loop
-run-rounds-same-length-2 t c = search needs
-
 run-rounds-returns-2 :
     (t : ℕ) → run-rounds-lts.Need-returns-2 (run-rounds-calls t) (run-rounds-at t) run-rounds.Post
     run-rounds-Inv-loop run-rounds-μ-loop
@@ -511,58 +389,14 @@ run-rounds-returns-2 t c =
 
 pub +run-command+run-rounds-spec : {M : Type 1} → statement M
 +run-command+run-rounds-spec = close μ-run-command μ-run-rounds (λ t. run-command-lts.spec (run-command-calls t)
-    (run-command-at t)
-    run-command.Post
-    (run-command-returns t)
-    (run-command-decode-requires t)
-    (run-command-enum-known-place t)
-    (run-command-assign-requires t)
-    (run-command-sum-requires t)
-    (run-command-enum-told t)
-    (run-command-add-run-command t)
-    (run-command-run-command-requires t)
-    (run-command-run-command-requires-2 t)
-    (run-command-enum-known-turns t)
-    (run-command-add-run-rounds t)
-    (run-command-run-rounds-requires t)
-    (run-command-enum-known-n t)
-    (run-command-returns-2 t)
-    (run-command-sub-inner t)
-    (run-command-mul-regions t)
-    (run-command-element-write-regions t)
-    (run-command-add-run-command-2 t)
-    (run-command-sum-requires-2 t)
-    (run-command-run-command-requires-3 t)
-    (run-command-enum-told-2 t)
-    (run-command-same-length t)
-    (run-command-same-length-2 t)
-    (run-command-returns-3 t)
-    (run-command-same-length-3 t)
-    (run-command-same-length-4 t)
-    (run-command-returns-4 t)
-    (run-command-same-length-5 t)
-    (run-command-same-length-6 t)
-    (run-command-returns-5 t)
-    (run-command-same-length-7 t)
-    (run-command-same-length-8 t)
-    (run-command-returns-6 t)
-    (run-command-returns-7 t))
-    λ t. run-rounds-lts.spec
-    (run-rounds-calls t)
-    (run-rounds-at t)
-    run-rounds.Post
-    run-rounds-Inv-loop
-    run-rounds-μ-loop
-    (run-rounds-returns t)
-    (run-rounds-sub-inner t)
-    (run-rounds-loop-holds t)
-    (run-rounds-counter-requires t)
-    (run-rounds-mul-counters t)
-    (run-rounds-element-write-counters t)
-    (run-rounds-run-command-requires t)
-    (run-rounds-add-k t)
-    (run-rounds-loop-less t)
-    (run-rounds-loop-again t)
-    (run-rounds-same-length t)
-    (run-rounds-same-length-2 t)
-    (run-rounds-returns-2 t)
+    (run-command-at t) run-command.Post (run-command-returns t) (λ c κs. search needs) (λ c. search needs) (λ c κs. search needs)
+    (λ c κs. search needs) (λ c. search needs) (λ c. search needs) (λ c κs. search needs) (λ c κs. search needs)
+    (λ c. search needs) (λ c. search needs) (λ c κs. search needs) (λ c. search needs) (run-command-returns-2 t)
+    (λ c. search needs) (λ c. search needs) (λ c. search needs) (λ c. search needs) (λ c κs. search needs)
+    (run-command-run-command-requires-3 t) (λ c. search needs) (λ c. search needs) (λ c. search needs) (run-command-returns-3 t)
+    (λ c. search needs) (λ c. search needs) (run-command-returns-4 t) (λ c. search needs) (λ c. search needs)
+    (run-command-returns-5 t) (λ c. search needs) (λ c. search needs) (run-command-returns-6 t) (run-command-returns-7 t))
+    λ t. run-rounds-lts.spec (run-rounds-calls t) (run-rounds-at t) run-rounds.Post run-rounds-Inv-loop run-rounds-μ-loop
+    (run-rounds-returns t) (λ c. search needs) (run-rounds-loop-holds t) (λ c κs. search needs) (λ c. search needs)
+    (λ c. search needs) (run-rounds-run-command-requires t) (λ c. search needs) (λ c. search needs) (run-rounds-loop-again t)
+    (λ c. search needs) (λ c. search needs) (run-rounds-returns-2 t)

@@ -8,21 +8,6 @@ use Rattle.evaluation.proofs.Operations.{back}
 use Rattle.interpreter.proofs.interpret.assign.Statement.{statement}
 use Rattle.interpreter.proofs.interpret.assign.Tie as tie
 
-evaluate-requires : tie.Need-evaluate-requires
-evaluate-requires c κs = search needs
-
-cell-requires : tie.Need-cell-requires
-cell-requires c κs = search needs
-
-put-requires : tie.Need-put-requires
-put-requires c κs = search needs
-
-same-length : tie.Need-same-length
-same-length c = search needs
-
-same-length-2 : tie.Need-same-length-2
-same-length-2 c = search needs
-
 returns : tie.Need-returns
 returns c =
     let at-put = c .before .before .before .put in
@@ -45,4 +30,4 @@ returns c =
 pub assign-spec : {M : Type 1} → statement M
 assign-spec =
     tie.close
-    (tie.spec evaluate-requires cell-requires put-requires same-length same-length-2 returns)
+    (tie.spec (λ c κs. search needs) (λ c κs. search needs) (λ c κs. search needs) (λ c. search needs) (λ c. search needs) returns)

@@ -11,21 +11,6 @@ use Rattle.lines.specs.Laws.{line-length}
 use Rattle.lines.proofs.printer.line_size.Statement.{statement}
 use Rattle.lines.proofs.printer.line_size.Tie as tie
 
-length-requires : tie.Need-length-requires
-length-requires c κs = search needs
-
-add-result : tie.Need-add-result
-add-result c = search needs
-
-size-requires : tie.Need-size-requires
-size-requires c κs = search needs
-
-add-result-2 : tie.Need-add-result-2
-add-result-2 c = search needs
-
-add-result-3 : tie.Need-add-result-3
-add-result-3 c = search needs
-
 returns : tie.Need-returns
 returns c =
     let a = c .before .before .args in
@@ -36,4 +21,4 @@ returns c =
 
 pub line-size-spec : {M : Type 1} → statement M
 line-size-spec =
-    tie.close (tie.spec length-requires add-result size-requires add-result-2 add-result-3 returns)
+    tie.close (tie.spec (λ c κs. search needs) (λ c. search needs) (λ c κs. search needs) (λ c. search needs) (λ c. search needs) returns)

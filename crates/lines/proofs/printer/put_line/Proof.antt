@@ -14,42 +14,6 @@ use Rattle.lines.proofs.Sizes.{line-put}
 use Rattle.lines.proofs.printer.put_line.Statement.{statement}
 use Rattle.lines.proofs.printer.put_line.Tie as tie
 
-put-word-requires : tie.Need-put-word-requires
-put-word-requires c κs = search needs
-
-length-requires : tie.Need-length-requires
-length-requires c κs = search needs
-
-add-comma : tie.Need-add-comma
-add-comma c = search needs
-
-put-u8-requires : tie.Need-put-u8-requires
-put-u8-requires c κs = search needs
-
-add-put : tie.Need-add-put
-add-put c = search needs
-
-put-requires : tie.Need-put-requires
-put-requires c κs = search needs
-
-add-end : tie.Need-add-end
-add-end c = search needs
-
-size-requires : tie.Need-size-requires
-size-requires c κs = search needs
-
-add-end-2 : tie.Need-add-end-2
-add-end-2 c = search needs
-
-put-u8-requires-2 : tie.Need-put-u8-requires-2
-put-u8-requires-2 c κs = search needs
-
-add-result : tie.Need-add-result
-add-result c = search needs
-
-same-length : tie.Need-same-length
-same-length c = search needs
-
 returns : tie.Need-returns
 returns c =
     let entry = c .before .before .before .before .before .before .before .before .before .before .before
@@ -75,17 +39,6 @@ returns c =
 pub put-line-spec : {M : Type 1} → statement M
 put-line-spec =
     tie.close
-    (tie.spec
-    put-word-requires
-    length-requires
-    add-comma
-    put-u8-requires
-    add-put
-    put-requires
-    add-end
-    size-requires
-    add-end-2
-    put-u8-requires-2
-    add-result
-    same-length
-    returns)
+    (tie.spec (λ c κs. search needs) (λ c κs. search needs) (λ c. search needs) (λ c κs. search needs) (λ c. search needs)
+    (λ c κs. search needs) (λ c. search needs) (λ c κs. search needs) (λ c. search needs) (λ c κs. search needs)
+    (λ c. search needs) (λ c. search needs) returns)

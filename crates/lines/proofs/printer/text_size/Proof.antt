@@ -22,26 +22,8 @@ Inv-loop kinds numbers room rows bytes₀ i₀ bytes i =
 abbrev μ-loop : tie.MeasureT-loop
 μ-loop kinds numbers room rows bytes₀ i₀ bytes i = rows - i
 
-rows-of-requires : tie.Need-rows-of-requires Inv-loop μ-loop
-rows-of-requires c κs = search needs
-
 loop-holds : tie.Need-loop-holds Inv-loop μ-loop
 loop-holds c = (search needs, search needs, sym (zero-add _))
-
-shared-slice-read-line-size : tie.Need-shared-slice-read-line-size Inv-loop μ-loop
-shared-slice-read-line-size c = search needs
-
-mul-line-size : tie.Need-mul-line-size Inv-loop μ-loop
-mul-line-size c = search needs
-
-shared-slice-copy-out-line-size : tie.Need-shared-slice-copy-out-line-size Inv-loop μ-loop
-shared-slice-copy-out-line-size c = search needs
-
-line-size-requires : tie.Need-line-size-requires Inv-loop μ-loop
-line-size-requires c κs = search needs
-
-sub-if1 : tie.Need-sub-if1 Inv-loop μ-loop
-sub-if1 c = search needs
 
 returns : tie.Need-returns Inv-loop μ-loop
 returns c =
@@ -63,15 +45,6 @@ returns c =
       size,
       rest,
     ))
-
-add-bytes : tie.Need-add-bytes Inv-loop μ-loop
-add-bytes c = search needs
-
-add-i : tie.Need-add-i Inv-loop μ-loop
-add-i c = search needs
-
-loop-less : tie.Need-loop-less Inv-loop μ-loop
-loop-less c = search needs
 
 loop-again : tie.Need-loop-again Inv-loop μ-loop
 loop-again c =
@@ -104,19 +77,6 @@ returns-2 c =
 pub text-size-spec : {M : Type 1} → statement M
 text-size-spec =
     tie.close
-    (tie.spec
-    Inv-loop
-    μ-loop
-    rows-of-requires
-    loop-holds
-    shared-slice-read-line-size
-    mul-line-size
-    shared-slice-copy-out-line-size
-    line-size-requires
-    sub-if1
-    returns
-    add-bytes
-    add-i
-    loop-less
-    loop-again
+    (tie.spec Inv-loop μ-loop (λ c κs. search needs) loop-holds (λ c. search needs) (λ c. search needs) (λ c. search needs)
+    (λ c κs. search needs) (λ c. search needs) returns (λ c. search needs) (λ c. search needs) (λ c. search needs) loop-again
     returns-2)

@@ -16,26 +16,11 @@ returns-2 c =
     let a = c .before .before .before .before .args in
     long-text (headOf words (a .heads)) (a .limits) (a .text .now) (c .before .before .if1 .left) (c .if2 .taken)
 
-sub-if3 : tie.Need-sub-if3
-sub-if3 c = search needs
-
-shared-slice-read-if3 : tie.Need-shared-slice-read-if3
-shared-slice-read-if3 c = search needs
-
 returns-3 : tie.Need-returns-3
 returns-3 c =
     let a = c .before .before .before .before .before .before .args in
     open-text (headOf words (a .heads)) (a .limits) (a .text .now) (c .before .before .before .before .if1 .left)
     (c .before .before .if2 .left) (c .if3 .taken)
-
-ask-lines-requires : tie.Need-ask-lines-requires
-ask-lines-requires c κs = search needs
-
-enum-known-answer : tie.Need-enum-known-answer
-enum-known-answer c = search needs
-
-enum-told : tie.Need-enum-told
-enum-told c = search needs
 
 returns-4 : tie.Need-returns-4
 returns-4 c =
@@ -68,15 +53,5 @@ returns-6 c =
 pub ask-spec : {M : Type 1} → statement M
 ask-spec =
     tie.close
-    (tie.spec
-    returns
-    returns-2
-    sub-if3
-    shared-slice-read-if3
-    returns-3
-    ask-lines-requires
-    enum-known-answer
-    enum-told
-    returns-4
-    returns-5
-    returns-6)
+    (tie.spec returns returns-2 (λ c. search needs) (λ c. search needs) returns-3 (λ c κs. search needs) (λ c. search needs)
+    (λ c. search needs) returns-4 returns-5 returns-6)

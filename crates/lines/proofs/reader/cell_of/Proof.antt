@@ -6,9 +6,6 @@ use Rattle.lines.proofs.Cells.{no-cell, cell-fits, cell}
 use Rattle.lines.proofs.reader.cell_of.Statement.{statement}
 use Rattle.lines.proofs.reader.cell_of.Tie as tie
 
-enum-known-number : tie.Need-enum-known-number
-enum-known-number c = search needs
-
 returns : tie.Need-returns
 returns c =
     no-cell (c .before .before .number .given .1) (record { sfits = c .before .known-told .given .0 .1 })
@@ -19,9 +16,6 @@ cast-t5 c =
     cell-fits (c .before .before .number .given .1) (record { sfits = c .before .known-told .given .0 .1 })
     (c .if1 .left)
 
-enum-told : tie.Need-enum-told
-enum-told c = search needs
-
 returns-2 : tie.Need-returns-2
 returns-2 c =
     cell (c .before .before .number .given .1) (record { sfits = c .before .known-told .given .0 .1 }) (c .if1 .left)
@@ -30,4 +24,4 @@ returns-3 : tie.Need-returns-3
 returns-3 c = ap cellOf (sym (c .enum-told .given .1))
 
 pub cell-of-spec : {M : Type 1} → statement M
-cell-of-spec = tie.close (tie.spec enum-known-number returns cast-t5 enum-told returns-2 returns-3)
+cell-of-spec = tie.close (tie.spec (λ c. search needs) returns cast-t5 (λ c. search needs) returns-2 returns-3)

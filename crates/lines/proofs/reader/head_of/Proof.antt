@@ -7,21 +7,6 @@ use Rattle.lines.specs.declared.Heads.{Heads}
 use Rattle.lines.proofs.reader.head_of.Statement.{statement}
 use Rattle.lines.proofs.reader.head_of.Tie as tie
 
-enum-told : tie.Need-enum-told
-enum-told c = search needs
-
-look-up-requires : tie.Need-look-up-requires
-look-up-requires c κs = search needs
-
-enum-told-2 : tie.Need-enum-told-2
-enum-told-2 c = search needs
-
-read-requires : tie.Need-read-requires
-read-requires c κs = search needs
-
-cell-of-requires : tie.Need-cell-of-requires
-cell-of-requires c κs = search needs
-
 returns : tie.Need-returns
 returns c =
     c .look-up .ensures
@@ -38,11 +23,5 @@ returns-2 c =
 pub head-of-spec : {M : Type 1} → statement M
 head-of-spec =
     tie.close
-    (tie.spec
-    enum-told
-    look-up-requires
-    enum-told-2
-    read-requires
-    cell-of-requires
-    returns
+    (tie.spec (λ c. search needs) (λ c κs. search needs) (λ c. search needs) (λ c κs. search needs) (λ c κs. search needs) returns
     returns-2)

@@ -11,22 +11,10 @@ use Rattle.lines.proofs.Stores.{held}
 use Rattle.lines.proofs.reader.line_of.Statement.{statement}
 use Rattle.lines.proofs.reader.line_of.Tie as tie
 
-place-of-requires : tie.Need-place-of-requires
-place-of-requires c κs = search needs
-
 slice-aggregate-head-of : tie.Need-slice-aggregate-head-of
 slice-aggregate-head-of c =
     sym
     (length-take-le (c .before .place-of .result) (c .before .before .before .args .line .now) (c .before .place-of .ensures .1))
-
-head-of-requires : tie.Need-head-of-requires
-head-of-requires c κs = search needs
-
-enum-known-head : tie.Need-enum-known-head
-enum-known-head c = search needs
-
-enum-told : tie.Need-enum-told
-enum-told c = search needs
 
 returns : tie.Need-returns
 returns c =
@@ -40,27 +28,6 @@ returns-2 c =
     let a = c .before .before .before .before .before .before .before .before .args in
     let place-of = c .before .before .before .before .before .before .place-of in
     no-comma (headOf words (a .heads)) (a .line .now) (place-of .result) (place-of .ensures .0) (c .if1 .taken)
-
-add-behind : tie.Need-add-behind
-add-behind c = search needs
-
-sub-read : tie.Need-sub-read
-sub-read c = search needs
-
-part-read-start : tie.Need-part-read-start
-part-read-start c = search needs
-
-part-read-end : tie.Need-part-read-end
-part-read-end c = search needs
-
-read-requires : tie.Need-read-requires
-read-requires c κs = search needs
-
-enum-known-value : tie.Need-enum-known-value
-enum-known-value c = search needs
-
-enum-told-2 : tie.Need-enum-told-2
-enum-told-2 c = search needs
 
 returns-3 : tie.Need-returns-3
 returns-3 c =
@@ -82,20 +49,6 @@ returns-4 c =
 pub line-of-spec : {M : Type 1} → statement M
 line-of-spec =
     tie.close
-    (tie.spec
-    place-of-requires
-    slice-aggregate-head-of
-    head-of-requires
-    enum-known-head
-    enum-told
-    returns
-    returns-2
-    add-behind
-    sub-read
-    part-read-start
-    part-read-end
-    read-requires
-    enum-known-value
-    enum-told-2
-    returns-3
-    returns-4)
+    (tie.spec (λ c κs. search needs) slice-aggregate-head-of (λ c κs. search needs) (λ c. search needs) (λ c. search needs)
+    returns returns-2 (λ c. search needs) (λ c. search needs) (λ c. search needs) (λ c. search needs) (λ c κs. search needs)
+    (λ c. search needs) (λ c. search needs) returns-3 returns-4)

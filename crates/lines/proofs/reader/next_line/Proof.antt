@@ -11,27 +11,12 @@ use Rattle.lines.proofs.Lines.{next-line, next-after}
 use Rattle.lines.proofs.reader.next_line.Statement.{statement}
 use Rattle.lines.proofs.reader.next_line.Tie as tie
 
-sub-rest : tie.Need-sub-rest
-sub-rest c = search needs
-
-part-rest-start : tie.Need-part-rest-start
-part-rest-start c = search needs
-
-part-rest-end : tie.Need-part-rest-end
-part-rest-end c = search needs
-
-place-of-requires : tie.Need-place-of-requires
-place-of-requires c κs = search needs
-
 slice-aggregate-line-of : tie.Need-slice-aggregate-line-of
 slice-aggregate-line-of c =
     let at-args = c .before .before .before .before .args in
     let a = at-args in
     sym (length-take-le (c .before .place-of .result) (take (length (a .text .now) - a .at)
     (drop (a .at) (a .text .now))) (c .before .place-of .ensures .1))
-
-line-of-requires : tie.Need-line-of-requires
-line-of-requires c κs = search needs
 
 add-t8 : tie.Need-add-t8
 add-t8 c =
@@ -75,13 +60,5 @@ returns c =
 pub next-line-spec : {M : Type 1} → statement M
 next-line-spec =
     tie.close
-    (tie.spec
-    sub-rest
-    part-rest-start
-    part-rest-end
-    place-of-requires
-    slice-aggregate-line-of
-    line-of-requires
-    add-t8
-    add-t12
-    returns)
+    (tie.spec (λ c. search needs) (λ c. search needs) (λ c. search needs) (λ c κs. search needs) slice-aggregate-line-of
+    (λ c κs. search needs) add-t8 add-t12 returns)

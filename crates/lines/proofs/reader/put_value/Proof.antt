@@ -8,12 +8,6 @@ use Rattle.lines.proofs.Stores.{held, row-put, none-put, below-kind}
 use Rattle.lines.proofs.reader.put_value.Statement.{statement}
 use Rattle.lines.proofs.reader.put_value.Tie as tie
 
-enum-known-line : tie.Need-enum-known-line
-enum-known-line c = search needs
-
-enum-told : tie.Need-enum-told
-enum-told c = search needs
-
 returns : tie.Need-returns
 returns c = (
   search needs,
@@ -27,21 +21,6 @@ cast-put-u32 : tie.Need-cast-put-u32
 cast-put-u32 c =
     record
     { fits = omega (arith, below-kind 2147483648 (c .before .before .line .given .1) (c .before .before .before .before .before .pre .0)) }
-
-put-u32-requires : tie.Need-put-u32-requires
-put-u32-requires c κs = search needs
-
-put-i32-requires : tie.Need-put-i32-requires
-put-i32-requires c κs = search needs
-
-add-result : tie.Need-add-result
-add-result c = search needs
-
-same-length : tie.Need-same-length
-same-length c = search needs
-
-same-length-2 : tie.Need-same-length-2
-same-length-2 c = search needs
 
 returns-2 : tie.Need-returns-2
 returns-2 c =
@@ -61,14 +40,5 @@ returns-2 c =
 pub put-value-spec : {M : Type 1} → statement M
 put-value-spec =
     tie.close
-    (tie.spec
-    enum-known-line
-    enum-told
-    returns
-    cast-put-u32
-    put-u32-requires
-    put-i32-requires
-    add-result
-    same-length
-    same-length-2
-    returns-2)
+    (tie.spec (λ c. search needs) (λ c. search needs) returns cast-put-u32 (λ c κs. search needs) (λ c κs. search needs)
+    (λ c. search needs) (λ c. search needs) (λ c. search needs) returns-2)

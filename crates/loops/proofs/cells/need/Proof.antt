@@ -22,27 +22,6 @@ abbrev μ-loop : tie.MeasureT-loop
 loop-holds : tie.Need-loop-holds Inv-loop μ-loop
 loop-holds c = (omega arith, omega arith, sums.sum-start (c .before .args .kinds .now) (c .before .args .numbers .now))
 
-shared-slice-read-row-cells : tie.Need-shared-slice-read-row-cells Inv-loop μ-loop
-shared-slice-read-row-cells c = search needs
-
-mul-row-cells : tie.Need-mul-row-cells Inv-loop μ-loop
-mul-row-cells c = search needs
-
-shared-slice-copy-out-row-cells : tie.Need-shared-slice-copy-out-row-cells Inv-loop μ-loop
-shared-slice-copy-out-row-cells c = search needs
-
-row-cells-requires : tie.Need-row-cells-requires Inv-loop μ-loop
-row-cells-requires c κs = search needs
-
-add-sum : tie.Need-add-sum Inv-loop μ-loop
-add-sum c = search needs
-
-add-i : tie.Need-add-i Inv-loop μ-loop
-add-i c = search needs
-
-loop-less : tie.Need-loop-less Inv-loop μ-loop
-loop-less c = search needs
-
 loop-again : tie.Need-loop-again Inv-loop μ-loop
 loop-again c =
     let entry = c .before .before .before .before .before .before in
@@ -69,16 +48,5 @@ returns c =
 pub need-spec : {M : Type 1} → statement M
 need-spec =
     tie.close
-    (tie.spec
-    Inv-loop
-    μ-loop
-    loop-holds
-    shared-slice-read-row-cells
-    mul-row-cells
-    shared-slice-copy-out-row-cells
-    row-cells-requires
-    add-sum
-    add-i
-    loop-less
-    loop-again
-    returns)
+    (tie.spec Inv-loop μ-loop loop-holds (λ c. search needs) (λ c. search needs) (λ c. search needs) (λ c κs. search needs)
+    (λ c. search needs) (λ c. search needs) (λ c. search needs) loop-again returns)

@@ -6,9 +6,6 @@ use Rattle.loops.proofs.Sums as sums
 use Rattle.loops.proofs.cells.row_cells.Statement.{statement}
 use Rattle.loops.proofs.cells.row_cells.Tie as tie
 
-natural-requires : tie.Need-natural-requires
-natural-requires c κs = search needs
-
 returns : tie.Need-returns
 returns c =
     let a = c .before .before .args in (
@@ -16,9 +13,6 @@ returns c =
           (natural-of (a .number) (c .before .before .fits .number) (c .natural .ensures .0)),
       c .natural .ensures .1,
     )
-
-natural-requires-2 : tie.Need-natural-requires-2
-natural-requires-2 c κs = search needs
 
 returns-2 : tie.Need-returns-2
 returns-2 c =
@@ -35,4 +29,4 @@ returns-3 c =
 
 pub row-cells-spec : {M : Type 1} → statement M
 row-cells-spec =
-    tie.close (tie.spec natural-requires returns natural-requires-2 returns-2 returns-3)
+    tie.close (tie.spec (λ c κs. search needs) returns (λ c κs. search needs) returns-2 returns-3)

@@ -9,24 +9,6 @@ use borrow.Author.Needs.{needs}
 use Rattle.programs.proofs.parts.put_natural.Statement.{statement}
 use Rattle.programs.proofs.parts.put_natural.Tie as tie
 
-put-natural-requires : tie.Need-put-natural-requires
-put-natural-requires c κs = search needs
-
-natural-size-requires : tie.Need-natural-size-requires
-natural-size-requires c κs = search needs
-
-add-end : tie.Need-add-end
-add-end c = search needs
-
-put-u8-requires : tie.Need-put-u8-requires
-put-u8-requires c κs = search needs
-
-add-result : tie.Need-add-result
-add-result c = search needs
-
-same-length : tie.Need-same-length
-same-length c = search needs
-
 returns : tie.Need-returns
 returns c =
     let a = c .before .before .before .before .before .before .before .before .before .before .args in
@@ -41,11 +23,5 @@ returns c =
 pub put-natural-spec : {M : Type 1} → statement M
 put-natural-spec =
     tie.close
-    (tie.spec
-    put-natural-requires
-    natural-size-requires
-    add-end
-    put-u8-requires
-    add-result
-    same-length
-    returns)
+    (tie.spec (λ c κs. search needs) (λ c κs. search needs) (λ c. search needs) (λ c κs. search needs) (λ c. search needs)
+    (λ c. search needs) returns)

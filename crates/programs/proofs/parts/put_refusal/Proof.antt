@@ -7,9 +7,6 @@ use borrow.Author.Needs.{needs}
 use Rattle.programs.proofs.parts.put_refusal.Statement.{statement}
 use Rattle.programs.proofs.parts.put_refusal.Tie as tie
 
-refusal-size-requires : tie.Need-refusal-size-requires
-refusal-size-requires c κs = search needs
-
 returns : tie.Need-returns
 returns c =
     let args = c .before .before .before .args in
@@ -17,21 +14,6 @@ returns c =
       put-none (refusalLine (args .refusal)) (args .text .now) (omega (arith, refusal-size .ensures .0)),
       omega (arith, refusal-size .ensures .0, refusal-size .ensures .1),
     )
-
-number-requires : tie.Need-number-requires
-number-requires c κs = search needs
-
-cast-number : tie.Need-cast-number
-cast-number c = search needs
-
-line-requires : tie.Need-line-requires
-line-requires c κs = search needs
-
-slice-aggregate-put-bytes : tie.Need-slice-aggregate-put-bytes
-slice-aggregate-put-bytes c = search needs
-
-put-bytes-requires : tie.Need-put-bytes-requires
-put-bytes-requires c κs = search needs
 
 put-natural-requires : tie.Need-put-natural-requires
 put-natural-requires c κs =
@@ -79,15 +61,5 @@ returns-2 c =
 pub put-refusal-spec : {M : Type 1} → statement M
 put-refusal-spec =
     tie.close
-    (tie.spec
-    refusal-size-requires
-    returns
-    number-requires
-    cast-number
-    line-requires
-    slice-aggregate-put-bytes
-    put-bytes-requires
-    put-natural-requires
-    put-natural-requires-2
-    same-length
-    returns-2)
+    (tie.spec (λ c κs. search needs) returns (λ c κs. search needs) (λ c. search needs) (λ c κs. search needs) (λ c. search needs)
+    (λ c κs. search needs) put-natural-requires put-natural-requires-2 same-length returns-2)

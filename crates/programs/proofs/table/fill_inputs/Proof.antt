@@ -10,12 +10,6 @@ returns c =
     let args = c .before .before .args in
     none-asked words (args .values .now) (args .store .now) (args .cells) (c .if1 .taken)
 
-fill-requires : tie.Need-fill-requires
-fill-requires c κs = search needs
-
-same-length : tie.Need-same-length
-same-length c = search needs
-
 returns-2 : tie.Need-returns-2
 returns-2 c =
     let args = c .before .before .before .before .before .args in
@@ -25,8 +19,4 @@ returns-2 c =
 pub fill-inputs-spec : {M : Type 1} → statement M
 fill-inputs-spec =
     tie.close
-    (tie.spec
-    returns
-    fill-requires
-    same-length
-    returns-2)
+    (tie.spec returns (λ c κs. search needs) (λ c. search needs) returns-2)

@@ -14,18 +14,6 @@ shared-slice-copy-out-natural c =
     let args = c .before .args in
     first-row (args .kinds .now) (args .numbers .now) (args .store) (c .before .pre)
 
-natural-requires : tie.Need-natural-requires
-natural-requires c κs = search needs
-
-add-end : tie.Need-add-end
-add-end c = search needs
-
-sub-cells-in : tie.Need-sub-cells-in
-sub-cells-in c = search needs
-
-part-cells-in-start : tie.Need-part-cells-in-start
-part-cells-in-start c = search needs
-
 part-cells-in-end : tie.Need-part-cells-in-end
 part-cells-in-end c =
     let a = c .before .before .before .args in
@@ -42,9 +30,6 @@ cells-in-requires c κs =
     let k = inputs-are (a .kinds .now) (a .numbers .now) (a .store) pre (natural .result) known .1 in
     simp (length-take, length-drop) (omega (arith, k, pre .same, pre .few))
 
-mul-natural : tie.Need-mul-natural
-mul-natural c = search needs
-
 shared-slice-copy-out-natural-2 : tie.Need-shared-slice-copy-out-natural-2
 shared-slice-copy-out-natural-2 c =
     let a = c .before .before .before .before .before .args in
@@ -52,9 +37,6 @@ shared-slice-copy-out-natural-2 c =
     let pre = c .before .before .before .before .before .pre in
     let known = natural-of (getD (a .numbers .now) 0 (pos 0)) (record { sfits = c .before .before .before .natural-arg .given }) (natural .ensures .0) in
     omega (arith, inputs-are (a .kinds .now) (a .numbers .now) (a .store) pre (natural .result) known .1)
-
-natural-requires-2 : tie.Need-natural-requires-2
-natural-requires-2 c κs = search needs
 
 returns : tie.Need-returns
 returns c =
@@ -71,15 +53,5 @@ returns c =
 pub layout-of-spec : {M : Type 1} → statement M
 layout-of-spec =
     tie.close
-    (tie.spec
-    shared-slice-copy-out-natural
-    natural-requires
-    add-end
-    sub-cells-in
-    part-cells-in-start
-    part-cells-in-end
-    cells-in-requires
-    mul-natural
-    shared-slice-copy-out-natural-2
-    natural-requires-2
-    returns)
+    (tie.spec shared-slice-copy-out-natural (λ c κs. search needs) (λ c. search needs) (λ c. search needs) (λ c. search needs)
+    part-cells-in-end cells-in-requires (λ c. search needs) shared-slice-copy-out-natural-2 (λ c κs. search needs) returns)

@@ -12,12 +12,6 @@ use borrow.Author.Needs.{needs}
 use Rattle.programs.proofs.table.print_run.Statement.{statement}
 use Rattle.programs.proofs.table.print_run.Tie as tie
 
-slice-aggregate-run-loops : tie.Need-slice-aggregate-run-loops
-slice-aggregate-run-loops c = search needs
-
-run-loops-requires : tie.Need-run-loops-requires
-run-loops-requires c κs = search needs
-
 add-put-output : tie.Need-add-put-output
 add-put-output c =
     let a = c .before .before .before .before .before .before .before .args in
@@ -29,12 +23,6 @@ mul-put-output c =
     let a = c .before .before .before .before .before .before .before .args in
     let pre = c .before .before .before .before .before .before .before .pre in
     omega (arith, output-within (a .kinds .now) (a .numbers .now) (length (a .store .now)) (pre .0), pre .1 .inputs-all, pre .1 .output-all)
-
-sub-put-output : tie.Need-sub-put-output
-sub-put-output c = search needs
-
-part-put-output-start : tie.Need-part-put-output-start
-part-put-output-start c = search needs
 
 part-put-output-end : tie.Need-part-put-output-end
 part-put-output-end c =
@@ -56,12 +44,6 @@ put-output-requires c κs =
       pre .2,
     )
 
-same-length : tie.Need-same-length
-same-length c = search needs
-
-same-length-2 : tie.Need-same-length-2
-same-length-2 c = search needs
-
 returns : tie.Need-returns
 returns c =
     let a = c .before .before .before .before .before .before .before .before .before .before .before .before .before .args in
@@ -77,15 +59,5 @@ returns c =
 pub print-run-spec : {M : Type 1} → statement M
 print-run-spec =
     tie.close
-    (tie.spec
-    slice-aggregate-run-loops
-    run-loops-requires
-    add-put-output
-    mul-put-output
-    sub-put-output
-    part-put-output-start
-    part-put-output-end
-    put-output-requires
-    same-length
-    same-length-2
-    returns)
+    (tie.spec (λ c. search needs) (λ c κs. search needs) add-put-output mul-put-output (λ c. search needs) (λ c. search needs)
+    part-put-output-end put-output-requires (λ c. search needs) (λ c. search needs) returns)

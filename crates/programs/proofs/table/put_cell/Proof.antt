@@ -12,30 +12,15 @@ use borrow.Author.Needs.{needs}
 use Rattle.programs.proofs.table.put_cell.Statement.{statement}
 use Rattle.programs.proofs.table.put_cell.Tie as tie
 
-put-natural-requires : tie.Need-put-natural-requires
-put-natural-requires c κs = search needs
-
-put-requires : tie.Need-put-requires
-put-requires c κs = search needs
-
-size-requires : tie.Need-size-requires
-size-requires c κs = search needs
-
 add-end : tie.Need-add-end
 add-end c =
     let put-natural = c .before .before .before .before .before .before .before .put-natural in
     omega (arith, c .size .ensures .1, put-natural .ensures .2)
 
-put-u8-requires : tie.Need-put-u8-requires
-put-u8-requires c κs = search needs
-
 add-result : tie.Need-add-result
 add-result c =
     let put-natural = c .before .before .before .before .before .before .before .before .before .before .before .put-natural in
     omega (arith, c .before .before .before .before .size .ensures .1, put-natural .ensures .2)
-
-same-length : tie.Need-same-length
-same-length c = search needs
 
 returns : tie.Need-returns
 returns c =
@@ -53,12 +38,5 @@ returns c =
 pub put-cell-spec : {M : Type 1} → statement M
 put-cell-spec =
     tie.close
-    (tie.spec
-    put-natural-requires
-    put-requires
-    size-requires
-    add-end
-    put-u8-requires
-    add-result
-    same-length
-    returns)
+    (tie.spec (λ c κs. search needs) (λ c κs. search needs) (λ c κs. search needs) add-end (λ c κs. search needs) add-result
+    (λ c. search needs) returns)

@@ -25,21 +25,6 @@ abbrev μ-loop : tie.MeasureT-loop
 loop-holds : tie.Need-loop-holds Inv-loop μ-loop
 loop-holds c = (omega arith, refl, omega arith, refl, omega arith)
 
-mul-put-cell : tie.Need-mul-put-cell Inv-loop μ-loop
-mul-put-cell c = search needs
-
-shared-slice-copy-out-put-cell : tie.Need-shared-slice-copy-out-put-cell Inv-loop μ-loop
-shared-slice-copy-out-put-cell c = search needs
-
-put-cell-requires : tie.Need-put-cell-requires Inv-loop μ-loop
-put-cell-requires c κs = search needs
-
-add-i : tie.Need-add-i Inv-loop μ-loop
-add-i c = search needs
-
-loop-less : tie.Need-loop-less Inv-loop μ-loop
-loop-less c = search needs
-
 loop-again : tie.Need-loop-again Inv-loop μ-loop
 loop-again c =
     let a = c .before .before .before .before .before .before .before .before .args in
@@ -61,9 +46,6 @@ loop-again c =
       p .0,
       p .1,
     )
-
-slice-aggregate-put-bytes : tie.Need-slice-aggregate-put-bytes Inv-loop μ-loop
-slice-aggregate-put-bytes c = search needs
 
 put-bytes-requires : tie.Need-put-bytes-requires Inv-loop μ-loop
 put-bytes-requires c κs =
@@ -106,19 +88,6 @@ returns c =
 pub put-output-spec : {M : Type 1} → statement M
 put-output-spec =
     tie.close
-    (tie.spec
-    Inv-loop
-    μ-loop
-    loop-holds
-    mul-put-cell
-    shared-slice-copy-out-put-cell
-    put-cell-requires
-    add-i
-    loop-less
-    loop-again
-    slice-aggregate-put-bytes
-    put-bytes-requires
-    add-put-natural
-    put-natural-requires
-    same-length
+    (tie.spec Inv-loop μ-loop loop-holds (λ c. search needs) (λ c. search needs) (λ c κs. search needs) (λ c. search needs)
+    (λ c. search needs) loop-again (λ c. search needs) put-bytes-requires add-put-natural put-natural-requires same-length
     returns)

@@ -10,38 +10,8 @@ use borrow.Author.Needs.{needs}
 use Rattle.programs.proofs.table.run_passing.Statement.{statement}
 use Rattle.programs.proofs.table.run_passing.Tie as tie
 
-layout-of-requires : tie.Need-layout-of-requires
-layout-of-requires c κs = search needs
-
-fill-inputs-requires : tie.Need-fill-inputs-requires
-fill-inputs-requires c κs = search needs
-
 enum-told : tie.Need-enum-told
 enum-told c = search needs
-
-enum-known-filled : tie.Need-enum-known-filled
-enum-known-filled c = search needs
-
-enum-known-filled-2 : tie.Need-enum-known-filled-2
-enum-known-filled-2 c = search needs
-
-enum-told-2 : tie.Need-enum-told-2
-enum-told-2 c = search needs
-
-same-length : tie.Need-same-length
-same-length c = search needs
-
-returns : tie.Need-returns
-returns c = search needs
-
-put-refusal-requires : tie.Need-put-refusal-requires
-put-refusal-requires c κs = search needs
-
-same-length-2 : tie.Need-same-length-2
-same-length-2 c = search needs
-
-same-length-3 : tie.Need-same-length-3
-same-length-3 c = search needs
 
 returns-2 : tie.Need-returns-2
 returns-2 c =
@@ -67,12 +37,6 @@ print-run-requires c κs =
     let layout-of = c .before .before .before .before .before .before .before .layout-of in
     (outcomes.ready-same (a .kinds .now) (a .numbers .now) (length (fill .last .1 .1 .0)) (length (a .store .now)) (fill .kept .1 .1 .0) (pre .0), layout-of .ensures, pre .1)
 
-same-length-4 : tie.Need-same-length-4
-same-length-4 c = search needs
-
-same-length-5 : tie.Need-same-length-5
-same-length-5 c = search needs
-
 returns-3 : tie.Need-returns-3
 returns-3 c =
     let a = c .before .before .before .before .before .before .before .before .before .before .before .before .before .before .before .args in
@@ -85,20 +49,6 @@ returns-3 c =
 pub run-passing-spec : {M : Type 1} → statement M
 run-passing-spec =
     tie.close
-    (tie.spec
-    layout-of-requires
-    fill-inputs-requires
-    enum-told
-    enum-known-filled
-    enum-known-filled-2
-    enum-told-2
-    same-length
-    returns
-    put-refusal-requires
-    same-length-2
-    same-length-3
-    returns-2
-    print-run-requires
-    same-length-4
-    same-length-5
-    returns-3)
+    (tie.spec (λ c κs. search needs) (λ c κs. search needs) enum-told (λ c. search needs) (λ c. search needs) (λ c. search needs)
+    (λ c. search needs) (λ c. search needs) (λ c κs. search needs) (λ c. search needs) (λ c. search needs) returns-2
+    print-run-requires (λ c. search needs) (λ c. search needs) returns-3)

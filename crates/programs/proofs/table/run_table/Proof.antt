@@ -10,30 +10,6 @@ use borrow.Author.Needs.{needs}
 use Rattle.programs.proofs.table.run_table.Statement.{statement}
 use Rattle.programs.proofs.table.run_table.Tie as tie
 
-check-table-requires : tie.Need-check-table-requires
-check-table-requires c κs = search needs
-
-enum-known-checked : tie.Need-enum-known-checked
-enum-known-checked c = search needs
-
-enum-known-checked-2 : tie.Need-enum-known-checked-2
-enum-known-checked-2 c = search needs
-
-enum-known-checked-3 : tie.Need-enum-known-checked-3
-enum-known-checked-3 c = search needs
-
-enum-told : tie.Need-enum-told
-enum-told c = search needs
-
-returns : tie.Need-returns
-returns c = search needs
-
-put-refusal-requires : tie.Need-put-refusal-requires
-put-refusal-requires c κs = search needs
-
-same-length : tie.Need-same-length
-same-length c = search needs
-
 returns-2 : tie.Need-returns-2
 returns-2 c =
     let a = c .before .before .before .before .before .before .before .before .before .before .before .before .before .before .args in
@@ -45,12 +21,6 @@ returns-2 c =
     outcomes.check-refused words (a .values .now) (a .kinds .now) (a .numbers .now) (a .store .now) (check-table .result) (check-table .ensures) _
     (checked2 .given .1 ∙ checked3 .given .1)
     (outcomes.refusal-into (loopsOf (rowsOf (a .kinds .now) (a .numbers .now))) _ (a .store .now) (put-refusal .ensures .0) (put-refusal .ensures .1) (pre .2))
-
-put-refusal-requires-2 : tie.Need-put-refusal-requires-2
-put-refusal-requires-2 c κs = search needs
-
-same-length-2 : tie.Need-same-length-2
-same-length-2 c = search needs
 
 returns-3 : tie.Need-returns-3
 returns-3 c =
@@ -74,12 +44,6 @@ run-passing-requires c κs =
       pre .2,
     )
 
-same-length-3 : tie.Need-same-length-3
-same-length-3 c = search needs
-
-same-length-4 : tie.Need-same-length-4
-same-length-4 c = search needs
-
 returns-4 : tie.Need-returns-4
 returns-4 c =
     let a = c .before .before .before .before .before .before .before .before .before .before .before .before .before .before .args in
@@ -92,20 +56,6 @@ returns-4 c =
 pub run-table-spec : {M : Type 1} → statement M
 run-table-spec =
     tie.close
-    (tie.spec
-    check-table-requires
-    enum-known-checked
-    enum-known-checked-2
-    enum-known-checked-3
-    enum-told
-    returns
-    put-refusal-requires
-    same-length
-    returns-2
-    put-refusal-requires-2
-    same-length-2
-    returns-3
-    run-passing-requires
-    same-length-3
-    same-length-4
-    returns-4)
+    (tie.spec (λ c κs. search needs) (λ c. search needs) (λ c. search needs) (λ c. search needs) (λ c. search needs)
+    (λ c. search needs) (λ c κs. search needs) (λ c. search needs) returns-2 (λ c κs. search needs) (λ c. search needs) returns-3
+    run-passing-requires (λ c. search needs) (λ c. search needs) returns-4)

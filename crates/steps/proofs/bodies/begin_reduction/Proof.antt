@@ -5,18 +5,6 @@ use Rattle.steps.proofs.StepLaws.{few-levels, reduction-put}
 use Rattle.steps.proofs.bodies.begin_reduction.Statement.{statement}
 use Rattle.steps.proofs.bodies.begin_reduction.Tie as tie
 
-push-reduction-requires : tie.Need-push-reduction-requires
-push-reduction-requires c κs = search needs
-
-put-region-requires : tie.Need-put-region-requires
-put-region-requires c κs = search needs
-
-add-put-assign : tie.Need-add-put-assign
-add-put-assign c = search needs
-
-add-put-assign-2 : tie.Need-add-put-assign-2
-add-put-assign-2 c = search needs
-
 put-assign-requires : tie.Need-put-assign-requires
 put-assign-requires c κs =
     let entry = c .before .before .before .before .before .before .before .before .before .before .before in
@@ -31,12 +19,6 @@ put-assign-requires c κs =
       c .before .before .before .before .before .before .before .before .push-reduction .ensures
           .next .grown .size,
     )
-
-put-count-requires : tie.Need-put-count-requires
-put-count-requires c κs = search needs
-
-put-count-requires-2 : tie.Need-put-count-requires-2
-put-count-requires-2 c κs = search needs
 
 put-region-requires-2 : tie.Need-put-region-requires-2
 put-region-requires-2 c κs =
@@ -68,13 +50,5 @@ returns c =
 pub begin-reduction-spec : {M : Type 1} → statement M
 begin-reduction-spec =
     tie.close
-    (tie.spec
-    push-reduction-requires
-    put-region-requires
-    add-put-assign
-    add-put-assign-2
-    put-assign-requires
-    put-count-requires
-    put-count-requires-2
-    put-region-requires-2
-    returns)
+    (tie.spec (λ c κs. search needs) (λ c κs. search needs) (λ c. search needs) (λ c. search needs) put-assign-requires
+    (λ c κs. search needs) (λ c κs. search needs) put-region-requires-2 returns)

@@ -4,12 +4,6 @@ use Rattle.steps.proofs.StepLaws.{round-here, rows-here}
 use Rattle.steps.proofs.bodies.enter_reduction.Statement.{statement}
 use Rattle.steps.proofs.bodies.enter_reduction.Tie as tie
 
-begin-reduction-requires : tie.Need-begin-reduction-requires
-begin-reduction-requires c κs = search needs
-
-in-round-requires : tie.Need-in-round-requires
-in-round-requires c κs = search needs
-
 returns : tie.Need-returns
 returns c = (
   record {
@@ -22,4 +16,4 @@ returns c = (
 )
 
 pub enter-reduction-spec : {M : Type 1} → statement M
-enter-reduction-spec = tie.close (tie.spec begin-reduction-requires in-round-requires returns)
+enter-reduction-spec = tie.close (tie.spec (λ c κs. search needs) (λ c κs. search needs) returns)

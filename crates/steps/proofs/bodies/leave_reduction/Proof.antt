@@ -5,15 +5,6 @@ use Rattle.steps.proofs.StepLaws.{few-levels}
 use Rattle.steps.proofs.bodies.leave_reduction.Statement.{statement}
 use Rattle.steps.proofs.bodies.leave_reduction.Tie as tie
 
-add-put-assign : tie.Need-add-put-assign
-add-put-assign c = search needs
-
-add-put-assign-2 : tie.Need-add-put-assign-2
-add-put-assign-2 c = search needs
-
-add-put-assign-3 : tie.Need-add-put-assign-3
-add-put-assign-3 c = search needs
-
 put-assign-requires : tie.Need-put-assign-requires
 put-assign-requires c κs =
     let entry = c .before .before .before .before in
@@ -28,23 +19,8 @@ put-assign-requires c κs =
       entry .pre .8,
     )
 
-add-t16 : tie.Need-add-t16
-add-t16 c = search needs
-
-add-t18 : tie.Need-add-t18
-add-t18 c = search needs
-
-returns : tie.Need-returns
-returns c = search needs
-
 pub leave-reduction-spec : {M : Type 1} → statement M
 leave-reduction-spec =
     tie.close
-    (tie.spec
-    add-put-assign
-    add-put-assign-2
-    add-put-assign-3
-    put-assign-requires
-    add-t16
-    add-t18
-    returns)
+    (tie.spec (λ c. search needs) (λ c. search needs) (λ c. search needs) put-assign-requires (λ c. search needs)
+    (λ c. search needs) (λ c. search needs))

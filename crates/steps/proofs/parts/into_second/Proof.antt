@@ -6,15 +6,6 @@ use Rattle.steps.proofs.StepLaws.{pushed-as}
 use Rattle.steps.proofs.parts.into_second.Statement.{statement}
 use Rattle.steps.proofs.parts.into_second.Tie as tie
 
-second-part-requires : tie.Need-second-part-requires
-second-part-requires c κs = search needs
-
-push-requires : tie.Need-push-requires
-push-requires c κs = search needs
-
-add-t10 : tie.Need-add-t10
-add-t10 c = search needs
-
 returns : tie.Need-returns
 returns c =
     let entry = c .before .before .before .before .before in
@@ -32,4 +23,4 @@ returns c =
     )
 
 pub into-second-spec : {M : Type 1} → statement M
-into-second-spec = tie.close (tie.spec second-part-requires push-requires add-t10 returns)
+into-second-spec = tie.close (tie.spec (λ c κs. search needs) (λ c κs. search needs) (λ c. search needs) returns)

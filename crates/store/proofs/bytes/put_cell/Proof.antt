@@ -14,47 +14,14 @@ returns c =
       (refl, refl),
     )
 
-mul-at : tie.Need-mul-at
-mul-at c = search needs
-
-unsigned-requires : tie.Need-unsigned-requires
-unsigned-requires c κs = search needs
-
-low-requires : tie.Need-low-requires
-low-requires c κs = search needs
-
-slice-write-bytes : tie.Need-slice-write-bytes
-slice-write-bytes c = search needs
-
-low-requires-2 : tie.Need-low-requires-2
-low-requires-2 c κs = search needs
-
-add-bytes : tie.Need-add-bytes
-add-bytes c = search needs
-
 slice-write-bytes-2 : tie.Need-slice-write-bytes-2
 slice-write-bytes-2 c = simp length-set (omega arith)
-
-low-requires-3 : tie.Need-low-requires-3
-low-requires-3 c κs = search needs
-
-add-bytes-2 : tie.Need-add-bytes-2
-add-bytes-2 c = search needs
 
 slice-write-bytes-3 : tie.Need-slice-write-bytes-3
 slice-write-bytes-3 c = simp length-set (omega arith)
 
-low-requires-4 : tie.Need-low-requires-4
-low-requires-4 c κs = search needs
-
-add-bytes-3 : tie.Need-add-bytes-3
-add-bytes-3 c = search needs
-
 slice-write-bytes-4 : tie.Need-slice-write-bytes-4
 slice-write-bytes-4 c = simp length-set (omega arith)
-
-same-length : tie.Need-same-length
-same-length c = search needs
 
 returns-2 : tie.Need-returns-2
 returns-2 c =
@@ -70,20 +37,6 @@ returns-2 c =
 pub put-cell-spec : {M : Type 1} → statement M
 put-cell-spec =
     tie.close
-    (tie.spec
-    returns
-    mul-at
-    unsigned-requires
-    low-requires
-    slice-write-bytes
-    low-requires-2
-    add-bytes
-    slice-write-bytes-2
-    low-requires-3
-    add-bytes-2
-    slice-write-bytes-3
-    low-requires-4
-    add-bytes-3
-    slice-write-bytes-4
-    same-length
-    returns-2)
+    (tie.spec returns (λ c. search needs) (λ c κs. search needs) (λ c κs. search needs) (λ c. search needs) (λ c κs. search needs)
+    (λ c. search needs) slice-write-bytes-2 (λ c κs. search needs) (λ c. search needs) slice-write-bytes-3 (λ c κs. search needs)
+    (λ c. search needs) slice-write-bytes-4 (λ c. search needs) returns-2)

@@ -4,17 +4,8 @@ use Rattle.store.proofs.Signs as signs
 use Rattle.store.proofs.bytes.signed.Statement.{statement}
 use Rattle.store.proofs.bytes.signed.Tie as tie
 
-cast-result : tie.Need-cast-result
-cast-result c = search needs
-
 returns : tie.Need-returns
 returns c = signs.low-bits (c .before .args .bits) (c .if1 .taken)
-
-sub-result : tie.Need-sub-result
-sub-result c = search needs
-
-cast-result-2 : tie.Need-cast-result-2
-cast-result-2 c = search needs
 
 sub-result-2 : tie.Need-sub-result-2
 sub-result-2 c = signs.high-fits (c .before .args .bits) (c .if1 .left) (c .before .fits .bits .fits)
@@ -24,4 +15,4 @@ returns-2 c = signs.high-bits (c .before .args .bits) (c .if1 .left) (c .before 
 
 pub signed-spec : {M : Type 1} → statement M
 signed-spec =
-    tie.close (tie.spec cast-result returns sub-result cast-result-2 sub-result-2 returns-2)
+    tie.close (tie.spec (λ c. search needs) returns (λ c. search needs) (λ c. search needs) sub-result-2 returns-2)

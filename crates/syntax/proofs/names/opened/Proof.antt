@@ -9,33 +9,6 @@ use Rattle.syntax.proofs.Words.{opened-head, opened-map, opened-loop, o
 use Rattle.syntax.proofs.names.opened.Statement.{statement}
 use Rattle.syntax.proofs.names.opened.Tie as tie
 
-in-force-requires : tie.Need-in-force-requires
-in-force-requires c κs = search needs
-
-add-in-force : tie.Need-add-in-force
-add-in-force c = search needs
-
-in-force-requires-2 : tie.Need-in-force-requires-2
-in-force-requires-2 c κs = search needs
-
-add-in-force-2 : tie.Need-add-in-force-2
-add-in-force-2 c = search needs
-
-in-force-requires-3 : tie.Need-in-force-requires-3
-in-force-requires-3 c κs = search needs
-
-add-in-force-3 : tie.Need-add-in-force-3
-add-in-force-3 c = search needs
-
-in-force-requires-4 : tie.Need-in-force-requires-4
-in-force-requires-4 c κs = search needs
-
-add-in-force-4 : tie.Need-add-in-force-4
-add-in-force-4 c = search needs
-
-in-force-requires-5 : tie.Need-in-force-requires-5
-in-force-requires-5 c κs = search needs
-
 returns : tie.Need-returns
 returns c =
     let entry = c .before .before in
@@ -85,21 +58,6 @@ returns-8 c =
 pub opened-spec : {M : Type 1} → statement M
 opened-spec =
     tie.close
-    (tie.spec
-    in-force-requires
-    add-in-force
-    in-force-requires-2
-    add-in-force-2
-    in-force-requires-3
-    add-in-force-3
-    in-force-requires-4
-    add-in-force-4
-    in-force-requires-5
-    returns
-    returns-2
-    returns-3
-    returns-4
-    returns-5
-    returns-6
-    returns-7
-    returns-8)
+    (tie.spec (λ c κs. search needs) (λ c. search needs) (λ c κs. search needs) (λ c. search needs) (λ c κs. search needs)
+    (λ c. search needs) (λ c κs. search needs) (λ c. search needs) (λ c κs. search needs) returns returns-2 returns-3 returns-4
+    returns-5 returns-6 returns-7 returns-8)

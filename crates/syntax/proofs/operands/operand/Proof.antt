@@ -6,12 +6,6 @@ use Rattle.syntax.specs.Operands.{due, operandSort, operandOf}
 use Rattle.syntax.proofs.operands.operand.Statement.{statement}
 use Rattle.syntax.proofs.operands.operand.Tie as tie
 
-operand-sort-requires : tie.Need-operand-sort-requires
-operand-sort-requires c κs = search needs
-
-opened-requires : tie.Need-opened-requires
-opened-requires c κs = search needs
-
 returns : tie.Need-returns
 unfolding operandOf
 returns c =
@@ -27,4 +21,4 @@ returns-2 c =
     (operandSort (entry .args .due .sort) (entry .args .kind)) (c .if1 .left)))
 
 pub operand-spec : {M : Type 1} → statement M
-operand-spec = tie.close (tie.spec operand-sort-requires opened-requires returns returns-2)
+operand-spec = tie.close (tie.spec (λ c κs. search needs) (λ c κs. search needs) returns returns-2)

@@ -10,18 +10,9 @@ use Rattle.syntax.proofs.Words.{at-one, range-rest}
 use Rattle.syntax.proofs.ranges.in_range.Statement.{statement}
 use Rattle.syntax.proofs.ranges.in_range.Tie as tie
 
-is-size-requires : tie.Need-is-size-requires
-is-size-requires c κs = search needs
-
-between-requires : tie.Need-between-requires
-between-requires c κs = search needs
-
 returns : tie.Need-returns
 unfolding inRange
 returns c = simp (sym (c .before .before .is-size .ensures) ∙ c .before .if1 .taken) (c .between .ensures)
-
-literal-in-range-requires : tie.Need-literal-in-range-requires
-literal-in-range-requires c κs = search needs
 
 returns-2 : tie.Need-returns-2
 unfolding inRange oneOf
@@ -66,16 +57,5 @@ returns-9 c =
 pub in-range-spec : {M : Type 1} → statement M
 in-range-spec =
     tie.close
-    (tie.spec
-    is-size-requires
-    between-requires
-    returns
-    literal-in-range-requires
-    returns-2
-    returns-3
-    returns-4
-    returns-5
-    returns-6
-    returns-7
-    returns-8
-    returns-9)
+    (tie.spec (λ c κs. search needs) (λ c κs. search needs) returns (λ c κs. search needs) returns-2 returns-3 returns-4 returns-5
+    returns-6 returns-7 returns-8 returns-9)

@@ -4,9 +4,6 @@ use borrow.Author.Needs.{needs}
 use Rattle.syntax.proofs.ranges.literal_in_range.Statement.{statement}
 use Rattle.syntax.proofs.ranges.literal_in_range.Tie as tie
 
-is-offset-requires : tie.Need-is-offset-requires
-is-offset-requires c κs = search needs
-
 returns : tie.Need-returns
 returns c = simp (sym (c .before .is-offset .ensures) ∙ c .if1 .taken)
 
@@ -14,4 +11,4 @@ returns-2 : tie.Need-returns-2
 returns-2 c = simp (sym (c .before .is-offset .ensures) ∙ c .if1 .left)
 
 pub literal-in-range-spec : {M : Type 1} → statement M
-literal-in-range-spec = tie.close (tie.spec is-offset-requires returns returns-2)
+literal-in-range-spec = tie.close (tie.spec (λ c κs. search needs) returns returns-2)

@@ -38,10 +38,6 @@ put-inputs-returns t c =
     let if1 = c .if1 in
     cells-none (a .types .now) (a .places .now) _ (if1 .taken)
 
-put-inputs-shared-slice-read-put-cells :
-    (t : ℕ) → put-inputs-lts.Need-shared-slice-read-put-cells (put-inputs-calls t) (put-inputs-at t) put-inputs.Post
-put-inputs-shared-slice-read-put-cells t c = search needs
-
 put-inputs-cast-put-cells : (t : ℕ) → put-inputs-lts.Need-cast-put-cells (put-inputs-calls t) (put-inputs-at t) put-inputs.Post
 put-inputs-cast-put-cells t c =
     let a = c .before .before .before .before .before .before .args in
@@ -58,16 +54,6 @@ put-inputs-put-cells-requires t c κs =
     let pre = c .before .before .before .before .before .before .pre in
     let some : 0 < length (a .places .now) = omega (arith, if1 .left) in
     (pre .1 .0, pre .1 .1 0 some)
-
-put-inputs-sub-put-inputs : (t : ℕ) → put-inputs-lts.Need-sub-put-inputs (put-inputs-calls t) (put-inputs-at t) put-inputs.Post
-put-inputs-sub-put-inputs t c = search needs
-
-put-inputs-part-put-inputs-start :
-    (t : ℕ) → put-inputs-lts.Need-part-put-inputs-start (put-inputs-calls t) (put-inputs-at t) put-inputs.Post
-put-inputs-part-put-inputs-start t c = search needs
-
-put-inputs-part-put-inputs-end : (t : ℕ) → put-inputs-lts.Need-part-put-inputs-end (put-inputs-calls t) (put-inputs-at t) put-inputs.Post
-put-inputs-part-put-inputs-end t c = search needs
 
 put-inputs-put-inputs-requires : (t : ℕ) → put-inputs-lts.Need-put-inputs-requires (put-inputs-calls t) (put-inputs-at t) put-inputs.Post
 put-inputs-put-inputs-requires t c κs =
@@ -88,14 +74,6 @@ put-inputs-returns-2 t c =
 
 pub +put-inputs-spec : {M : Type 1} → statement M
 +put-inputs-spec = close μ-put-inputs λ t. put-inputs-lts.spec (put-inputs-calls t)
-    (put-inputs-at t)
-    put-inputs.Post
-    (put-inputs-returns t)
-    (put-inputs-shared-slice-read-put-cells t)
-    (put-inputs-cast-put-cells t)
-    (put-inputs-put-cells-requires t)
-    (put-inputs-sub-put-inputs t)
-    (put-inputs-part-put-inputs-start t)
-    (put-inputs-part-put-inputs-end t)
-    (put-inputs-put-inputs-requires t)
-    (put-inputs-returns-2 t)
+    (put-inputs-at t) put-inputs.Post (put-inputs-returns t) (λ c. search needs) (put-inputs-cast-put-cells t)
+    (put-inputs-put-cells-requires t) (λ c. search needs) (λ c. search needs) (λ c. search needs)
+    (put-inputs-put-inputs-requires t) (put-inputs-returns-2 t)

@@ -6,23 +6,8 @@ use Rattle.translate.specs.Making.{byCheck}
 use Rattle.translate.proofs.making.ask_writes.Statement.{statement}
 use Rattle.translate.proofs.making.ask_writes.Tie as tie
 
-check-table-requires : tie.Need-check-table-requires
-check-table-requires c κs = search needs
-
 enum-told : tie.Need-enum-told
 enum-told c = search needs
-
-enum-known-checked : tie.Need-enum-known-checked
-enum-known-checked c = search needs
-
-enum-known-checked-2 : tie.Need-enum-known-checked-2
-enum-known-checked-2 c = search needs
-
-enum-told-2 : tie.Need-enum-told-2
-enum-told-2 c = search needs
-
-returns : tie.Need-returns
-returns c = search needs
 
 returns-2 : tie.Need-returns-2
 returns-2 c =
@@ -42,12 +27,5 @@ returns-3 c =
 pub ask-writes-spec : {M : Type 1} → statement M
 ask-writes-spec =
     tie.close
-    (tie.spec
-    check-table-requires
-    enum-told
-    enum-known-checked
-    enum-known-checked-2
-    enum-told-2
-    returns
-    returns-2
-    returns-3)
+    (tie.spec (λ c κs. search needs) enum-told (λ c. search needs) (λ c. search needs) (λ c. search needs) (λ c. search needs)
+    returns-2 returns-3)

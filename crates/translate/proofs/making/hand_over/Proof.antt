@@ -11,12 +11,6 @@ use Rattle.translate.proofs.LentLaws as lent
 use Rattle.translate.proofs.making.hand_over.Statement.{statement}
 use Rattle.translate.proofs.making.hand_over.Tie as tie
 
-ask-writes-requires : tie.Need-ask-writes-requires
-ask-writes-requires c κs = search needs
-
-enum-known-asked : tie.Need-enum-known-asked
-enum-known-asked c = search needs
-
 enum-told : tie.Need-enum-told
 enum-told c = search needs
 
@@ -49,18 +43,6 @@ returns-3 c =
     lent.short-numbers _ (a .kinds .now) (a .numbers .now) (ask-writes .result) (ask-writes .ensures)
     (a .lentkinds .now) (a .lentnumbers .now) _ (asked .given .1) (if1 .left) (if2 .taken)
 
-put-kinds-requires : tie.Need-put-kinds-requires
-put-kinds-requires c κs = search needs
-
-put-numbers-requires : tie.Need-put-numbers-requires
-put-numbers-requires c κs = search needs
-
-same-length : tie.Need-same-length
-same-length c = search needs
-
-same-length-2 : tie.Need-same-length-2
-same-length-2 c = search needs
-
 returns-4 : tie.Need-returns-4
 returns-4 c =
     let entry = c .before .before .before .before .before .before .before .before .before .before .before
@@ -89,15 +71,5 @@ returns-4 c =
 pub hand-over-spec : {M : Type 1} → statement M
 hand-over-spec =
     tie.close
-    (tie.spec
-    ask-writes-requires
-    enum-known-asked
-    enum-told
-    returns
-    returns-2
-    returns-3
-    put-kinds-requires
-    put-numbers-requires
-    same-length
-    same-length-2
-    returns-4)
+    (tie.spec (λ c κs. search needs) (λ c. search needs) enum-told returns returns-2 returns-3 (λ c κs. search needs)
+    (λ c κs. search needs) (λ c. search needs) (λ c. search needs) returns-4)

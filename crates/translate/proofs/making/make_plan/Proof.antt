@@ -9,28 +9,10 @@ use Rattle.translate.proofs.MadeLaws as made
 use Rattle.translate.proofs.making.make_plan.Statement.{statement}
 use Rattle.translate.proofs.making.make_plan.Tie as tie
 
-slice-aggregate-type-plan : tie.Need-slice-aggregate-type-plan
-slice-aggregate-type-plan c = search needs
-
-slice-aggregate-type-plan-2 : tie.Need-slice-aggregate-type-plan-2
-slice-aggregate-type-plan-2 c = search needs
-
 type-plan-requires : tie.Need-type-plan-requires
 type-plan-requires c κs =
     let pre = c .before .before .before .before .pre in
     record { sizes = pre .0; few = pre .1; nodes = le-refl 512; column = le-refl 256; plan = pre .2 .0; stands = pre .2 .1 }
-
-enum-known-typing : tie.Need-enum-known-typing
-enum-known-typing c = search needs
-
-enum-known-typing-2 : tie.Need-enum-known-typing-2
-enum-known-typing-2 c = search needs
-
-enum-known-typing-3 : tie.Need-enum-known-typing-3
-enum-known-typing-3 c = search needs
-
-enum-told : tie.Need-enum-told
-enum-told c = search needs
 
 returns : tie.Need-returns
 returns c = λ P S. search needs
@@ -47,9 +29,6 @@ returns-2 c =
     let typing3 = c .before .typing3 in
     λ P S. made.plan-refused (a .kinds .now) (a .numbers .now) _ _ _ _ (type-plan .result) (type-plan .ensures) P S
     _ _ _ (typing2 .given .1 ∙ typing3 .given .1)
-
-slice-aggregate-put-loops : tie.Need-slice-aggregate-put-loops
-slice-aggregate-put-loops c = search needs
 
 array-share-prefix-nodes : tie.Need-array-share-prefix-nodes
 array-share-prefix-nodes c =
@@ -74,9 +53,6 @@ slice-aggregate-put-loops-2 c =
     (pre .2 .0) (pre .2 .1) _ _ _ (typing .given .1) in
     let size : length (type-plan .last .1 .1 .0) ≡ 512 = found .2 .nodes in
     sym (length-take-le (typing .given .0 .1 .1 .0) (type-plan .last .1 .1 .0) (omega (arith, size, found .2 .few)))
-
-slice-aggregate-put-loops-3 : tie.Need-slice-aggregate-put-loops-3
-slice-aggregate-put-loops-3 c = search needs
 
 put-loops-requires : tie.Need-put-loops-requires
 put-loops-requires c κs =
@@ -225,12 +201,6 @@ hand-over-requires c κs =
     (omega (arith, ln, if1 .left)) in
     x ∙ sym y
 
-same-length : tie.Need-same-length
-same-length c = search needs
-
-same-length-2 : tie.Need-same-length-2
-same-length-2 c = search needs
-
 returns-4 : tie.Need-returns-4
 returns-4 c =
     let entry = c .before .before .before .before .before .before .before .before .before .before .before
@@ -258,27 +228,8 @@ returns-4 c =
 pub make-plan-spec : {M : Type 1} → statement M
 make-plan-spec =
     tie.close
-    (tie.spec
-    slice-aggregate-type-plan
-    slice-aggregate-type-plan-2
-    type-plan-requires
-    enum-known-typing
-    enum-known-typing-2
-    enum-known-typing-3
-    enum-told
-    returns
-    returns-2
-    slice-aggregate-put-loops
-    array-share-prefix-nodes
-    slice-aggregate-put-loops-2
-    slice-aggregate-put-loops-3
-    put-loops-requires
-    returns-3
-    array-share-prefix-made-kinds
-    slice-aggregate-hand-over
-    array-share-prefix-made-numbers
-    slice-aggregate-hand-over-2
-    hand-over-requires
-    same-length
-    same-length-2
-    returns-4)
+    (tie.spec (λ c. search needs) (λ c. search needs) type-plan-requires (λ c. search needs) (λ c. search needs)
+    (λ c. search needs) (λ c. search needs) returns returns-2 (λ c. search needs) array-share-prefix-nodes
+    slice-aggregate-put-loops-2 (λ c. search needs) put-loops-requires returns-3 array-share-prefix-made-kinds
+    slice-aggregate-hand-over array-share-prefix-made-numbers slice-aggregate-hand-over-2 hand-over-requires (λ c. search needs)
+    (λ c. search needs) returns-4)

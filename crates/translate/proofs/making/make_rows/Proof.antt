@@ -7,23 +7,8 @@ use Rattle.translate.proofs.MadeLaws as made
 use Rattle.translate.proofs.making.make_rows.Statement.{statement}
 use Rattle.translate.proofs.making.make_rows.Tie as tie
 
-walk-plan-requires : tie.Need-walk-plan-requires
-walk-plan-requires c κs = search needs
-
 enum-told : tie.Need-enum-told
 enum-told c = search needs
-
-enum-known-walked : tie.Need-enum-known-walked
-enum-known-walked c = search needs
-
-enum-known-walked-2 : tie.Need-enum-known-walked-2
-enum-known-walked-2 c = search needs
-
-enum-told-2 : tie.Need-enum-told-2
-enum-told-2 c = search needs
-
-returns : tie.Need-returns
-returns c = search needs
 
 returns-2 : tie.Need-returns-2
 returns-2 c =
@@ -55,12 +40,6 @@ make-plan-requires c κs =
       ),
     )
 
-same-length : tie.Need-same-length
-same-length c = search needs
-
-same-length-2 : tie.Need-same-length-2
-same-length-2 c = search needs
-
 returns-3 : tie.Need-returns-3
 returns-3 c =
     let entry = c .before .before .before .before .before .before .before .before .before .before .before in
@@ -79,15 +58,5 @@ returns-3 c =
 pub make-rows-spec : {M : Type 1} → statement M
 make-rows-spec =
     tie.close
-    (tie.spec
-    walk-plan-requires
-    enum-told
-    enum-known-walked
-    enum-known-walked-2
-    enum-told-2
-    returns
-    returns-2
-    make-plan-requires
-    same-length
-    same-length-2
-    returns-3)
+    (tie.spec (λ c κs. search needs) enum-told (λ c. search needs) (λ c. search needs) (λ c. search needs) (λ c. search needs)
+    returns-2 make-plan-requires (λ c. search needs) (λ c. search needs) returns-3)

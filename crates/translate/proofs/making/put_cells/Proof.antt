@@ -25,9 +25,6 @@ cast-put-count c =
     let s : Sound (a .types .now) (suc (a .place)) = sound-below (pre .0) (omega (arith, low)) in
     omega (arith, cells .ensures, few-cells (a .types .now) (a .place) s)
 
-put-count-requires : tie.Need-put-count-requires
-put-count-requires c κs = search needs
-
 returns : tie.Need-returns
 returns c =
     let cells = c .before .cells in
@@ -37,8 +34,4 @@ returns c =
 pub put-cells-spec : {M : Type 1} → statement M
 put-cells-spec =
     tie.close
-    (tie.spec
-    cells-requires
-    cast-put-count
-    put-count-requires
-    returns)
+    (tie.spec cells-requires cast-put-count (λ c κs. search needs) returns)

@@ -15,9 +15,6 @@ shared-slice-copy-out-natural c =
     let pre = c .before .before .before .before .pre in
     omega (arith, head.head-there (pre))
 
-natural-requires : tie.Need-natural-requires
-natural-requires c κs = search needs
-
 cast-put-count : tie.Need-cast-put-count
 cast-put-count c =
     let a = c .before .before .before .before .before .before .before .before .args in
@@ -26,9 +23,6 @@ cast-put-count c =
     let pre = c .before .before .before .before .before .before .before .before .pre in
     let told = natural-of (getD (a .numbers .now) 0 (pos 0)) (record { sfits = natural-arg .given }) (natural .ensures .0) in
     omega (arith, head.few-inputs (pre) (natural .result) told)
-
-put-count-requires : tie.Need-put-count-requires
-put-count-requires c κs = search needs
 
 slice-aggregate-put-inputs : tie.Need-slice-aggregate-put-inputs
 slice-aggregate-put-inputs c =
@@ -60,9 +54,6 @@ push-stored-requires c κs =
     let pre = c .before .before .before .before .before .before .before .before .before .before .before
     .before .before .before .before .before .before .pre in
     (omega arith, omega arith, head.place-low (pre), search needs)
-
-add-write-term : tie.Need-add-write-term
-add-write-term c = search needs
 
 sub-write-term : tie.Need-sub-write-term
 sub-write-term c =
@@ -174,26 +165,7 @@ returns c =
 pub put-loops-spec : {M : Type 1} → statement M
 put-loops-spec =
     tie.close
-    (tie.spec
-    shared-slice-copy-out-natural
-    natural-requires
-    cast-put-count
-    put-count-requires
-    slice-aggregate-put-inputs
-    put-inputs-requires
-    put-cells-requires
-    push-stored-requires
-    add-write-term
-    sub-write-term
-    part-write-term-start
-    part-write-term-end
-    mul-write-term
-    sub-write-term-2
-    part-write-term-start-2
-    part-write-term-end-2
-    mul-write-term-2
-    sub-write-term-3
-    part-write-term-start-3
-    part-write-term-end-3
-    write-term-requires
-    returns)
+    (tie.spec shared-slice-copy-out-natural (λ c κs. search needs) cast-put-count (λ c κs. search needs)
+    slice-aggregate-put-inputs put-inputs-requires put-cells-requires push-stored-requires (λ c. search needs) sub-write-term
+    part-write-term-start part-write-term-end mul-write-term sub-write-term-2 part-write-term-start-2 part-write-term-end-2
+    mul-write-term-2 sub-write-term-3 part-write-term-start-3 part-write-term-end-3 write-term-requires returns)

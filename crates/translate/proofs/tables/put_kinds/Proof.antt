@@ -20,18 +20,6 @@ loop-holds c =
     let a = c .before .before .args in
     (search needs, refl, copy-start (a .lent .now) (a .kinds .now))
 
-shared-slice-read-put-u8 : tie.Need-shared-slice-read-put-u8 Inv-loop μ-loop
-shared-slice-read-put-u8 c = search needs
-
-put-u8-requires : tie.Need-put-u8-requires Inv-loop μ-loop
-put-u8-requires c κs = search needs
-
-add-i : tie.Need-add-i Inv-loop μ-loop
-add-i c = search needs
-
-loop-less : tie.Need-loop-less Inv-loop μ-loop
-loop-less c = search needs
-
 loop-again : tie.Need-loop-again Inv-loop μ-loop
 loop-again c =
     let put-u8 = c .before .before .put-u8 in
@@ -58,14 +46,5 @@ returns c =
 pub put-kinds-spec : {M : Type 1} → statement M
 put-kinds-spec =
     tie.close
-    (tie.spec
-    Inv-loop
-    μ-loop
-    loop-holds
-    shared-slice-read-put-u8
-    put-u8-requires
-    add-i
-    loop-less
-    loop-again
-    same-length
-    returns)
+    (tie.spec Inv-loop μ-loop loop-holds (λ c. search needs) (λ c κs. search needs) (λ c. search needs) (λ c. search needs)
+    loop-again same-length returns)

@@ -23,21 +23,6 @@ loop-holds c =
     let a = c .args in
     (search needs, refl, copy-start (a .lent .now) (a .numbers .now))
 
-mul-put-i32 : tie.Need-mul-put-i32 Inv-loop μ-loop
-mul-put-i32 c = search needs
-
-shared-slice-copy-out-put-i32 : tie.Need-shared-slice-copy-out-put-i32 Inv-loop μ-loop
-shared-slice-copy-out-put-i32 c = search needs
-
-put-i32-requires : tie.Need-put-i32-requires Inv-loop μ-loop
-put-i32-requires c κs = search needs
-
-add-i : tie.Need-add-i Inv-loop μ-loop
-add-i c = search needs
-
-loop-less : tie.Need-loop-less Inv-loop μ-loop
-loop-less c = search needs
-
 loop-again : tie.Need-loop-again Inv-loop μ-loop
 loop-again c =
     let a = c .before .before .before .before .before .before .args in
@@ -67,15 +52,5 @@ returns c =
 pub put-numbers-spec : {M : Type 1} → statement M
 put-numbers-spec =
     tie.close
-    (tie.spec
-    Inv-loop
-    μ-loop
-    loop-holds
-    mul-put-i32
-    shared-slice-copy-out-put-i32
-    put-i32-requires
-    add-i
-    loop-less
-    loop-again
-    same-length
-    returns)
+    (tie.spec Inv-loop μ-loop loop-holds (λ c. search needs) (λ c. search needs) (λ c κs. search needs) (λ c. search needs)
+    (λ c. search needs) loop-again same-length returns)

@@ -39,9 +39,6 @@ shared-slice-copy-out-natural c =
     let pre′ = c .before .before .before .before .before .before .before .pre in
     omega (arith, laws.some-rows (args′ .kinds .now) (args′ .numbers .now) (pre′ .0) (pre′ .1) (pre′ .4 .0) (pre′ .4 .1), pre′ .0)
 
-natural-requires : tie.Need-natural-requires Inv-loop μ-loop
-natural-requires c κs = search needs
-
 loop-holds : tie.Need-loop-holds Inv-loop μ-loop
 loop-holds c =
     let entry = c .before .before .before .before .before .before .before .before .before in
@@ -198,17 +195,8 @@ type-rows-requires c κs =
       ),
     )
 
-enum-known-input : tie.Need-enum-known-input Inv-loop μ-loop
-enum-known-input c = search needs
-
 enum-told : tie.Need-enum-told Inv-loop μ-loop
 enum-told c = search needs
-
-same-length : tie.Need-same-length Inv-loop μ-loop
-same-length c = search needs
-
-same-length-2 : tie.Need-same-length-2 Inv-loop μ-loop
-same-length-2 c = search needs
 
 returns : tie.Need-returns Inv-loop μ-loop
 returns c =
@@ -374,12 +362,6 @@ add-row c =
       );
     }
 
-add-i : tie.Need-add-i Inv-loop μ-loop
-add-i c = search needs
-
-loop-less : tie.Need-loop-less Inv-loop μ-loop
-loop-less c = search needs
-
 loop-again : tie.Need-loop-again Inv-loop μ-loop
 loop-again c =
     let entry = c .before .before .before .before .before .before .before .before .before .before .before
@@ -423,12 +405,6 @@ loop-again c =
           (input′ .given .0 .0) (input′ .given .0 .1 .0) (input′ .given .0 .1 .1 .0) (input′ .given .1),
     )
 
-same-length-3 : tie.Need-same-length-3 Inv-loop μ-loop
-same-length-3 c = search needs
-
-same-length-4 : tie.Need-same-length-4 Inv-loop μ-loop
-same-length-4 c = search needs
-
 returns-2 : tie.Need-returns-2 Inv-loop μ-loop
 returns-2 c =
     let entry = c .before .before .before .before .before .before .before .before .before .before .before in
@@ -454,33 +430,8 @@ returns-2 c =
 pub type-inputs-spec : {M : Type 1} → statement M
 type-inputs-spec =
     tie.close
-    (tie.spec
-    Inv-loop
-    μ-loop
-    put-number-requires
-    shared-slice-copy-out-natural
-    natural-requires
-    loop-holds
-    sub-type-rows
-    part-type-rows-start
-    part-type-rows-end
-    mul-type-rows
-    sub-type-rows-2
-    part-type-rows-start-2
-    part-type-rows-end-2
-    type-rows-requires
-    enum-known-input
-    enum-told
-    same-length
-    same-length-2
-    returns
-    cast-places
-    mul-places
-    slice-write-places
-    add-row
-    add-i
-    loop-less
-    loop-again
-    same-length-3
-    same-length-4
+    (tie.spec Inv-loop μ-loop put-number-requires shared-slice-copy-out-natural (λ c κs. search needs) loop-holds sub-type-rows
+    part-type-rows-start part-type-rows-end mul-type-rows sub-type-rows-2 part-type-rows-start-2 part-type-rows-end-2
+    type-rows-requires (λ c. search needs) enum-told (λ c. search needs) (λ c. search needs) returns cast-places mul-places
+    slice-write-places add-row (λ c. search needs) (λ c. search needs) loop-again (λ c. search needs) (λ c. search needs)
     returns-2)

@@ -26,9 +26,6 @@ operation-requires : tie.Need-operation-requires
 operation-requires c κs =
     let entry = c .before .before .before in (room-less (entry .pre .0) (omega arith), entry .pre .1, entry .pre .2)
 
-same-length : tie.Need-same-length
-same-length c = search needs
-
 returns : tie.Need-returns
 returns c =
     let entry = c .before .before .before .before .before .before in
@@ -36,9 +33,6 @@ returns c =
     found-as (entry .args .nodes .now) (entry .args .len) (at-map .last .0) (entry .args .len + 1)
     (entry .args .len + 2) (entry .args .rows) _ _ (at-map .result) (omega arith) (binary-mappar (entry .args .kind)
     (entry .args .line) _ _ (c .before .before .before .before .match .keys1)) (at-map .ensures)
-
-same-length-2 : tie.Need-same-length-2
-same-length-2 c = search needs
 
 returns-2 : tie.Need-returns-2
 returns-2 c =
@@ -49,9 +43,6 @@ returns-2 c =
     (entry .args .kind) (entry .args .line) _ _ (c .before .before .before .before .match .keys2))
     (at-map2 .ensures)
 
-same-length-3 : tie.Need-same-length-3
-same-length-3 c = search needs
-
 returns-3 : tie.Need-returns-3
 returns-3 c =
     let entry = c .before .before .before .before .before .before in
@@ -59,9 +50,6 @@ returns-3 c =
     found-as (entry .args .nodes .now) (entry .args .len) (at-zip .last .0) (entry .args .len + 2)
     (entry .args .len + 2) (entry .args .rows) _ _ (at-zip .result) (omega arith) (binary-zip (entry .args .kind)
     (entry .args .line) _ _ (c .before .before .before .before .match .keys3)) (at-zip .ensures)
-
-same-length-4 : tie.Need-same-length-4
-same-length-4 c = search needs
 
 returns-4 : tie.Need-returns-4
 returns-4 c =
@@ -71,9 +59,6 @@ returns-4 c =
     (entry .args .len + 2) (entry .args .rows) _ _ (at-sized-pair .result) (omega arith)
     (binary-pair (entry .args .kind) (entry .args .line) _ _ (c .before .before .before .before .match .keys4))
     (at-sized-pair .ensures)
-
-same-length-5 : tie.Need-same-length-5
-same-length-5 c = search needs
 
 returns-5 : tie.Need-returns-5
 returns-5 c =
@@ -87,19 +72,5 @@ returns-5 c =
 pub binary-spec : {M : Type 1} → statement M
 binary-spec =
     tie.close
-    (tie.spec
-    map-requires
-    map-requires-2
-    zip-requires
-    sized-pair-requires
-    operation-requires
-    same-length
-    returns
-    same-length-2
-    returns-2
-    same-length-3
-    returns-3
-    same-length-4
-    returns-4
-    same-length-5
-    returns-5)
+    (tie.spec map-requires map-requires-2 zip-requires sized-pair-requires operation-requires (λ c. search needs) returns
+    (λ c. search needs) returns-2 (λ c. search needs) returns-3 (λ c. search needs) returns-4 (λ c. search needs) returns-5)

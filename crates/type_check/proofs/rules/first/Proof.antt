@@ -10,15 +10,6 @@ use Rattle.type_check.proofs.rules.first.Tie as tie
 as-pair-requires : tie.Need-as-pair-requires
 as-pair-requires c κs = sound-below (c .before .pre .0 .sound) (omega arith)
 
-enum-known-shape : tie.Need-enum-known-shape
-enum-known-shape c = search needs
-
-enum-told : tie.Need-enum-told
-enum-told c = search needs
-
-misfit-requires : tie.Need-misfit-requires
-misfit-requires c κs = search needs
-
 returns : tie.Need-returns
 returns c =
     let entry = c .before .before .before .before .before in
@@ -49,4 +40,4 @@ returns-2 c =
 pub first-spec : {M : Type 1} → statement M
 first-spec =
     tie.close
-    (tie.spec as-pair-requires enum-known-shape enum-told misfit-requires returns returns-2)
+    (tie.spec as-pair-requires (λ c. search needs) (λ c. search needs) (λ c κs. search needs) returns returns-2)

@@ -10,24 +10,12 @@ use Rattle.type_check.proofs.rules.index.Tie as tie
 as-array-requires : tie.Need-as-array-requires
 as-array-requires c κs = sound-below (c .before .pre .0 .sound) (omega arith)
 
-enum-known-shape : tie.Need-enum-known-shape
-enum-known-shape c = search needs
-
-enum-told : tie.Need-enum-told
-enum-told c = search needs
-
-misfit-requires : tie.Need-misfit-requires
-misfit-requires c κs = search needs
-
 returns : tie.Need-returns
 returns c =
     let entry = c .before .before .before .before .before in
     found-no _ _ _ _ _ _ (c .misfit .ensures) (index-no (entry .args .line) _ (entry .args .k)
     (told-no-array (entry .args .nodes .now) (entry .args .place) (c .before .enum-told .given .1)
     (c .before .before .before .as-array .ensures)))
-
-misfit-requires-2 : tie.Need-misfit-requires-2
-misfit-requires-2 c κs = search needs
 
 returns-2 : tie.Need-returns-2
 returns-2 c =
@@ -59,12 +47,5 @@ returns-3 c =
 pub index-spec : {M : Type 1} → statement M
 index-spec =
     tie.close
-    (tie.spec
-    as-array-requires
-    enum-known-shape
-    enum-told
-    misfit-requires
-    returns
-    misfit-requires-2
-    returns-2
-    returns-3)
+    (tie.spec as-array-requires (λ c. search needs) (λ c. search needs) (λ c κs. search needs) returns (λ c κs. search needs)
+    returns-2 returns-3)

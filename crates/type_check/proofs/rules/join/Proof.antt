@@ -11,18 +11,6 @@ use Rattle.type_check.proofs.rules.join.Tie as tie
 as-array-requires : tie.Need-as-array-requires
 as-array-requires c κs = sound-below (c .before .before .pre .0 .sound) (omega arith)
 
-enum-known-outer : tie.Need-enum-known-outer
-enum-known-outer c = search needs
-
-enum-told : tie.Need-enum-told
-enum-told c = search needs
-
-misfit-requires : tie.Need-misfit-requires
-misfit-requires c κs = search needs
-
-same-length : tie.Need-same-length
-same-length c = search needs
-
 returns : tie.Need-returns
 returns c =
     let entry = c .before .before .before .before .before .before in
@@ -40,18 +28,6 @@ as-array-requires-2 c κs =
           (entry .args .place) (c .before .before .outer .given .1)
           (c .before .before .before .before .as-array .ensures) .1,
     ))
-
-enum-known-inner : tie.Need-enum-known-inner
-enum-known-inner c = search needs
-
-enum-told-2 : tie.Need-enum-told-2
-enum-told-2 c = search needs
-
-misfit-requires-2 : tie.Need-misfit-requires-2
-misfit-requires-2 c κs = search needs
-
-same-length-2 : tie.Need-same-length-2
-same-length-2 c = search needs
 
 returns-2 : tie.Need-returns-2
 returns-2 c =
@@ -95,9 +71,6 @@ sized-array-requires c κs =
     (omega (arith, o .1, entry .pre .1)) .within)) in
     (entry .pre .0, omega (arith, entry .pre .1, o .1, i .1), b .0, b .1)
 
-same-length-3 : tie.Need-same-length-3
-same-length-3 c = search needs
-
 returns-3 : tie.Need-returns-3
 returns-3 c =
     let entry = c .before .before .before .before .before .before .before .before .before .before .before
@@ -116,20 +89,6 @@ returns-3 c =
 pub join-spec : {M : Type 1} → statement M
 join-spec =
     tie.close
-    (tie.spec
-    as-array-requires
-    enum-known-outer
-    enum-told
-    misfit-requires
-    same-length
-    returns
-    as-array-requires-2
-    enum-known-inner
-    enum-told-2
-    misfit-requires-2
-    same-length-2
-    returns-2
-    mul-sized-array
-    sized-array-requires
-    same-length-3
-    returns-3)
+    (tie.spec as-array-requires (λ c. search needs) (λ c. search needs) (λ c κs. search needs) (λ c. search needs) returns
+    as-array-requires-2 (λ c. search needs) (λ c. search needs) (λ c κs. search needs) (λ c. search needs) returns-2
+    mul-sized-array sized-array-requires (λ c. search needs) returns-3)

@@ -11,18 +11,6 @@ use Rattle.type_check.proofs.rules.map.Tie as tie
 as-array-requires : tie.Need-as-array-requires
 as-array-requires c κs = sound-below (c .before .before .pre .0 .sound) (omega arith)
 
-enum-known-shape : tie.Need-enum-known-shape
-enum-known-shape c = search needs
-
-enum-told : tie.Need-enum-told
-enum-told c = search needs
-
-misfit-requires : tie.Need-misfit-requires
-misfit-requires c κs = search needs
-
-same-length : tie.Need-same-length
-same-length c = search needs
-
 returns : tie.Need-returns
 returns c =
     let entry = c .before .before .before .before .before .before in
@@ -38,9 +26,6 @@ sized-array-requires c κs =
     (entry .pre .0 .sound .each (entry .args .array) (entry .pre .1) .within) in
     (entry .pre .0, entry .pre .2, b .0, omega (arith, b .1))
 
-same-length-2 : tie.Need-same-length-2
-same-length-2 c = search needs
-
 returns-2 : tie.Need-returns-2
 returns-2 c =
     let entry = c .before .before .before .before .before .before .before .before .before .before in
@@ -55,13 +40,5 @@ returns-2 c =
 pub map-spec : {M : Type 1} → statement M
 map-spec =
     tie.close
-    (tie.spec
-    as-array-requires
-    enum-known-shape
-    enum-told
-    misfit-requires
-    same-length
-    returns
-    sized-array-requires
-    same-length-2
-    returns-2)
+    (tie.spec as-array-requires (λ c. search needs) (λ c. search needs) (λ c κs. search needs) (λ c. search needs) returns
+    sized-array-requires (λ c. search needs) returns-2)

@@ -17,12 +17,9 @@ returns c =
     (entry .args .place) (entry .pre .0 .sound) (entry .pre .1) (omega arith) (negate-yes (entry .args .line) _
     (c .before .is-number .ensures .0 (c .if1 .taken)))
 
-misfit-requires : tie.Need-misfit-requires
-misfit-requires c κs = search needs
-
 returns-2 : tie.Need-returns-2
 returns-2 c = found-no _ _ _ _ _ _ (c .misfit .ensures) (negate-no (c .before .before .before .before .args .line) _
     (c .before .before .is-number .ensures .1 (c .before .if1 .left)))
 
 pub negate-spec : {M : Type 1} → statement M
-negate-spec = tie.close (tie.spec is-number-requires returns misfit-requires returns-2)
+negate-spec = tie.close (tie.spec is-number-requires returns (λ c κs. search needs) returns-2)

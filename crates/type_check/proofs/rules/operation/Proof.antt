@@ -11,9 +11,6 @@ use Rattle.type_check.proofs.rules.operation.Tie as tie
 is-number-requires : tie.Need-is-number-requires
 is-number-requires c κs = sound-below (c .before .pre .0 .sound) (omega arith)
 
-misfit-requires : tie.Need-misfit-requires
-misfit-requires c κs = search needs
-
 returns : tie.Need-returns
 returns c = found-no _ _ _ _ _ _ (c .misfit .ensures) (operation-left
     (c .before .before .before .before .args .line) _ _ (c .before .before .is-number .ensures .1
@@ -21,9 +18,6 @@ returns c = found-no _ _ _ _ _ _ (c .misfit .ensures) (operation-left
 
 is-number-requires-2 : tie.Need-is-number-requires-2
 is-number-requires-2 c κs = sound-below (c .before .before .before .pre .0 .sound) (omega (arith, c .before .before .before .pre .2))
-
-misfit-requires-2 : tie.Need-misfit-requires-2
-misfit-requires-2 c κs = search needs
 
 returns-2 : tie.Need-returns-2
 returns-2 c = found-no _ _ _ _ _ _ (c .misfit2 .ensures) (operation-right (c .before .before .before .before .before .before .args .line)
@@ -40,11 +34,4 @@ returns-3 c =
 pub operation-spec : {M : Type 1} → statement M
 operation-spec =
     tie.close
-    (tie.spec
-    is-number-requires
-    misfit-requires
-    returns
-    is-number-requires-2
-    misfit-requires-2
-    returns-2
-    returns-3)
+    (tie.spec is-number-requires (λ c κs. search needs) returns is-number-requires-2 (λ c κs. search needs) returns-2 returns-3)

@@ -22,12 +22,9 @@ returns c =
     (c .before .same .ensures .0 (c .if1 .taken)) (entry .pre .0 .sound .each (entry .args .start)
     (entry .pre .1) .within))
 
-misfit-requires : tie.Need-misfit-requires
-misfit-requires c κs = search needs
-
 returns-2 : tie.Need-returns-2
 returns-2 c = found-no _ _ _ _ _ _ (c .misfit .ensures) (reduce-no (c .before .before .before .before .args .line) _
     _ (c .before .before .same .ensures .1 (c .before .if1 .left)))
 
 pub reduce-spec : {M : Type 1} → statement M
-reduce-spec = tie.close (tie.spec same-requires returns misfit-requires returns-2)
+reduce-spec = tie.close (tie.spec same-requires returns (λ c κs. search needs) returns-2)

@@ -24,9 +24,6 @@ mul-if1 c =
       );
     }
 
-same-length : tie.Need-same-length
-same-length c = search needs
-
 returns : tie.Need-returns
 returns c =
     let entry = c .before .before .before .before in
@@ -36,9 +33,6 @@ returns c =
 
 levels-requires : tie.Need-levels-requires
 levels-requires c κs = sound-below (c .before .before .before .before .before .pre .0 .sound) (omega arith)
-
-same-length-2 : tie.Need-same-length-2
-same-length-2 c = search needs
 
 returns-2 : tie.Need-returns-2
 returns-2 c =
@@ -64,12 +58,6 @@ put-array-requires c κs =
       ),
     )
 
-add-t10 : tie.Need-add-t10
-add-t10 c = search needs
-
-same-length-3 : tie.Need-same-length-3
-same-length-3 c = search needs
-
 returns-3 : tie.Need-returns-3
 returns-3 c =
     let entry = c .before .before .before .before .before .before .before .before .before .before .before in
@@ -78,15 +66,5 @@ returns-3 c =
 pub sized-array-spec : {M : Type 1} → statement M
 sized-array-spec =
     tie.close
-    (tie.spec
-    cells-requires
-    mul-if1
-    same-length
-    returns
-    levels-requires
-    same-length-2
-    returns-2
-    put-array-requires
-    add-t10
-    same-length-3
-    returns-3)
+    (tie.spec cells-requires mul-if1 (λ c. search needs) returns levels-requires (λ c. search needs) returns-2 put-array-requires
+    (λ c. search needs) (λ c. search needs) returns-3)

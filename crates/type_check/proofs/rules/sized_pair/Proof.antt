@@ -28,9 +28,6 @@ add-if1 c =
       );
     }
 
-same-length : tie.Need-same-length
-same-length c = search needs
-
 returns : tie.Need-returns
 returns c =
     let entry = c .before .before .before .before .before .before in
@@ -45,9 +42,6 @@ returns c =
 levels-requires : tie.Need-levels-requires
 levels-requires c κs = sound-below (c .before .before .before .before .before .before .before .pre .0 .sound) (omega arith)
 
-same-length-2 : tie.Need-same-length-2
-same-length-2 c = search needs
-
 returns-2 : tie.Need-returns-2
 returns-2 c =
     let entry = c .before .before .before .before .before .before .before .before .before in
@@ -59,9 +53,6 @@ levels-requires-2 : tie.Need-levels-requires-2
 levels-requires-2 c κs =
     let entry = c .before .before .before .before .before .before .before .before .before .before in
     sound-below (entry .pre .0 .sound) (omega (arith, entry .pre .2))
-
-same-length-3 : tie.Need-same-length-3
-same-length-3 c = search needs
 
 returns-3 : tie.Need-returns-3
 returns-3 c =
@@ -94,12 +85,6 @@ put-pair-requires c κs =
       ),
     )
 
-add-t13 : tie.Need-add-t13
-add-t13 c = search needs
-
-same-length-4 : tie.Need-same-length-4
-same-length-4 c = search needs
-
 returns-4 : tie.Need-returns-4
 returns-4 c =
     let entry = c .before .before .before .before .before .before .before .before .before .before .before
@@ -109,19 +94,5 @@ returns-4 c =
 pub sized-pair-spec : {M : Type 1} → statement M
 sized-pair-spec =
     tie.close
-    (tie.spec
-    cells-requires
-    cells-requires-2
-    add-if1
-    same-length
-    returns
-    levels-requires
-    same-length-2
-    returns-2
-    levels-requires-2
-    same-length-3
-    returns-3
-    put-pair-requires
-    add-t13
-    same-length-4
-    returns-4)
+    (tie.spec cells-requires cells-requires-2 add-if1 (λ c. search needs) returns levels-requires (λ c. search needs) returns-2
+    levels-requires-2 (λ c. search needs) returns-3 put-pair-requires (λ c. search needs) (λ c. search needs) returns-4)

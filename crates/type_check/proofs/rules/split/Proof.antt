@@ -16,33 +16,12 @@ use Rattle.type_check.proofs.rules.split.Tie as tie
 as-array-requires : tie.Need-as-array-requires
 as-array-requires c κs = sound-below (c .before .before .pre .0 .sound) (omega arith)
 
-enum-known-shape : tie.Need-enum-known-shape
-enum-known-shape c = search needs
-
-enum-told : tie.Need-enum-told
-enum-told c = search needs
-
-misfit-requires : tie.Need-misfit-requires
-misfit-requires c κs = search needs
-
-same-length : tie.Need-same-length
-same-length c = search needs
-
 returns : tie.Need-returns
 returns c =
     let entry = c .before .before .before .before .before .before in
     found-no _ _ _ _ _ _ (c .misfit .ensures) (split-no (entry .args .line) _ (entry .args .n)
     (told-no-array (entry .args .nodes .now) (entry .args .place) (c .before .enum-told .given .1)
     (c .before .before .before .as-array .ensures)))
-
-rem-if1 : tie.Need-rem-if1
-rem-if1 c = search needs
-
-misfit-requires-2 : tie.Need-misfit-requires-2
-misfit-requires-2 c κs = search needs
-
-same-length-2 : tie.Need-same-length-2
-same-length-2 c = search needs
 
 returns-2 : tie.Need-returns-2
 returns-2 c =
@@ -67,15 +46,6 @@ sized-array-requires c κs =
           (arith, entry .pre .3),
     )
 
-enum-known-group : tie.Need-enum-known-group
-enum-known-group c = search needs
-
-enum-told-2 : tie.Need-enum-told-2
-enum-told-2 c = search needs
-
-same-length-3 : tie.Need-same-length-3
-same-length-3 c = search needs
-
 returns-3 : tie.Need-returns-3
 returns-3 c =
     let entry = c .before .before .before .before .before .before .before .before .before .before .before
@@ -96,9 +66,6 @@ returns-3 c =
     (sized (entry .args .line) (array (entry .args .n) (typeAt (entry .args .nodes .now)
     (at-shape .given .0 .1 .0)))) (c .enum-told2 .given .1) (at-sized-array .ensures)))
 
-div-sized-array : tie.Need-div-sized-array
-div-sized-array c = search needs
-
 sized-array-requires-2 : tie.Need-sized-array-requires-2
 sized-array-requires-2 c κs =
     let entry = c .before .before .before .before .before .before .before .before .before .before .before
@@ -115,9 +82,6 @@ sized-array-requires-2 c κs =
     (entry .pre .1) .within)) (entry .pre .2) (c .before .before .before .before .before .before .before .before .if1 .left)
     in
     (room-grown 2 1 (entry .pre .0) (w .4) (omega (arith, w .3)), w .2, q .0, q .1)
-
-same-length-4 : tie.Need-same-length-4
-same-length-4 c = search needs
 
 returns-4 : tie.Need-returns-4
 returns-4 c =
@@ -146,23 +110,6 @@ returns-4 c =
 pub split-spec : {M : Type 1} → statement M
 split-spec =
     tie.close
-    (tie.spec
-    as-array-requires
-    enum-known-shape
-    enum-told
-    misfit-requires
-    same-length
-    returns
-    rem-if1
-    misfit-requires-2
-    same-length-2
-    returns-2
-    sized-array-requires
-    enum-known-group
-    enum-told-2
-    same-length-3
-    returns-3
-    div-sized-array
-    sized-array-requires-2
-    same-length-4
-    returns-4)
+    (tie.spec as-array-requires (λ c. search needs) (λ c. search needs) (λ c κs. search needs) (λ c. search needs) returns
+    (λ c. search needs) (λ c κs. search needs) (λ c. search needs) returns-2 sized-array-requires (λ c. search needs)
+    (λ c. search needs) (λ c. search needs) returns-3 (λ c. search needs) sized-array-requires-2 (λ c. search needs) returns-4)

@@ -32,18 +32,12 @@ second-requires c κs = (room-less (c .before .before .before .pre .0) (omega ar
 index-requires : tie.Need-index-requires
 index-requires c κs = (room-less (c .before .before .before .pre .0) (omega arith), c .before .before .before .pre .1)
 
-same-length : tie.Need-same-length
-same-length c = search needs
-
 returns : tie.Need-returns
 returns c =
     let entry = c .before .before .before .before in
     found-as (entry .args .nodes .now) (entry .args .len) (entry .args .nodes .now) (entry .args .len)
     (entry .args .len + 2) (entry .args .rows) _ _ (c .negate .result) (omega arith) (unary-neg (entry .args .kind)
     (entry .args .number) (entry .args .line) _ (c .before .before .match .keys1)) (c .negate .ensures)
-
-same-length-2 : tie.Need-same-length-2
-same-length-2 c = search needs
 
 returns-2 : tie.Need-returns-2
 returns-2 c =
@@ -54,9 +48,6 @@ returns-2 c =
     (entry .args .number) (entry .args .line) _ (c .before .before .before .before .match .keys2))
     (at-split .ensures)
 
-same-length-3 : tie.Need-same-length-3
-same-length-3 c = search needs
-
 returns-3 : tie.Need-returns-3
 returns-3 c =
     let entry = c .before .before .before .before .before .before in
@@ -66,18 +57,12 @@ returns-3 c =
     (entry .args .number) (entry .args .line) _ (c .before .before .before .before .match .keys3))
     (at-join .ensures)
 
-same-length-4 : tie.Need-same-length-4
-same-length-4 c = search needs
-
 returns-4 : tie.Need-returns-4
 returns-4 c =
     let entry = c .before .before .before .before in
     found-as (entry .args .nodes .now) (entry .args .len) (entry .args .nodes .now) (entry .args .len)
     (entry .args .len + 2) (entry .args .rows) _ _ (c .first .result) (omega arith) (unary-first (entry .args .kind)
     (entry .args .number) (entry .args .line) _ (c .before .before .match .keys4)) (c .first .ensures)
-
-same-length-5 : tie.Need-same-length-5
-same-length-5 c = search needs
 
 returns-5 : tie.Need-returns-5
 returns-5 c =
@@ -86,9 +71,6 @@ returns-5 c =
     (entry .args .len + 2) (entry .args .rows) _ _ (c .second .result) (omega arith) (unary-second
     (entry .args .kind) (entry .args .number) (entry .args .line) _ (c .before .before .match .keys5))
     (c .second .ensures)
-
-same-length-6 : tie.Need-same-length-6
-same-length-6 c = search needs
 
 returns-6 : tie.Need-returns-6
 returns-6 c =
@@ -102,22 +84,6 @@ returns-6 c =
 pub unary-spec : {M : Type 1} → statement M
 unary-spec =
     tie.close
-    (tie.spec
-    negate-requires
-    split-requires
-    join-requires
-    first-requires
-    second-requires
-    index-requires
-    same-length
-    returns
-    same-length-2
-    returns-2
-    same-length-3
-    returns-3
-    same-length-4
-    returns-4
-    same-length-5
-    returns-5
-    same-length-6
-    returns-6)
+    (tie.spec negate-requires split-requires join-requires first-requires second-requires index-requires (λ c. search needs)
+    returns (λ c. search needs) returns-2 (λ c. search needs) returns-3 (λ c. search needs) returns-4 (λ c. search needs)
+    returns-5 (λ c. search needs) returns-6)

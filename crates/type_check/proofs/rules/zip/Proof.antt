@@ -16,18 +16,6 @@ use Rattle.type_check.proofs.rules.zip.Tie as tie
 as-array-requires : tie.Need-as-array-requires
 as-array-requires c κs = sound-below (c .before .before .pre .0 .sound) (omega arith)
 
-enum-known-one : tie.Need-enum-known-one
-enum-known-one c = search needs
-
-enum-told : tie.Need-enum-told
-enum-told c = search needs
-
-misfit-requires : tie.Need-misfit-requires
-misfit-requires c κs = search needs
-
-same-length : tie.Need-same-length
-same-length c = search needs
-
 returns : tie.Need-returns
 returns c =
     let entry = c .before .before .before .before .before .before in
@@ -40,18 +28,6 @@ as-array-requires-2 c κs =
     let entry = c .before .before .before .before .before .before .before in
     sound-below (entry .pre .0 .sound) (omega (arith, entry .pre .2))
 
-enum-known-other : tie.Need-enum-known-other
-enum-known-other c = search needs
-
-enum-told-2 : tie.Need-enum-told-2
-enum-told-2 c = search needs
-
-misfit-requires-2 : tie.Need-misfit-requires-2
-misfit-requires-2 c κs = search needs
-
-same-length-2 : tie.Need-same-length-2
-same-length-2 c = search needs
-
 returns-2 : tie.Need-returns-2
 returns-2 c =
     let entry = c .before .before .before .before .before .before .before .before .before .before .before in
@@ -60,12 +36,6 @@ returns-2 c =
     (c .before .before .before .before .before .before .before .before .as-array .ensures) .0)
     (told-no-array (entry .args .nodes .now) (entry .args .right) (c .before .enum-told2 .given .1)
     (c .before .before .before .as-array2 .ensures)))
-
-misfit-requires-3 : tie.Need-misfit-requires-3
-misfit-requires-3 c κs = search needs
-
-same-length-3 : tie.Need-same-length-3
-same-length-3 c = search needs
 
 returns-3 : tie.Need-returns-3
 returns-3 c =
@@ -100,15 +70,6 @@ sized-pair-requires c κs =
             (c .before .before .before .other .given .1) (c .before .before .before .before .before .as-array2 .ensures) .1,
       ),
     )
-
-enum-known-pair : tie.Need-enum-known-pair
-enum-known-pair c = search needs
-
-enum-told-3 : tie.Need-enum-told-3
-enum-told-3 c = search needs
-
-same-length-4 : tie.Need-same-length-4
-same-length-4 c = search needs
 
 returns-4 : tie.Need-returns-4
 returns-4 c =
@@ -154,9 +115,6 @@ sized-array-requires c κs =
     (entry .args .left) (entry .pre .1) .within) in
     (room-grown 2 1 (entry .pre .0) (w .4) (omega (arith, w .3)), w .2, b .0, omega (arith, b .1))
 
-same-length-5 : tie.Need-same-length-5
-same-length-5 c = search needs
-
 returns-5 : tie.Need-returns-5
 returns-5 c =
     let entry = c .before .before .before .before .before .before .before .before .before .before .before
@@ -190,27 +148,7 @@ returns-5 c =
 pub zip-spec : {M : Type 1} → statement M
 zip-spec =
     tie.close
-    (tie.spec
-    as-array-requires
-    enum-known-one
-    enum-told
-    misfit-requires
-    same-length
-    returns
-    as-array-requires-2
-    enum-known-other
-    enum-told-2
-    misfit-requires-2
-    same-length-2
-    returns-2
-    misfit-requires-3
-    same-length-3
-    returns-3
-    sized-pair-requires
-    enum-known-pair
-    enum-told-3
-    same-length-4
-    returns-4
-    sized-array-requires
-    same-length-5
-    returns-5)
+    (tie.spec as-array-requires (λ c. search needs) (λ c. search needs) (λ c κs. search needs) (λ c. search needs) returns
+    as-array-requires-2 (λ c. search needs) (λ c. search needs) (λ c κs. search needs) (λ c. search needs) returns-2
+    (λ c κs. search needs) (λ c. search needs) returns-3 sized-pair-requires (λ c. search needs) (λ c. search needs)
+    (λ c. search needs) returns-4 sized-array-requires (λ c. search needs) returns-5)

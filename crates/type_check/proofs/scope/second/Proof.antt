@@ -9,9 +9,6 @@ use Rattle.type_table.specs.Laws.{told-array, told-no-array}
 use Rattle.type_check.proofs.scope.second.Statement.{statement}
 use Rattle.type_check.proofs.scope.second.Tie as tie
 
-is-map-requires : tie.Need-is-map-requires
-is-map-requires c κs = search needs
-
 returns : tie.Need-returns
 returns c =
     let entry = c .before .before .before in (
@@ -22,15 +19,6 @@ returns c =
           (typeAt (entry .args .nodes .now) (entry .args .place)) m (entry .args .scope) I Γ
           (sym (c .before .is-map .ensures) ∙ not-true _ (c .if1 .taken)) F,
     )
-
-as-array-requires : tie.Need-as-array-requires
-as-array-requires c κs = search needs
-
-enum-known-shape : tie.Need-enum-known-shape
-enum-known-shape c = search needs
-
-enum-told : tie.Need-enum-told
-enum-told c = search needs
 
 returns-2 : tie.Need-returns-2
 returns-2 c =
@@ -81,12 +69,5 @@ returns-3 c =
 pub second-spec : {M : Type 1} → statement M
 second-spec =
     tie.close
-    (tie.spec
-    is-map-requires
-    returns
-    as-array-requires
-    enum-known-shape
-    enum-told
-    returns-2
-    with-variable-requires
-    returns-3)
+    (tie.spec (λ c κs. search needs) returns (λ c κs. search needs) (λ c. search needs) (λ c. search needs) returns-2
+    with-variable-requires returns-3)

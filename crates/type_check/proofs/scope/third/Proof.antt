@@ -11,12 +11,6 @@ use Rattle.type_check.proofs.scope.third.Tie as tie
 as-array-requires : tie.Need-as-array-requires
 as-array-requires c κs = c .before .pre .1
 
-enum-known-shape : tie.Need-enum-known-shape
-enum-known-shape c = search needs
-
-enum-told : tie.Need-enum-told
-enum-told c = search needs
-
 returns : tie.Need-returns
 returns c =
     let entry = c .before .before .before .before in (
@@ -62,11 +56,5 @@ returns-2 c =
 pub third-spec : {M : Type 1} → statement M
 third-spec =
     tie.close
-    (tie.spec
-    as-array-requires
-    enum-known-shape
-    enum-told
-    returns
-    with-variable-requires
-    with-variable-requires-2
+    (tie.spec as-array-requires (λ c. search needs) (λ c. search needs) returns with-variable-requires with-variable-requires-2
     returns-2)

@@ -5,18 +5,6 @@ use Rattle.type_check.proofs.ScopeLaws.{one-more}
 use Rattle.type_check.proofs.scope.with_variable.Statement.{statement}
 use Rattle.type_check.proofs.scope.with_variable.Tie as tie
 
-cast-variables : tie.Need-cast-variables
-cast-variables c = search needs
-
-mul-variables : tie.Need-mul-variables
-mul-variables c = search needs
-
-array-write-variables : tie.Need-array-write-variables
-array-write-variables c = search needs
-
-add-t7 : tie.Need-add-t7
-add-t7 c = search needs
-
 returns : tie.Need-returns
 returns c =
     let entry = c .before .before in
@@ -24,4 +12,4 @@ returns c =
 
 pub with-variable-spec : {M : Type 1} → statement M
 with-variable-spec =
-    tie.close (tie.spec cast-variables mul-variables array-write-variables add-t7 returns)
+    tie.close (tie.spec (λ c. search needs) (λ c. search needs) (λ c. search needs) (λ c. search needs) returns)

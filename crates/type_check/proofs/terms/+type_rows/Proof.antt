@@ -139,15 +139,6 @@ type-rows-type-rows-requires t c κs =
       ),
     )
 
-type-rows-enum-known-one : (t : ℕ) → type-rows-lts.Need-enum-known-one (type-rows-calls t) (type-rows-at t) type-rows.Post
-type-rows-enum-known-one t c = search needs
-
-type-rows-enum-told : (t : ℕ) → type-rows-lts.Need-enum-told (type-rows-calls t) (type-rows-at t) type-rows.Post
-type-rows-enum-told t c = search needs
-
-type-rows-same-length : (t : ℕ) → type-rows-lts.Need-same-length (type-rows-calls t) (type-rows-at t) type-rows.Post
-type-rows-same-length t c = search needs
-
 type-rows-returns-2 : (t : ℕ) → type-rows-lts.Need-returns-2 (type-rows-calls t) (type-rows-at t) type-rows.Post
 type-rows-returns-2 t c =
     let entry = c .before .before .before .before .before .before .before .before .before .before .before .before in
@@ -188,9 +179,6 @@ type-rows-shared-slice-copy-out-natural t c =
       entry .pre .1 .4 .1 .sizes,
     )
 
-type-rows-natural-requires : (t : ℕ) → type-rows-lts.Need-natural-requires (type-rows-calls t) (type-rows-at t) type-rows.Post
-type-rows-natural-requires t c κs = search needs
-
 type-rows-sized-array-requires : (t : ℕ) → type-rows-lts.Need-sized-array-requires (type-rows-calls t) (type-rows-at t) type-rows.Post
 type-rows-sized-array-requires t c κs =
     let entry = c .before .before .before .before .before .before .before .before .before .before .before
@@ -214,9 +202,6 @@ type-rows-sized-array-requires t c κs =
       b .0,
       b .1,
     )
-
-type-rows-same-length-2 : (t : ℕ) → type-rows-lts.Need-same-length-2 (type-rows-calls t) (type-rows-at t) type-rows.Post
-type-rows-same-length-2 t c = search needs
 
 type-rows-returns-3 : (t : ℕ) → type-rows-lts.Need-returns-3 (type-rows-calls t) (type-rows-at t) type-rows.Post
 type-rows-returns-3 t c =
@@ -398,15 +383,6 @@ type-rows-type-rows-requires-2 t c κs =
       ),
     )
 
-type-rows-enum-known-two : (t : ℕ) → type-rows-lts.Need-enum-known-two (type-rows-calls t) (type-rows-at t) type-rows.Post
-type-rows-enum-known-two t c = search needs
-
-type-rows-enum-told-2 : (t : ℕ) → type-rows-lts.Need-enum-told-2 (type-rows-calls t) (type-rows-at t) type-rows.Post
-type-rows-enum-told-2 t c = search needs
-
-type-rows-same-length-3 : (t : ℕ) → type-rows-lts.Need-same-length-3 (type-rows-calls t) (type-rows-at t) type-rows.Post
-type-rows-same-length-3 t c = search needs
-
 type-rows-returns-4 : (t : ℕ) → type-rows-lts.Need-returns-4 (type-rows-calls t) (type-rows-at t) type-rows.Post
 type-rows-returns-4 t c =
     let entry = c .before .before .before .before .before .before .before .before .before .before .before
@@ -476,9 +452,6 @@ type-rows-sized-pair-requires t c κs =
       f .2,
     )
 
-type-rows-same-length-4 : (t : ℕ) → type-rows-lts.Need-same-length-4 (type-rows-calls t) (type-rows-at t) type-rows.Post
-type-rows-same-length-4 t c = search needs
-
 type-rows-returns-5 : (t : ℕ) → type-rows-lts.Need-returns-5 (type-rows-calls t) (type-rows-at t) type-rows.Post
 type-rows-returns-5 t c =
     let entry = c .before .before .before .before .before .before .before .before .before .before .before
@@ -505,42 +478,13 @@ type-rows-returns-5 t c =
 
 pub +type-rows-spec : {M : Type 1} → statement M
 +type-rows-spec = close μ-type-rows λ t. type-rows-lts.spec (type-rows-calls t)
-    (type-rows-at t)
-    type-rows.Post
-    (type-rows-shared-slice-read-kind t)
-    (type-rows-add-line t)
-    (type-rows-returns t)
-    (type-rows-sub-type-rows t)
-    (type-rows-part-type-rows-start t)
-    (type-rows-part-type-rows-end t)
-    (type-rows-sub-type-rows-2 t)
-    (type-rows-part-type-rows-start-2 t)
-    (type-rows-part-type-rows-end-2 t)
-    (type-rows-type-rows-requires t)
-    (type-rows-enum-known-one t)
-    (type-rows-enum-told t)
-    (type-rows-same-length t)
-    (type-rows-returns-2 t)
-    (type-rows-add-at t)
-    (type-rows-shared-slice-copy-out-natural t)
-    (type-rows-natural-requires t)
-    (type-rows-sized-array-requires t)
-    (type-rows-same-length-2 t)
-    (type-rows-returns-3 t)
-    (type-rows-sub-type-rows-3 t)
-    (type-rows-part-type-rows-start-3 t)
-    (type-rows-part-type-rows-end-3 t)
-    (type-rows-mul-type-rows t)
-    (type-rows-sub-type-rows-4 t)
-    (type-rows-part-type-rows-start-4 t)
-    (type-rows-part-type-rows-end-4 t)
-    (type-rows-add-type-rows t)
-    (type-rows-type-rows-requires-2 t)
-    (type-rows-enum-known-two t)
-    (type-rows-enum-told-2 t)
-    (type-rows-same-length-3 t)
-    (type-rows-returns-4 t)
-    (type-rows-add-sized-pair t)
-    (type-rows-sized-pair-requires t)
-    (type-rows-same-length-4 t)
-    (type-rows-returns-5 t)
+    (type-rows-at t) type-rows.Post (type-rows-shared-slice-read-kind t) (type-rows-add-line t) (type-rows-returns t)
+    (type-rows-sub-type-rows t) (type-rows-part-type-rows-start t) (type-rows-part-type-rows-end t) (type-rows-sub-type-rows-2 t)
+    (type-rows-part-type-rows-start-2 t) (type-rows-part-type-rows-end-2 t) (type-rows-type-rows-requires t) (λ c. search needs)
+    (λ c. search needs) (λ c. search needs) (type-rows-returns-2 t) (type-rows-add-at t)
+    (type-rows-shared-slice-copy-out-natural t) (λ c κs. search needs) (type-rows-sized-array-requires t) (λ c. search needs)
+    (type-rows-returns-3 t) (type-rows-sub-type-rows-3 t) (type-rows-part-type-rows-start-3 t) (type-rows-part-type-rows-end-3 t)
+    (type-rows-mul-type-rows t) (type-rows-sub-type-rows-4 t) (type-rows-part-type-rows-start-4 t)
+    (type-rows-part-type-rows-end-4 t) (type-rows-add-type-rows t) (type-rows-type-rows-requires-2 t) (λ c. search needs)
+    (λ c. search needs) (λ c. search needs) (type-rows-returns-4 t) (type-rows-add-sized-pair t) (type-rows-sized-pair-requires t)
+    (λ c. search needs) (type-rows-returns-5 t)

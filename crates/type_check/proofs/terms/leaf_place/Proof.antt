@@ -14,9 +14,6 @@ mul-result c = record { fits = omega (arith, c .before .pre .0 (c .if1 .taken)) 
 element-copy-out-result : tie.Need-element-copy-out-result
 element-copy-out-result c = omega (arith, c .before .pre .0 (c .if1 .taken))
 
-cast-result : tie.Need-cast-result
-cast-result c = search needs
-
 returns : tie.Need-returns
 returns c = rw (c .before .if1 .taken)
 
@@ -31,9 +28,6 @@ mul-result-2 c = record { fits = omega (arith, c .before .before .pre .1 (c .if2
 
 element-copy-out-result-2 : tie.Need-element-copy-out-result-2
 element-copy-out-result-2 c = omega (arith, c .before .before .pre .1 (c .if2 .taken), c .before .before .pre .2)
-
-cast-result-2 : tie.Need-cast-result-2
-cast-result-2 c = search needs
 
 returns-2 : tie.Need-returns-2
 returns-2 c = rw (c .before .if2 .taken)
@@ -50,15 +44,5 @@ returns-3 c =
 pub leaf-place-spec : {M : Type 1} → statement M
 leaf-place-spec =
     tie.close
-    (tie.spec
-    mul-result
-    element-copy-out-result
-    cast-result
-    returns
-    add-result
-    sub-result
-    mul-result-2
-    element-copy-out-result-2
-    cast-result-2
-    returns-2
-    returns-3)
+    (tie.spec mul-result element-copy-out-result (λ c. search needs) returns add-result sub-result mul-result-2
+    element-copy-out-result-2 (λ c. search needs) returns-2 returns-3)

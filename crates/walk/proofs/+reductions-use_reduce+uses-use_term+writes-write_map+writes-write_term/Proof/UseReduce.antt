@@ -233,9 +233,6 @@ use-term-requires t c κs =
           (X .expressions) (X .term) (X .stands) (at-pre .1 .0) (at-rows-of .result) (at-rows-of .ensures) R,
     )
 
-pub after-use-requires : (t : ℕ) → use-reduce-lts.Need-after-use-requires (use-reduce-calls t) (use-reduce-at t) use-reduce.Post
-after-use-requires t c κs = tt
-
 pub sub-use-term-4 : (t : ℕ) → use-reduce-lts.Need-sub-use-term-4 (use-reduce-calls t) (use-reduce-at t) use-reduce.Post
 sub-use-term-4 t c =
     let entry = c .before .before .before .before .before .before .before .before .before .before .before .before .before .before in

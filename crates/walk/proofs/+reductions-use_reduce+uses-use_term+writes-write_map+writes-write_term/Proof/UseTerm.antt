@@ -35,9 +35,6 @@ shared-slice-copy-out-natural t c =
     (X .stands) in
     omega (arith, its-bounds)
 
-pub natural-requires : (t : ℕ) → use-term-lts.Need-natural-requires (use-term-calls t) (use-term-at t) use-term.Post
-natural-requires t c κs = tt
-
 pub shared-slice-read-place : (t : ℕ) → use-term-lts.Need-shared-slice-read-place (use-term-calls t) (use-term-at t) use-term.Post
 shared-slice-read-place t c =
     let entry = c .before .before .before .before .before .before .before in let at-pre = entry .pre in let at-args = entry .args in
@@ -103,9 +100,6 @@ returns t c =
     (getD (at-args .column .now) 0 0) _ S refl (natural-of (getD (at-args .numbers .now) 0 (pos 0))
     (record { sfits = at-natural-arg .given }) (at-natural .ensures .0)) refl refl
     (omega (arith, c .before .before .if1 .taken)) (q .0) (q .1) (q .2) (q .3) (q .4) (c .leaf .ensures)
-
-pub is-map-requires : (t : ℕ) → use-term-lts.Need-is-map-requires (use-term-calls t) (use-term-at t) use-term.Post
-is-map-requires t c κs = tt
 
 pub open-region-requires : (t : ℕ) → use-term-lts.Need-open-region-requires (use-term-calls t) (use-term-at t) use-term.Post
 open-region-requires t c κs =
@@ -269,9 +263,6 @@ use-term-requires t c κs =
           )) R,
     )
 
-pub has-one-operand-requires : (t : ℕ) → use-term-lts.Need-has-one-operand-requires (use-term-calls t) (use-term-at t) use-term.Post
-has-one-operand-requires t c κs = tt
-
 pub shared-slice-read-node-number :
     (t : ℕ) → use-term-lts.Need-shared-slice-read-node-number (use-term-calls t) (use-term-at t) use-term.Post
 shared-slice-read-node-number t c =
@@ -380,9 +371,6 @@ add-at t c =
     (at-args .plan .now) (at-args .references .now) (at-args .state) (X .inputs) (X .variables) (X .expressions) (X .term)
     (X .stands) in
     record { fits = omega (arith, its-first-reach, its-bounds, R .plan) }
-
-pub after-use-requires : (t : ℕ) → use-term-lts.Need-after-use-requires (use-term-calls t) (use-term-at t) use-term.Post
-after-use-requires t c κs = tt
 
 pub sub-use-term-4 : (t : ℕ) → use-term-lts.Need-sub-use-term-4 (use-term-calls t) (use-term-at t) use-term.Post
 sub-use-term-4 t c =

@@ -37,9 +37,6 @@ shared-slice-copy-out-natural t c =
     (X .stands) in
     omega (arith, its-bounds)
 
-pub natural-requires : (t : ℕ) → write-term-lts.Need-natural-requires (write-term-calls t) (write-term-at t) write-term.Post
-natural-requires t c κs = tt
-
 pub shared-slice-read-place :
     (t : ℕ) → write-term-lts.Need-shared-slice-read-place (write-term-calls t) (write-term-at t) write-term.Post
 shared-slice-read-place t c =
@@ -59,9 +56,6 @@ cast-place t c =
     (X .stands) in
     record { fits = omega (arith, its-typed, R .types .few) }
 
-pub is-map-requires : (t : ℕ) → write-term-lts.Need-is-map-requires (write-term-calls t) (write-term-at t) write-term.Post
-is-map-requires t c κs = tt
-
 pub write-map-requires : (t : ℕ) → write-term-lts.Need-write-map-requires (write-term-calls t) (write-term-at t) write-term.Post
 write-map-requires t c κs =
     let at-pre = c .before .before .before .before .before .before .before .before .before .before .before .before .pre in (
@@ -75,9 +69,6 @@ write-map-requires t c κs =
 
 pub returns : (t : ℕ) → write-term-lts.Need-returns (write-term-calls t) (write-term-at t) write-term.Post
 returns t c = c .write-map .ensures
-
-pub is-paired-requires : (t : ℕ) → write-term-lts.Need-is-paired-requires (write-term-calls t) (write-term-at t) write-term.Post
-is-paired-requires t c κs = tt
 
 pub into-first-requires : (t : ℕ) → write-term-lts.Need-into-first-requires (write-term-calls t) (write-term-at t) write-term.Post
 into-first-requires t c κs =
@@ -596,10 +587,6 @@ returns-2 t c =
     (at-args .state) I Γ Δ e S l (at-args .target) (at-pre .1 .0) (at-into-first .ensures .0) (at-write-term .ensures)
     (sym (at-is-paired .ensures) ∙ at-if2 .taken) (at-into-second .ensures .0))) (c .later .ensures)
 
-pub is-regrouped-requires :
-    (t : ℕ) → write-term-lts.Need-is-regrouped-requires (write-term-calls t) (write-term-at t) write-term.Post
-is-regrouped-requires t c κs = tt
-
 pub shared-slice-read-node-number :
     (t : ℕ) → write-term-lts.Need-shared-slice-read-node-number (write-term-calls t) (write-term-at t) write-term.Post
 shared-slice-read-node-number t c =
@@ -639,9 +626,6 @@ node-number-requires t c κs =
     (at-args .references .now) (at-args .state) (X .inputs) (X .variables) (X .expressions) (X .term) (X .stands) (sym
     (c .before .before .is-regrouped .ensures) ∙ c .before .if3 .taken) .0) (at-natural .result) (natural-of
     (getD (at-args .numbers .now) 0 (pos 0)) (record { sfits = at-natural-arg .given }) (at-natural .ensures .0)) (R .types)
-
-pub regrouped-requires : (t : ℕ) → write-term-lts.Need-regrouped-requires (write-term-calls t) (write-term-at t) write-term.Post
-regrouped-requires t c κs = tt
 
 pub into-part-requires : (t : ℕ) → write-term-lts.Need-into-part-requires (write-term-calls t) (write-term-at t) write-term.Post
 into-part-requires t c κs =

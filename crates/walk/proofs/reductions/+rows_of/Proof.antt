@@ -78,9 +78,6 @@ rows-of-add-one t c =
       );
     }
 
-rows-of-has-one-operand-requires : (t : ℕ) → rows-of-lts.Need-has-one-operand-requires (rows-of-calls t) (rows-of-at t) rows-of.Post
-rows-of-has-one-operand-requires t c κs = tt
-
 rows-of-returns-2 : (t : ℕ) → rows-of-lts.Need-returns-2 (rows-of-calls t) (rows-of-at t) rows-of.Post
 rows-of-returns-2 t c =
     let entry = c .before .before .before .before .before .before .before in
@@ -288,26 +285,9 @@ rows-of-returns-4 t c =
 
 pub +rows-of-spec : {M : Type 1} → statement M
 +rows-of-spec = close μ-rows-of λ t. rows-of-lts.spec (rows-of-calls t)
-    (rows-of-at t)
-    rows-of.Post
-    (rows-of-shared-slice-read-kind t)
-    (rows-of-returns t)
-    (rows-of-sub-rows-of t)
-    (rows-of-part-rows-of-start t)
-    (rows-of-part-rows-of-end t)
-    (rows-of-rows-of-requires t)
-    (rows-of-add-one t)
-    (rows-of-has-one-operand-requires t)
-    (rows-of-returns-2 t)
-    (rows-of-sub-rows-of-2 t)
-    (rows-of-part-rows-of-start-2 t)
-    (rows-of-part-rows-of-end-2 t)
-    (rows-of-rows-of-requires-2 t)
-    (rows-of-add-two t)
-    (rows-of-returns-3 t)
-    (rows-of-sub-rows-of-3 t)
-    (rows-of-part-rows-of-start-3 t)
-    (rows-of-part-rows-of-end-3 t)
-    (rows-of-rows-of-requires-3 t)
-    (rows-of-add-result t)
+    (rows-of-at t) rows-of.Post (rows-of-shared-slice-read-kind t) (rows-of-returns t) (rows-of-sub-rows-of t)
+    (rows-of-part-rows-of-start t) (rows-of-part-rows-of-end t) (rows-of-rows-of-requires t) (rows-of-add-one t) (λ c κs. tt)
+    (rows-of-returns-2 t) (rows-of-sub-rows-of-2 t) (rows-of-part-rows-of-start-2 t) (rows-of-part-rows-of-end-2 t)
+    (rows-of-rows-of-requires-2 t) (rows-of-add-two t) (rows-of-returns-3 t) (rows-of-sub-rows-of-3 t)
+    (rows-of-part-rows-of-start-3 t) (rows-of-part-rows-of-end-3 t) (rows-of-rows-of-requires-3 t) (rows-of-add-result t)
     (rows-of-returns-4 t)

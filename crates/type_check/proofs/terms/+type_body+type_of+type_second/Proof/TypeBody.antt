@@ -30,12 +30,6 @@ third-requires t c κs =
     (args′ .types .now) (args′ .row) (args′ .scope) (args′ .start) (args′ .array) (args′ .at) (pre′ .1 .0)
     (pre′ .1 .1 .0) (pre′ .1 .1 .1) (pre′ .1 .1 .2) (pre′ .1 .1 .3) (pre′ .1 .1 .4)
 
-pub misfit-requires : (t : ℕ) → type-body-lts.Need-misfit-requires (type-body-calls t) (type-body-at t) type-body.Post
-misfit-requires t c κs = search needs
-
-pub same-length : (t : ℕ) → type-body-lts.Need-same-length (type-body-calls t) (type-body-at t) type-body.Post
-same-length t c = search needs
-
 pub returns : (t : ℕ) → type-body-lts.Need-returns (type-body-calls t) (type-body-at t) type-body.Post
 returns t c =
     let entry = c .before .before .before .before .before .before .before .before in
@@ -189,17 +183,8 @@ type-of-requires t c κs =
       ),
     )
 
-pub enum-known-three : (t : ℕ) → type-body-lts.Need-enum-known-three (type-body-calls t) (type-body-at t) type-body.Post
-enum-known-three t c = search needs
-
 pub enum-told : (t : ℕ) → type-body-lts.Need-enum-told (type-body-calls t) (type-body-at t) type-body.Post
 enum-told t c = search needs
-
-pub same-length-2 : (t : ℕ) → type-body-lts.Need-same-length-2 (type-body-calls t) (type-body-at t) type-body.Post
-same-length-2 t c = search needs
-
-pub same-length-3 : (t : ℕ) → type-body-lts.Need-same-length-3 (type-body-calls t) (type-body-at t) type-body.Post
-same-length-3 t c = search needs
 
 pub returns-2 : (t : ℕ) → type-body-lts.Need-returns-2 (type-body-calls t) (type-body-at t) type-body.Post
 returns-2 t c =
@@ -294,12 +279,6 @@ put-type-requires t c κs =
       place-small _ _ _ _ _ _
           (reduce′ .result) (reduce′ .ensures),
     )
-
-pub same-length-4 : (t : ℕ) → type-body-lts.Need-same-length-4 (type-body-calls t) (type-body-at t) type-body.Post
-same-length-4 t c = search needs
-
-pub same-length-5 : (t : ℕ) → type-body-lts.Need-same-length-5 (type-body-calls t) (type-body-at t) type-body.Post
-same-length-5 t c = search needs
 
 pub returns-3 : (t : ℕ) → type-body-lts.Need-returns-3 (type-body-calls t) (type-body-at t) type-body.Post
 returns-3 t c =

@@ -40,9 +40,6 @@ shared-slice-copy-out-natural t c =
       pre′ .1 .1 .3 .term .sizes,
     )
 
-pub natural-requires : (t : ℕ) → type-of-lts.Need-natural-requires (type-of-calls t) (type-of-at t) type-of.Post
-natural-requires t c κs = search needs
-
 pub add-line : (t : ℕ) → type-of-lts.Need-add-line (type-of-calls t) (type-of-at t) type-of.Post
 add-line t c =
     let pre′ = c .before .before .before .before .before .before .pre in
@@ -78,9 +75,6 @@ put-type-requires t c κs =
           (record { sfits = natural-arg′ .given }) (natural′ .ensures .0)) (leaf-place′ .result)
           (leaf-place′ .ensures),
     )
-
-pub same-length : (t : ℕ) → type-of-lts.Need-same-length (type-of-calls t) (type-of-at t) type-of.Post
-same-length t c = search needs
 
 pub returns : (t : ℕ) → type-of-lts.Need-returns (type-of-calls t) (type-of-at t) type-of.Post
 returns t c =
@@ -199,17 +193,8 @@ type-of-requires t c κs =
       ),
     )
 
-pub enum-known-one : (t : ℕ) → type-of-lts.Need-enum-known-one (type-of-calls t) (type-of-at t) type-of.Post
-enum-known-one t c = search needs
-
 pub enum-told : (t : ℕ) → type-of-lts.Need-enum-told (type-of-calls t) (type-of-at t) type-of.Post
 enum-told t c = search needs
-
-pub same-length-2 : (t : ℕ) → type-of-lts.Need-same-length-2 (type-of-calls t) (type-of-at t) type-of.Post
-same-length-2 t c = search needs
-
-pub same-length-3 : (t : ℕ) → type-of-lts.Need-same-length-3 (type-of-calls t) (type-of-at t) type-of.Post
-same-length-3 t c = search needs
 
 pub returns-2 : (t : ℕ) → type-of-lts.Need-returns-2 (type-of-calls t) (type-of-at t) type-of.Post
 returns-2 t c =
@@ -246,9 +231,6 @@ add-at t c =
         pre′ .1 .0 .few,
       );
     }
-
-pub has-one-operand-requires : (t : ℕ) → type-of-lts.Need-has-one-operand-requires (type-of-calls t) (type-of-at t) type-of.Post
-has-one-operand-requires t c κs = search needs
 
 pub unary-requires : (t : ℕ) → type-of-lts.Need-unary-requires (type-of-calls t) (type-of-at t) type-of.Post
 unary-requires t c κs =
@@ -300,12 +282,6 @@ put-type-requires-2 t c κs =
       ),
       place-small _ _ _ _ _ _ (unary′ .result) (unary′ .ensures),
     )
-
-pub same-length-4 : (t : ℕ) → type-of-lts.Need-same-length-4 (type-of-calls t) (type-of-at t) type-of.Post
-same-length-4 t c = search needs
-
-pub same-length-5 : (t : ℕ) → type-of-lts.Need-same-length-5 (type-of-calls t) (type-of-at t) type-of.Post
-same-length-5 t c = search needs
 
 pub returns-3 : (t : ℕ) → type-of-lts.Need-returns-3 (type-of-calls t) (type-of-at t) type-of.Post
 returns-3 t c =
@@ -378,12 +354,6 @@ type-second-requires t c κs =
         ),
       ),
     )
-
-pub same-length-6 : (t : ℕ) → type-of-lts.Need-same-length-6 (type-of-calls t) (type-of-at t) type-of.Post
-same-length-6 t c = search needs
-
-pub same-length-7 : (t : ℕ) → type-of-lts.Need-same-length-7 (type-of-calls t) (type-of-at t) type-of.Post
-same-length-7 t c = search needs
 
 pub returns-4 : (t : ℕ) → type-of-lts.Need-returns-4 (type-of-calls t) (type-of-at t) type-of.Post
 returns-4 t c =

@@ -40,12 +40,6 @@ second-requires t c κs =
     (args′ .types .now) (args′ .row) (args′ .scope) (args′ .first) (args′ .at) (pre′ .1 .0) (pre′ .1 .1 .0)
     (pre′ .1 .1 .1) (pre′ .1 .1 .2) (pre′ .1 .1 .3) (pre′ .1 .1 .4)
 
-pub misfit-requires : (t : ℕ) → type-second-lts.Need-misfit-requires (type-second-calls t) (type-second-at t) type-second.Post
-misfit-requires t c κs = search needs
-
-pub same-length : (t : ℕ) → type-second-lts.Need-same-length (type-second-calls t) (type-second-at t) type-second.Post
-same-length t c = search needs
-
 pub returns : (t : ℕ) → type-second-lts.Need-returns (type-second-calls t) (type-second-at t) type-second.Post
 returns t c =
     let entry = c .before .before .before .before .before .before .before .before .before in
@@ -204,17 +198,8 @@ type-of-requires t c κs =
       ),
     )
 
-pub enum-known-two : (t : ℕ) → type-second-lts.Need-enum-known-two (type-second-calls t) (type-second-at t) type-second.Post
-enum-known-two t c = search needs
-
 pub enum-told : (t : ℕ) → type-second-lts.Need-enum-told (type-second-calls t) (type-second-at t) type-second.Post
 enum-told t c = search needs
-
-pub same-length-2 : (t : ℕ) → type-second-lts.Need-same-length-2 (type-second-calls t) (type-second-at t) type-second.Post
-same-length-2 t c = search needs
-
-pub same-length-3 : (t : ℕ) → type-second-lts.Need-same-length-3 (type-second-calls t) (type-second-at t) type-second.Post
-same-length-3 t c = search needs
 
 pub returns-2 : (t : ℕ) → type-second-lts.Need-returns-2 (type-second-calls t) (type-second-at t) type-second.Post
 returns-2 t c =
@@ -303,12 +288,6 @@ type-body-requires t c κs =
       ),
     )
 
-pub same-length-4 : (t : ℕ) → type-second-lts.Need-same-length-4 (type-second-calls t) (type-second-at t) type-second.Post
-same-length-4 t c = search needs
-
-pub same-length-5 : (t : ℕ) → type-second-lts.Need-same-length-5 (type-second-calls t) (type-second-at t) type-second.Post
-same-length-5 t c = search needs
-
 pub returns-3 : (t : ℕ) → type-second-lts.Need-returns-3 (type-second-calls t) (type-second-at t) type-second.Post
 returns-3 t c =
     let entry = c .before .before .before .before .before .before .before .before .before .before .before
@@ -394,12 +373,6 @@ put-type-requires t c κs =
       place-small _ _ _ _ _ _ (binary′ .result)
           (binary′ .ensures),
     )
-
-pub same-length-6 : (t : ℕ) → type-second-lts.Need-same-length-6 (type-second-calls t) (type-second-at t) type-second.Post
-same-length-6 t c = search needs
-
-pub same-length-7 : (t : ℕ) → type-second-lts.Need-same-length-7 (type-second-calls t) (type-second-at t) type-second.Post
-same-length-7 t c = search needs
 
 pub returns-4 : (t : ℕ) → type-second-lts.Need-returns-4 (type-second-calls t) (type-second-at t) type-second.Post
 returns-4 t c =
