@@ -20,7 +20,8 @@ use Rattle.arithmetic.specs.Arithmetic.{clamp, sum, difference, product, negati
 use Rattle.refusals.specs.Refusals.{numberOf, lineOf}
 use Rattle.words.specs.Words.{bytes, table, words, sameLetters, lookFrom, operandsOf}
 use Rattle.numerals.specs.Numerals.{allDigits, value, leadingZero, unsigned, notBelowZero, belowZero, numberOf as numeralOf, lastDigits, digits, decimal}
-use Rattle.lines.specs.Reading.{linesOf, placeOf, lineOf as rowOf, rowsIn, formed, reading}
+use Rattle.texts.specs.Texts.{linesOf, placeOf}
+use Rattle.lines.specs.Reading.{lineOf as rowOf, rowsIn, formed, reading}
 use Rattle.lines.specs.Lent.{textRows}
 use Rattle.lines.specs.Printing.{written, textOf}
 use Rattle.meaning.specs.Loops.{Loops}

@@ -17,7 +17,8 @@ use Rattle.refusals.specs.declared.Refusal.{Refusal}
 use Rattle.words.specs.Kinds.{Row, rowsOf}
 use Rattle.lines.specs.Lent.{textRows}
 use Rattle.lines.specs.Printing.{textOf}
-use Rattle.lines.specs.Reading.{linesOf, kindsOf, numbersOf}
+use Rattle.texts.specs.Texts.{linesOf}
+use Rattle.lines.specs.Reading.{kindsOf, numbersOf}
 use Rattle.lines.specs.declared.Printing.{Printing}
 use Rattle.lines.specs.declared.Reading.{Reading}
 use Rattle.meaning.specs.Terms.{Plan}

@@ -8,7 +8,8 @@ use Rattle.words.specs.Kinds.{Row, rowsOf}
 use Rattle.words.specs.Words.{lookUp}
 use Rattle.lines.specs.Lent.{textRows}
 use Rattle.lines.specs.Printing.{textOf}
-use Rattle.lines.specs.Reading.{linesOf, headOf}
+use Rattle.texts.specs.Texts.{linesOf}
+use Rattle.lines.specs.Reading.{headOf}
 use Rattle.lines.specs.Laws.{rows-back, reads-back, prints-back}
 use Rattle.lines.specs.declared.Heads.the-variants.{Words}
 use Rattle.lines.specs.declared.Limits.{Limits}

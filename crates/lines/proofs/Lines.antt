@@ -20,9 +20,10 @@ use Rattle.numerals.specs.Numerals.{numberOf}
 use Rattle.numerals.specs.Laws.{in-range}
 use Rattle.numerals.specs.declared.Numeral.{Numeral}
 use Rattle.numerals.specs.declared.Numeral.the-variants.{Is, Malformed}
-use Rattle.lines.specs.Reading.{placeOf, beforeComma, cellOf, headOf, paired, lineOf, linesOf, addRow, rowsIn, whether, formed}
-use Rattle.lines.specs.LineLaws.{lines-from, lines-done}
-use Rattle.lines.specs.Steps.{firstLine, afterFirst, Below}
+use Rattle.texts.specs.Texts.{placeOf, beforeComma, linesOf, firstLine, afterFirst}
+use Rattle.lines.specs.Reading.{cellOf, headOf, paired, lineOf, addRow, rowsIn, whether, formed}
+use Rattle.texts.specs.Laws.{lines-from, lines-done}
+use Rattle.lines.specs.Below.{Below}
 use Rattle.lines.specs.declared.Heads.the-variants.{Words, Cells}
 use Rattle.lines.specs.declared.Reading.the-variants.{Rows, Refused}
 use Rattle.lines.specs.declared.Line.{Line}

@@ -12,7 +12,8 @@ use lib.Seq.{sets, sets-eq}
 use Rattle.words.specs.declared.Found.{Found}
 use Rattle.refusals.specs.declared.Refusal.{Refusal}
 use Rattle.refusals.specs.declared.Refusal.the-variants.{TextForm, LineCount}
-use Rattle.lines.specs.Reading.{linesOf, closed, formed, limited, reading, roomFor, filled}
+use Rattle.texts.specs.Texts.{linesOf}
+use Rattle.lines.specs.Reading.{closed, formed, limited, reading, roomFor, filled}
 use Rattle.lines.specs.declared.Limits.{Limits}
 use Rattle.lines.specs.declared.Reading.{Reading}
 use Rattle.lines.specs.declared.Reading.the-variants.{Rows, Refused}

@@ -23,14 +23,15 @@ use Rattle.words.specs.Laws.{found-word, own-place, word-formed}
 use Rattle.words.specs.declared.Found.{Found}
 use Rattle.words.specs.declared.Found.the-variants.{At, NotListed}
 use Rattle.numerals.specs.Numerals.{numberOf, decimal}
-use Rattle.numerals.specs.Laws.{Free, read-back, one-way, no-line-end, decimal-length, decimal-short, decimal-nonempty}
+use Rattle.texts.specs.Laws.{Free, lines-within, place-behind, place-split, lines-line, together, Closed, lines-together, last-closed, closed-last}
+use Rattle.numerals.specs.Laws.{read-back, one-way, no-line-end, decimal-length, decimal-short, decimal-nonempty}
 use Rattle.numerals.specs.declared.Numeral.{Numeral}
 use Rattle.numerals.specs.declared.Numeral.the-variants.{Is, Malformed}
 use Rattle.refusals.specs.declared.Refusal.{Refusal}
 use Rattle.refusals.specs.declared.Refusal.the-variants.{TextForm, LineForm, LineCount}
-use Rattle.lines.specs.Reading.{linesOf, placeOf, beforeComma, afterComma, paired, lineOf, addRow, rowsIn, closed, whether, formed, limited, reading}
+use Rattle.texts.specs.Texts.{linesOf, placeOf, beforeComma, afterComma}
+use Rattle.lines.specs.Reading.{paired, lineOf, addRow, rowsIn, closed, whether, formed, limited, reading}
 use Rattle.lines.specs.Printing.{written, textOf, Printable, Each}
-use Rattle.lines.specs.LineLaws.{lines-within, place-behind, place-split, lines-line, together, Closed, lines-together, last-closed, closed-last}
 use Rattle.lines.specs.declared.Line.{Line}
 use Rattle.lines.specs.declared.Line.the-variants.{IsRow, NoRow}
 use Rattle.lines.specs.declared.Limits.{Limits}

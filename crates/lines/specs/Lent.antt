@@ -9,7 +9,8 @@ use lib.IntN.{ℤ}
 use lib.ListN.{length, drop}
 use Rattle.refusals.specs.declared.Refusal.the-variants.{LentSize}
 use Rattle.words.specs.Kinds.{Row}
-use Rattle.lines.specs.Reading.{linesOf, rowsIn, headOf, kindsOf, numbersOf}
+use Rattle.texts.specs.Texts.{linesOf}
+use Rattle.lines.specs.Reading.{rowsIn, headOf, kindsOf, numbersOf}
 use Rattle.lines.specs.declared.Heads.the-variants.{Words}
 use Rattle.lines.specs.declared.Reading.{Reading}
 use Rattle.lines.specs.declared.Reading.the-variants.{Rows, Refused}

@@ -5,8 +5,7 @@ pub mod Reading
 pub mod Lent
 pub mod Printing
 -- What the contracts of parts say besides
-pub mod Steps
+pub mod Below
 -- Their laws
-pub mod LineLaws
 pub mod Laws
 pub mod TableLaws

@@ -12,6 +12,7 @@ use Rattle.words.specs.Kinds.{Row}
 use Rattle.words.specs.Words.{lookUp}
 use Rattle.words.specs.declared.Found.{Found}
 use Rattle.words.specs.declared.Found.the-variants.{At, NotListed}
+use Rattle.texts.specs.Texts.{linesOf, beforeComma, afterComma}
 use Rattle.numerals.specs.Numerals.{numberOf}
 use Rattle.numerals.specs.declared.Numeral.{Numeral}
 use Rattle.numerals.specs.declared.Numeral.the-variants.{Is, Malformed}
@@ -22,29 +23,6 @@ use Rattle.lines.specs.declared.Line.the-variants.{IsRow, NoRow}
 use Rattle.lines.specs.declared.Limits.{Limits}
 use Rattle.lines.specs.declared.Reading.{Reading}
 use Rattle.lines.specs.declared.Reading.the-variants.{Rows, Refused}
-
--- ---- lines
-
--- [1.1] Each line ends with byte 10. Bytes behind the last byte 10 would be one line more.
-abbrev pub begin : ℕ → List (List ℕ) → List (List ℕ)
-begin b [] = (b ∷ []) ∷ []
-begin b (l ∷ ls) = (b ∷ l) ∷ ls
-
-unfoldable pub linesOf : List ℕ → List (List ℕ)
-linesOf [] = []
-linesOf (b ∷ bs) = cond (eqb b 10) ([] ∷ linesOf bs) (begin b (linesOf bs))
-
--- where byte b first stands; the length where it does not
-unfoldable pub placeOf : ℕ → List ℕ → ℕ
-placeOf b [] = 0
-placeOf b (c ∷ cs) = cond (eqb c b) 0 (suc (placeOf b cs))
-
--- [1.2] What stands before the first comma, byte 44, of a line, and what behind it; a second comma makes this no number.
-abbrev pub beforeComma : List ℕ → List ℕ
-beforeComma l = take (placeOf 44 l) l
-
-abbrev pub afterComma : List ℕ → List ℕ
-afterComma l = drop (suc (placeOf 44 l)) l
 
 -- ---- a line's row
 
@@ -64,7 +42,7 @@ paired (At k) (Is z) = IsRow k z
 paired (At k) Malformed = NoRow
 paired NotListed n = NoRow
 
--- [1.2] A line is a word, one comma and a number.
+-- [1.2] A line is a word, one comma and a number; a second comma makes what is behind the first no number.
 unfoldable pub lineOf : (List ℕ → Found) → List ℕ → Line
 lineOf head l = paired (head (beforeComma l)) (numberOf (afterComma l))
 

@@ -13,7 +13,8 @@ use lib.Seq.{take-at}
 use Rattle.refusals.specs.declared.Refusal.the-variants.{LineCount, TextForm, LentSize}
 use Rattle.words.specs.Kinds.{Row, rowsOf}
 use Rattle.words.specs.declared.Found.{Found}
-use Rattle.lines.specs.Reading.{linesOf, rowsIn, closed, formed, limited, reading, roomFor, kindsOf, numbersOf, filled, ReadInto}
+use Rattle.texts.specs.Texts.{linesOf}
+use Rattle.lines.specs.Reading.{rowsIn, closed, formed, limited, reading, roomFor, kindsOf, numbersOf, filled, ReadInto}
 use Rattle.lines.specs.Lent.{askRoom}
 use Rattle.lines.specs.Laws.{rows-read}
 use Rattle.lines.specs.declared.Limits.{Limits}

@@ -6,8 +6,9 @@ ghost use lib.ListN.{length, drop};
 ghost use lib.Seq.{sets};
 ghost use Rattle.words.specs.Kinds.{Row};
 ghost use Rattle.words.specs.Words.{words};
-ghost use Rattle.lines.specs.Reading.{placeOf, cellOf, headOf, lineOf, linesOf, addRow, rowsIn, formed, reading, kindsOf, numbersOf};
-ghost use Rattle.lines.specs.Steps.{firstLine, afterFirst, Below};
+ghost use Rattle.texts.specs.Texts.{linesOf, firstLine, afterFirst};
+ghost use Rattle.lines.specs.Reading.{cellOf, headOf, lineOf, addRow, rowsIn, formed, reading, kindsOf, numbersOf};
+ghost use Rattle.lines.specs.Below.{Below};
 ghost use Rattle.lines.specs.declared.Heads.the-variants.{Words, Cells};
 use crate::Heads;
 use crate::Limits;
@@ -21,20 +22,6 @@ use words::Found;
 pub struct Next {
     pub line: Line,
     pub after: usize,
-}
-
-// Where the byte first stands; the length where it does not.
-fn place_of(byte: u8, bytes: &[u8]) -> usize
-    ensures { λ r. ⌜ (r ≡ placeOf byte (now (bytes .entry))) × (r ≤ length (now (bytes .entry))) ⌝ }
-{
-    let mut i = 0;
-    while i < bytes.len() {
-        if bytes[i] == byte {
-            return i;
-        }
-        i += 1;
-    }
-    i
 }
 
 // [11.3], [11.4] The cell that a number names.
@@ -66,7 +53,7 @@ fn head_of(heads: Heads, bytes: &[u8]) -> Found
 fn line_of(heads: Heads, line: &[u8]) -> Line
     ensures { λ r. ⌜ r ≡ lineOf (headOf words heads) (now (line .entry)) ⌝ }
 {
-    let comma = place_of(b',', line);
+    let comma = texts::field_length(line);
     let head = head_of(heads, &line[..comma]);
     let Found::At(kind) = head else {
         return Line::NoRow;
@@ -90,7 +77,7 @@ fn next_line(heads: Heads, text: &[u8], at: usize) -> Next
         × (r .after ≤ length (now (text .entry)) + 1) ⌝ }
 {
     let rest = &text[at..];
-    let end = place_of(b'\n', rest);
+    let end = texts::line_length(rest);
     let line = line_of(heads, &rest[..end]);
     Next {
         line,

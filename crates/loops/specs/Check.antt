@@ -9,7 +9,8 @@ use Rattle.refusals.specs.declared.Refusal.{Refusal}
 use Rattle.refusals.specs.declared.Refusal.the-variants.{LineCount, WriteCount}
 use Rattle.words.specs.Kinds.{Row}
 use Rattle.words.specs.declared.Sort.the-variants as sort
-use Rattle.lines.specs.Reading.{linesOf, rowsIn, reading, headOf, loopsLimits}
+use Rattle.texts.specs.Texts.{linesOf}
+use Rattle.lines.specs.Reading.{rowsIn, reading, headOf, loopsLimits}
 use Rattle.lines.specs.declared.Heads.the-variants.{Words}
 use Rattle.lines.specs.declared.Reading.{Reading}
 use Rattle.lines.specs.declared.Reading.the-variants as read

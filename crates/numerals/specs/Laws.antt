@@ -14,6 +14,7 @@ use lib.ListN.{length, getD}
 use mir.Syntax.{w32}
 use mir.Val.{SFits}
 use Rattle.numerals.specs.declared.Numeral.the-variants.{Is, Malformed}
+use Rattle.texts.specs.Laws.{Free}
 use Rattle.numerals.specs.Numerals.{digit, allDigits, unsigned, notBelowZero, belowZero, numberOf, digits, decimal}
 use Rattle.numerals.specs.DigitLaws as laws
 
@@ -109,11 +110,6 @@ pub decimal-short : (n : ℕ) → n ≤ 9999 → length (decimal (pos n)) ≤ 4
 decimal-short n h = laws.decimal-length 3 n (omega arith)
 
 -- ---- which bytes
-
--- No byte of the list is b.
-abbrev pub Free : ℕ → List ℕ → Type 0
-Free b [] = Unit {0}
-Free b (c ∷ cs) = (c ≢ b) × Free b cs
 
 digits-free : (b : ℕ) (ds : List ℕ) → digit b ≡ false → allDigits ds ≡ true → Free b ds
 digits-free b [] h k = tt

@@ -11,7 +11,8 @@ use Rattle.refusals.specs.declared.Refusal.{Refusal}
 use Rattle.refusals.specs.declared.Refusal.the-variants.{LentSize}
 use Rattle.words.specs.Kinds.{Row, rowsOf}
 use Rattle.words.specs.declared.Found.{Found}
-use Rattle.lines.specs.Reading.{linesOf, reading, rowsIn, headOf, planLimits, ReadInto}
+use Rattle.texts.specs.Texts.{linesOf}
+use Rattle.lines.specs.Reading.{reading, rowsIn, headOf, planLimits, ReadInto}
 use Rattle.lines.specs.Lent.{askRoom}
 use Rattle.lines.specs.TableLaws.{read-few, rows-held, room-asked, kinds-filled, numbers-filled}
 use Rattle.lines.specs.declared.Heads.the-variants.{Words}

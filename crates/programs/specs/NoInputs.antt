@@ -13,7 +13,8 @@ use Rattle.refusals.specs.declared.Refusal.the-variants.{StoreSize}
 use Rattle.words.specs.Kinds.{Row, word-loops}
 use Rattle.words.specs.Words.{bytes, table, words, sameLetters, lookFrom}
 use Rattle.numerals.specs.Numerals.{allDigits, value, leadingZero, unsigned, notBelowZero, belowZero, numberOf}
-use Rattle.lines.specs.Reading.{linesOf, placeOf, lineOf, rowsIn}
+use Rattle.texts.specs.Texts.{linesOf, placeOf}
+use Rattle.lines.specs.Reading.{lineOf, rowsIn}
 use Rattle.lines.specs.Lent.{textRows}
 use Rattle.meaning.specs.Loops.{Loops}
 use Rattle.meaning.specs.Layout.{allCells}

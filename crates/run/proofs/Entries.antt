@@ -12,7 +12,8 @@ use Rattle.refusals.specs.declared.Refusal.{Refusal}
 use Rattle.refusals.specs.declared.Refusal.the-variants.{UnknownOrder, StoreSize}
 use Rattle.words.specs.Kinds.{Row, rowsOf}
 use Rattle.words.specs.Laws.{rows-length}
-use Rattle.lines.specs.Reading.{linesOf, rowsIn, headOf, loopsLimits, ReadInto}
+use Rattle.texts.specs.Texts.{linesOf}
+use Rattle.lines.specs.Reading.{rowsIn, headOf, loopsLimits, ReadInto}
 use Rattle.lines.specs.TableLaws.{read-few, rows-held}
 use Rattle.lines.specs.Laws.{rows-read}
 use Rattle.lines.specs.declared.Heads.the-variants.{Words}

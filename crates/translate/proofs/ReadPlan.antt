@@ -8,7 +8,8 @@ use lib.ListN.{length, take}
 use Rattle.refusals.specs.declared.Refusal.{Refusal}
 use Rattle.words.specs.Kinds.{Row, rowsOf}
 use Rattle.words.specs.Words.{lookUp}
-use Rattle.lines.specs.Reading.{linesOf, rowsIn, reading, headOf, planLimits, ReadInto}
+use Rattle.texts.specs.Texts.{linesOf}
+use Rattle.lines.specs.Reading.{rowsIn, reading, headOf, planLimits, ReadInto}
 use Rattle.lines.specs.TableLaws.{read-few, rows-held}
 use Rattle.lines.specs.declared.Heads.the-variants.{Words}
 use Rattle.lines.specs.declared.Reading.{Reading}

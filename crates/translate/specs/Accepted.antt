@@ -3,7 +3,8 @@ use mathlib.Core.Path.{_≡_}
 use mathlib.Core.List.{List, []}
 use Prim.Native.Nat.{ℕ}
 use Rattle.words.specs.Words.{lookUp}
-use Rattle.lines.specs.Reading.{linesOf, rowsIn}
+use Rattle.texts.specs.Texts.{linesOf}
+use Rattle.lines.specs.Reading.{rowsIn}
 use Rattle.meaning.specs.Types.{DataType}
 use Rattle.meaning.specs.Terms.{Plan}
 use Rattle.meaning.specs.Typing.{HasType}

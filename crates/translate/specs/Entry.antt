@@ -10,7 +10,8 @@ use lib.ListN.{length}
 use Rattle.refusals.specs.declared.Refusal.the-variants.{LoopsLength, WriteCount, LentSize}
 use Rattle.words.specs.Kinds.{Row}
 use Rattle.words.specs.Words.{lookUp}
-use Rattle.lines.specs.Reading.{linesOf, rowsIn, kindsOf, numbersOf, filled}
+use Rattle.texts.specs.Texts.{linesOf}
+use Rattle.lines.specs.Reading.{rowsIn, kindsOf, numbersOf, filled}
 use Rattle.lines.specs.Printing.{textOf, printing}
 use Rattle.lines.specs.declared.Printing.{Printing}
 use Rattle.lines.specs.declared.Printing.the-variants as print

@@ -15,7 +15,8 @@ use Rattle.refusals.specs.declared.Refusal.{Refusal}
 use Rattle.refusals.specs.declared.Refusal.the-variants.{LentSize}
 use Rattle.words.specs.Good.{Good}
 use Rattle.words.specs.Words.{lookUp}
-use Rattle.lines.specs.Reading.{linesOf, rowsIn}
+use Rattle.texts.specs.Texts.{linesOf}
+use Rattle.lines.specs.Reading.{rowsIn}
 use Rattle.lines.specs.Printing.{textOf, printing}
 use Rattle.lines.specs.declared.Printing.the-variants as print
 use Rattle.meaning.specs.Terms.{Plan}

@@ -5,7 +5,8 @@ use Prim.Native.Nat.{ℕ}
 use Rattle.words.specs.Kinds.{Row}
 use Rattle.words.specs.Words.{lookUp}
 use Rattle.words.specs.declared.Sort.the-variants as sort
-use Rattle.lines.specs.Reading.{linesOf, rowsIn, reading, planLimits}
+use Rattle.texts.specs.Texts.{linesOf}
+use Rattle.lines.specs.Reading.{rowsIn, reading, planLimits}
 use Rattle.lines.specs.declared.Reading.{Reading}
 use Rattle.lines.specs.declared.Reading.the-variants as read
 use Rattle.syntax.specs.declared.Answer.{Answer}

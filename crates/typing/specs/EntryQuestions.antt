@@ -12,7 +12,8 @@ use Rattle.words.specs.declared.Found.{Found}
 use Rattle.words.specs.declared.Operands.{Operands}
 use Rattle.words.specs.declared.Operands.the-variants.{Count, NotOfSort}
 use Rattle.words.specs.declared.Sort.the-variants as sort
-use Rattle.lines.specs.Reading.{linesOf, lineOf, rowsIn, closed, planLimits}
+use Rattle.texts.specs.Texts.{linesOf}
+use Rattle.lines.specs.Reading.{lineOf, rowsIn, closed, planLimits}
 use Rattle.lines.specs.declared.Limits.{Limits}
 use Rattle.lines.specs.declared.Line.{Line}
 use Rattle.lines.specs.declared.Line.the-variants.{IsRow, NoRow}

@@ -9,7 +9,8 @@ use lib.Dec.{eqb}
 use Rattle.refusals.specs.Refusals.{numberOf, lineOf}
 use Rattle.words.specs.Words.{bytes, table, words, sameLetters, lookFrom, operandsOf}
 use Rattle.numerals.specs.Numerals.{allDigits, value, leadingZero, unsigned, notBelowZero, belowZero, numberOf as numeralOf}
-use Rattle.lines.specs.Reading.{linesOf, placeOf, lineOf as rowOf, rowsIn, formed, reading}
+use Rattle.texts.specs.Texts.{linesOf, placeOf}
+use Rattle.lines.specs.Reading.{lineOf as rowOf, rowsIn, formed, reading}
 use Rattle.meaning.specs.Rows.{typeRows, allTypeRows, termRows}
 use Rattle.syntax.specs.declared.Answer.{Answer}
 use Rattle.syntax.specs.declared.Answer.the-variants.{Passed, Refused}

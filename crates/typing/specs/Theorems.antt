@@ -13,7 +13,8 @@ use Rattle.words.specs.Words.{words, lookUp}
 use Rattle.words.specs.Good.{Good}
 use Rattle.words.specs.Laws.{words-good}
 use Rattle.words.specs.declared.Sort.{Sort}
-use Rattle.lines.specs.Reading.{linesOf, rowsIn, reading, planLimits}
+use Rattle.texts.specs.Texts.{linesOf}
+use Rattle.lines.specs.Reading.{rowsIn, reading, planLimits}
 use Rattle.lines.specs.declared.Reading.the-variants as read
 use Rattle.meaning.specs.Types.{DataType, number, array}
 use Rattle.meaning.specs.Terms.{Term, Plan}

@@ -16,8 +16,9 @@ use Rattle.numerals.specs.Numerals.{numberOf}
 use Rattle.numerals.specs.Laws.{one-way, decimal-nonempty}
 use Rattle.numerals.specs.declared.Numeral.{Numeral}
 use Rattle.numerals.specs.declared.Numeral.the-variants.{Is, Malformed}
-use Rattle.lines.specs.Reading.{begin, linesOf, beforeComma, afterComma, cellOf, headOf, lineOf, addRow, rowsIn, closed, formed, limited, reading, valuesLimits}
-use Rattle.lines.specs.LineLaws.{place-split, together}
+use Rattle.texts.specs.Texts.{begin, linesOf, beforeComma, afterComma}
+use Rattle.lines.specs.Reading.{cellOf, headOf, lineOf, addRow, rowsIn, closed, formed, limited, reading, valuesLimits}
+use Rattle.texts.specs.Laws.{place-split, together}
 use Rattle.lines.specs.Laws.{paired-row, rows-read}
 use Rattle.lines.specs.declared.Heads.the-variants.{Cells}
 use Rattle.lines.specs.declared.Limits.{Limits}

@@ -8,7 +8,8 @@ use lib.IntN.{ℤ, pos}
 use lib.ListN.{length}
 use Rattle.refusals.specs.declared.Refusal.the-variants.{StoreSize, ValueLines}
 use Rattle.words.specs.Kinds.{Row}
-use Rattle.lines.specs.Reading.{linesOf, rowsIn, headOf, reading, valuesLimits, kindsOf, filled}
+use Rattle.texts.specs.Texts.{linesOf}
+use Rattle.lines.specs.Reading.{rowsIn, headOf, reading, valuesLimits, kindsOf, filled}
 use Rattle.lines.specs.declared.Heads.the-variants.{Cells}
 use Rattle.lines.specs.declared.Reading.{Reading}
 use Rattle.lines.specs.declared.Reading.the-variants.{Rows, Refused}

@@ -16,7 +16,8 @@ use Rattle.words.specs.declared.Sort.{Sort}
 use Rattle.words.specs.declared.Sort.the-variants as sort
 use Rattle.lines.specs.Lent.{textRows}
 use Rattle.lines.specs.Printing.{Each, Printable}
-use Rattle.lines.specs.Reading.{linesOf, headOf, planLimits, loopsLimits}
+use Rattle.texts.specs.Texts.{linesOf}
+use Rattle.lines.specs.Reading.{headOf, planLimits, loopsLimits}
 use Rattle.lines.specs.declared.Heads.the-variants.{Words}
 use Rattle.lines.specs.declared.Reading.{Reading}
 use Rattle.lines.specs.declared.Reading.the-variants as read

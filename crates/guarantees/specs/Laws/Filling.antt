@@ -5,7 +5,8 @@ use Prim.Native.Nat.{ℕ}
 use native.Mathlib.Omega.{arith}
 use lib.IntN.{ℤ}
 use lib.ListN.{length}
-use Rattle.lines.specs.Reading.{linesOf, headOf, valuesLimits, kindsOf, filled}
+use Rattle.texts.specs.Texts.{linesOf}
+use Rattle.lines.specs.Reading.{headOf, valuesLimits, kindsOf, filled}
 use Rattle.lines.specs.declared.Heads.the-variants.{Cells}
 use Rattle.lines.specs.declared.Reading.{Reading}
 use Rattle.lines.specs.declared.Reading.the-variants as read

@@ -11,7 +11,8 @@ use Rattle.refusals.specs.declared.Refusal.the-variants.{LentSize, StoreSize}
 use Rattle.words.specs.Kinds.{Row}
 use Rattle.lines.specs.Lent.{textRows}
 use Rattle.lines.specs.Printing.{textOf, printing}
-use Rattle.lines.specs.Reading.{linesOf, filled}
+use Rattle.texts.specs.Texts.{linesOf}
+use Rattle.lines.specs.Reading.{filled}
 use Rattle.lines.specs.declared.Printing.{Printing}
 use Rattle.lines.specs.declared.Printing.the-variants as print
 use Rattle.lines.specs.declared.Reading.{Reading}

@@ -14,7 +14,8 @@ use Rattle.words.specs.declared.Found.{Found}
 use Rattle.words.specs.declared.Found.the-variants.{At, NotListed}
 use Rattle.numerals.specs.Numerals.{allDigits, value, leadingZero, unsigned, notBelowZero, belowZero, numberOf}
 use Rattle.lines.specs.Lent.{textRows}
-use Rattle.lines.specs.Reading.{linesOf, placeOf, lineOf, addRow, rowsIn, headOf, loopsLimits}
+use Rattle.texts.specs.Texts.{linesOf, placeOf}
+use Rattle.lines.specs.Reading.{lineOf, addRow, rowsIn, headOf, loopsLimits}
 use Rattle.lines.specs.declared.Heads.the-variants.{Words}
 use Rattle.lines.specs.declared.Line.{Line}
 use Rattle.lines.specs.declared.Line.the-variants.{IsRow, NoRow}

@@ -4,7 +4,8 @@ use lib.ListN.{length-map, length}
 use borrow.Author.Needs.{needs}
 use Rattle.words.specs.Kinds.{Row}
 use Rattle.words.specs.Words.{words}
-use Rattle.lines.specs.Reading.{headOf, linesOf, rowsIn, kindsOf, numbersOf}
+use Rattle.texts.specs.Texts.{linesOf}
+use Rattle.lines.specs.Reading.{headOf, rowsIn, kindsOf, numbersOf}
 use Rattle.lines.specs.Laws.{rows-read}
 use Rattle.lines.specs.declared.Heads.the-variants.{Words}
 use Rattle.lines.proofs.Questions.{kept-refused, kept-kinds, kept-numbers, filled-with}

@@ -6,7 +6,8 @@ use native.Mathlib.Omega.{arith}
 use lib.ListN.{length}
 use Rattle.words.specs.Kinds.{Row}
 use Rattle.words.specs.Words.{lookUp}
-use Rattle.lines.specs.Reading.{linesOf, rowsIn, reading, planLimits}
+use Rattle.texts.specs.Texts.{linesOf}
+use Rattle.lines.specs.Reading.{rowsIn, reading, planLimits}
 use Rattle.lines.specs.Laws.{rows-read}
 use Rattle.lines.specs.declared.Reading.{Reading}
 use Rattle.lines.specs.declared.Reading.the-variants as read

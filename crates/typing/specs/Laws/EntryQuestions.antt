@@ -19,7 +19,8 @@ use Rattle.words.specs.declared.Operands.{Operands}
 use Rattle.words.specs.declared.Operands.the-variants.{Count, NotOfSort}
 use Rattle.words.specs.declared.Sort.{Sort}
 use Rattle.words.specs.declared.Sort.the-variants as sort
-use Rattle.lines.specs.Reading.{linesOf, lineOf, rowsIn, closed, whether, formed, limited, reading, planLimits}
+use Rattle.texts.specs.Texts.{linesOf}
+use Rattle.lines.specs.Reading.{lineOf, rowsIn, closed, whether, formed, limited, reading, planLimits}
 use Rattle.lines.specs.Laws.{lines-uncounted}
 use Rattle.lines.specs.declared.Limits.{Limits}
 use Rattle.lines.specs.declared.Line.{Line}

@@ -19,7 +19,8 @@ use Rattle.words.specs.declared.Found.{Found}
 use Rattle.words.specs.declared.Sort.the-variants as sort
 use Rattle.numerals.specs.Numerals.{numberOf as numeralOf}
 use Rattle.numerals.specs.Laws.{in-range}
-use Rattle.lines.specs.Reading.{linesOf, beforeComma, afterComma, lineOf, addRow, rowsIn, reading, planLimits}
+use Rattle.texts.specs.Texts.{linesOf, beforeComma, afterComma}
+use Rattle.lines.specs.Reading.{lineOf, addRow, rowsIn, reading, planLimits}
 use Rattle.lines.specs.Printing.{textOf}
 use Rattle.lines.specs.Printing.{Each, Printable}
 use Rattle.lines.specs.Laws.{paired-row, rows-back, reads-back, rows-read, prints-back}

@@ -5,7 +5,8 @@ use lib.ListN.{drop, length}
 use borrow.Author.Needs.{needs}
 use native.Mathlib.Omega.{arith}
 use Rattle.words.specs.Words.{words}
-use Rattle.lines.specs.Reading.{headOf, linesOf, formed}
+use Rattle.texts.specs.Texts.{linesOf}
+use Rattle.lines.specs.Reading.{headOf, formed}
 use Rattle.lines.proofs.Lines.{formed-row, formed-none, formed-end}
 use Rattle.lines.proofs.reader.ask_lines.Statement.{statement}
 use Rattle.lines.proofs.reader.ask_lines.Tie as tie

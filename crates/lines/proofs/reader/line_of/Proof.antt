@@ -14,35 +14,35 @@ use Rattle.lines.proofs.reader.line_of.Tie as tie
 slice-aggregate-head-of : tie.Need-slice-aggregate-head-of
 slice-aggregate-head-of c =
     sym
-    (length-take-le (c .before .place-of .result) (c .before .before .before .args .line .now) (c .before .place-of .ensures .1))
+    (length-take-le (c .before .field-length .result) (c .before .before .before .args .line .now) (c .before .field-length .ensures .1))
 
 returns : tie.Need-returns
 returns c =
     let a = c .before .before .before .before .before .before .args in
-    let place-of = c .before .before .before .before .place-of in
-    no-head (headOf words (a .heads)) (a .line .now) (place-of .result) (place-of .ensures .0)
+    let field-length = c .before .before .before .before .field-length in
+    no-head (headOf words (a .heads)) (a .line .now) (field-length .result) (field-length .ensures .0)
     (c .before .before .head-of .ensures) (c .enum-told .given .1)
 
 returns-2 : tie.Need-returns-2
 returns-2 c =
     let a = c .before .before .before .before .before .before .before .before .args in
-    let place-of = c .before .before .before .before .before .before .place-of in
-    no-comma (headOf words (a .heads)) (a .line .now) (place-of .result) (place-of .ensures .0) (c .if1 .taken)
+    let field-length = c .before .before .before .before .before .before .field-length in
+    no-comma (headOf words (a .heads)) (a .line .now) (field-length .result) (field-length .ensures .0) (c .if1 .taken)
 
 returns-3 : tie.Need-returns-3
 returns-3 c =
     let a = c .before .before .before .before .before .before .before .before .before .before .before .before .args in
-    let place-of = c .before .before .before .before .before .before .before .before .before .before .place-of in
-    no-number (headOf words (a .heads)) (a .line .now) (place-of .result) (place-of .ensures .0)
+    let field-length = c .before .before .before .before .before .before .before .before .before .before .field-length in
+    no-number (headOf words (a .heads)) (a .line .now) (field-length .result) (field-length .ensures .0)
     (c .before .before .read .ensures) (c .enum-told2 .given .1)
 
 returns-4 : tie.Need-returns-4
 returns-4 c =
     let a = c .before .before .before .before .before .before .before .before .before .before .before .before .before .args in
-    let place-of = c .before .before .before .before .before .before .before .before .before .before .before .place-of in
+    let field-length = c .before .before .before .before .before .before .before .before .before .before .before .field-length in
     let head = c .before .before .before .before .before .before .before .head in
     ap (IsRow (head .given .0 .0)) (held (c .before .value .given .0 .0) (c .known-told2 .given .0 .1))
-    ∙ row (headOf words (a .heads)) (a .line .now) (place-of .result) (place-of .ensures .0)
+    ∙ row (headOf words (a .heads)) (a .line .now) (field-length .result) (field-length .ensures .0)
     (c .before .before .before .before .before .before .before .before .before .head-of .ensures) (head .given .1)
     (c .before .before .before .read .ensures) (c .before .value .given .1)
 

@@ -15,15 +15,15 @@ slice-aggregate-line-of : tie.Need-slice-aggregate-line-of
 slice-aggregate-line-of c =
     let at-args = c .before .before .before .before .args in
     let a = at-args in
-    sym (length-take-le (c .before .place-of .result) (take (length (a .text .now) - a .at)
-    (drop (a .at) (a .text .now))) (c .before .place-of .ensures .1))
+    sym (length-take-le (c .before .line-length .result) (take (length (a .text .now) - a .at)
+    (drop (a .at) (a .text .now))) (c .before .line-length .ensures .1))
 
 add-t8 : tie.Need-add-t8
 add-t8 c =
     let a = c .before .before .before .before .before .args in
     omega (
       arith,
-      c .before .before .place-of .ensures .1,
+      c .before .before .line-length .ensures .1,
       length-take (length (a .text .now) - a .at)
           (drop (a .at) (a .text .now)),
       length-drop (a .at) (a .text .now),
@@ -34,7 +34,7 @@ add-t12 c =
     let a = c .before .before .before .before .before .args in
     omega (
       arith,
-      c .before .before .place-of .ensures .1,
+      c .before .before .line-length .ensures .1,
       length-take (length (a .text .now) - a .at)
           (drop (a .at) (a .text .now)),
       length-drop (a .at) (a .text .now),
@@ -43,14 +43,14 @@ add-t12 c =
 returns : tie.Need-returns
 returns c =
     let a = c .before .before .before .before .before .args in
-    let place-of = c .before .before .place-of in (
-      next-line (headOf words (a .heads)) (a .text .now) (a .at) (place-of .result) (place-of .ensures .0)
+    let line-length = c .before .before .line-length in (
+      next-line (headOf words (a .heads)) (a .text .now) (a .at) (line-length .result) (line-length .ensures .0)
           (c .line-of .ensures),
-      next-after (headOf words (a .heads)) (a .text .now) (a .at) (place-of .result)
-          (place-of .ensures .0),
+      next-after (headOf words (a .heads)) (a .text .now) (a .at) (line-length .result)
+          (line-length .ensures .0),
       omega (
         arith,
-        place-of .ensures .1,
+        line-length .ensures .1,
         length-take (length (a .text .now) - a .at)
             (drop (a .at) (a .text .now)),
         length-drop (a .at) (a .text .now),

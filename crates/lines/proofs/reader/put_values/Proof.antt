@@ -7,8 +7,8 @@ use borrow.Author.Needs.{needs}
 use native.Mathlib.Omega.{arith}
 use Rattle.words.specs.Kinds.{Row}
 use Rattle.words.specs.Words.{words}
-use Rattle.lines.specs.Reading.{headOf, linesOf, rowsIn, kindsOf, numbersOf}
-use Rattle.lines.specs.Steps.{firstLine}
+use Rattle.texts.specs.Texts.{linesOf, firstLine}
+use Rattle.lines.specs.Reading.{headOf, rowsIn, kindsOf, numbersOf}
 use Rattle.lines.specs.declared.Heads.the-variants.{Cells}
 use Rattle.lines.proofs.Lines.{column-next, column-end, cell-below}
 use Rattle.lines.proofs.Stores.{kept}

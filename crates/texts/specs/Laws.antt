@@ -11,9 +11,12 @@ use lib.Dec.{eqb}
 use lib.ListN.{length, getD, take, drop, drop-of-length-le, length-drop, length-append}
 use native.Mathlib.Numerals.{add-one}
 use lib.Seq.{drop-cons, drop-drop, getD-append-seam}
-use Rattle.numerals.specs.Laws.{Free}
-use Rattle.lines.specs.Reading.{begin, linesOf, placeOf}
-use Rattle.lines.specs.Steps.{firstLine, afterFirst}
+use Rattle.texts.specs.Texts.{begin, linesOf, placeOf, firstLine, afterFirst}
+
+-- No byte of the list is b.
+abbrev pub Free : ℕ → List ℕ → Type 0
+Free b [] = Unit {0}
+Free b (c ∷ cs) = (c ≢ b) × Free b cs
 
 -- ---- the place of a byte
 

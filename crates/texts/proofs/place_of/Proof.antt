@@ -5,10 +5,10 @@ use native.Mathlib.Nat.{zero-add}
 use lib.ListN.{drop, length}
 use borrow.Author.Needs.{needs}
 use native.Mathlib.Omega.{arith}
-use Rattle.lines.specs.Reading.{placeOf}
-use Rattle.lines.specs.LineLaws.{place-at, place-past, place-end}
-use Rattle.lines.proofs.reader.place_of.Statement.{statement}
-use Rattle.lines.proofs.reader.place_of.Tie as tie
+use Rattle.texts.specs.Texts.{placeOf}
+use Rattle.texts.specs.Laws.{place-at, place-past, place-end}
+use Rattle.texts.proofs.place_of.Statement.{statement}
+use Rattle.texts.proofs.place_of.Tie as tie
 
 abbrev Inv-loop : tie.InvT-loop
 Inv-loop byte bytes i₀ i =
