@@ -2,12 +2,9 @@
 // is read from its file. One line a card, and one for each order of a run: its name and its answer.
 ghost use Rattle.io.specs.Counts.{Counts};
 use libc::STDOUT_FILENO;
-use lines::Printing;
-use lines::Reading;
 use loops::Checked;
+use refusals::Answer;
 use refusals::Refusal;
-use run::Ran;
-use syntax::Answer;
 
 fn main() {
     example_and_groups();
@@ -88,7 +85,7 @@ fn check_card(name: &[u8], path: &[u8]) {
     let checked = plans::check_text(&plan[..size]);
     io::write_all(STDOUT_FILENO, name);
     match checked {
-        Answer::Passed(_) => {
+        Answer::Told(_) => {
             io::write_all(STDOUT_FILENO, b": passes\n");
         }
         Answer::Refused(refusal) => refuse(refusal),
@@ -103,8 +100,8 @@ fn make_loops(path: &[u8], text: &mut [u8; 65536]) -> usize
     let size = read_plan(path, &mut plan);
     let made = translate::translate_text(&plan[..size], text);
     match made {
-        Printing::Bytes(bytes) => front(text, bytes),
-        Printing::Refused(_) => 0,
+        Answer::Told(bytes) => front(text, bytes),
+        Answer::Refused(_) => 0,
     }
 }
 
@@ -132,8 +129,8 @@ fn show_loops(text: &[u8]) {
     let mut numbers = [0i32; 4096];
     let read = loops::read_text(text, &mut kinds, &mut numbers);
     match read {
-        Reading::Rows(rows) => print_count(b": lines,", rows as u64),
-        Reading::Refused(refusal) => refuse(refusal),
+        Answer::Told(rows) => print_count(b": lines,", rows as u64),
+        Answer::Refused(refusal) => refuse(refusal),
     }
     let checked = loops::check_text(text);
     match checked {
@@ -163,13 +160,13 @@ fn run_order(name: &[u8], text: &[u8], order: u32, store: &mut [i32], first: usi
     io::write_all(STDOUT_FILENO, name);
     print_count(b", order ", order as u64);
     match ran {
-        Ran::Finished { writes } => show_run(store, first, count, writes),
-        Ran::Refused(refusal) => refuse(refusal),
+        Answer::Told(writes) => show_run(store, first, count, writes),
+        Answer::Refused(refusal) => refuse(refusal),
     }
 }
 
 // The output cells and the writes.
-fn show_run(store: &[i32], first: usize, count: usize, writes: u32) {
+fn show_run(store: &[i32], first: usize, count: usize, writes: usize) {
     io::write_all(STDOUT_FILENO, b":");
     let mut cell = first;
     while cell < store.len() {

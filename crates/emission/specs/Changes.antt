@@ -13,12 +13,12 @@ use Rattle.emission.specs.Nodes.{kindIn, numberIn}
 use Rattle.emission.specs.declared.paths.Change.{Change}
 use Rattle.emission.specs.declared.paths.Change.the-variants.{Zip, Pair, Ungrouped, Grouped, First, Second, AtLiteral, AtCounter, ZipFirst, ZipSecond, Unchanged}
 
--- The kinds of nodes that are no word: the places of a zip's operands.
+-- The kinds of nodes that are no word, past those of every table of words: the places of a zip's operands.
 abbrev pub zip-first : ℕ
-zip-first = 38
+zip-first = 254
 
 abbrev pub zip-second : ℕ
-zip-second = 39
+zip-second = 255
 
 -- the change that a node of a kind makes
 abbrev pub changeOf : ℕ → Change

@@ -8,7 +8,7 @@ pub mod Nodes
 pub mod Growth
 pub mod Readings
 -- Paths and offsets
-pub mod Steps
+pub mod PathSteps
 pub mod Indices
 pub mod Operands
 pub mod Offsets

@@ -8,7 +8,8 @@ use lib.Dec.{eqb, ltb}
 use lib.IntN.{ℤ, pos}
 use lib.ListN.{getD}
 use Rattle.arithmetic.specs.Arithmetic.{Operation}
-use Rattle.words.specs.Kinds.{word-in, word-lit, word-neg, word-add, word-sub, word-mul, word-div, word-min, word-max, word-out, word-loc}
+use Rattle.words.specs.Kinds.{word-in, word-lit, word-neg, word-add, word-sub, word-mul, word-div, word-min, word-out, word-loc}
+use Rattle.words.specs.Groups.{isOperation}
 use Rattle.meaning.specs.Types.{number}
 use Rattle.meaning.specs.Loops.{Offset}
 use Rattle.meaning.specs.Expressions.{Expression, Acceptor}
@@ -45,9 +46,8 @@ classOf k =
     (cond (eqb k word-loc) Region
     (cond (eqb k word-out) Output
     (cond (eqb k word-neg) Negation
-    (cond (ltb k word-add) Rearranged
-    (cond (ltb k (suc word-max)) Operated
-    Rearranged))))))
+    (cond (isOperation k) Operated
+    Rearranged)))))
 
 abbrev pub operationOf : ℕ → Operation
 operationOf k =

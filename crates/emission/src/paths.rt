@@ -9,7 +9,7 @@ ghost use Rattle.meaning.specs.Offsets.{leadingIndex, offsetFromInnermost};
 ghost use Rattle.meaning.specs.Rows.{offsetRows};
 ghost use Rattle.emission.specs.Table.{table, putRows};
 ghost use Rattle.emission.specs.Changes.{changeOf, pathOf};
-ghost use Rattle.emission.specs.Laws.Steps.{madeBy, goneBy, ownFound, foundAt};
+ghost use Rattle.emission.specs.Laws.PathSteps.{madeBy, goneBy, ownFound, foundAt};
 use crate::references::ZIP_FIRST;
 use crate::references::ZIP_SECOND;
 use crate::references::kind_in;

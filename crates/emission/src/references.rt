@@ -7,15 +7,16 @@ ghost use lib.ListN.{length};
 ghost use Rattle.emission.specs.Nodes.{nodeOf, kindIn, typeIn, numberIn, leftIn, rightIn};
 ghost use Rattle.emission.specs.References.{classOf};
 ghost use Rattle.emission.specs.Growth.{Pushed};
+use words::groups::is_operation;
 use words::kinds::*;
 
-// Kinds of nodes that are no word: the acceptors of the two operands of a `zip` ([6.9]). The others are named by words: `in`, `loc` and
+// Kinds of nodes that are no word, past those of every table of words: the acceptors of the two operands of a `zip` ([6.9]). The others are named by words: `in`, `loc` and
 // `out` lie in the store in some type, their numbers being an input or a region's level; the number of `lit` is its row in
 // the plan. `split` and `join` are those of what is read; where a write goes through ([6.22]), `join` stands for the place of a
 // `split`'s operand, and `split` for that of a `join`'s.
-pub const ZIP_FIRST: u8 = 38;
+pub const ZIP_FIRST: u8 = 254;
 
-pub const ZIP_SECOND: u8 = 39;
+pub const ZIP_SECOND: u8 = 255;
 
 // What is done with a node.
 pub enum Class {
@@ -46,10 +47,7 @@ pub fn class_of(kind: u8) -> Class
     if kind == WORD_NEG {
         return Class::Negation;
     }
-    if kind < WORD_ADD {
-        return Class::Rearranged;
-    }
-    if kind <= WORD_MAX {
+    if is_operation(kind) {
         return Class::Operation;
     }
     Class::Rearranged

@@ -1,12 +1,14 @@
 -- The number of a value's rows, word by word. Assumes nothing.
 use mathlib.Core.Path.{_≡_, refl, ap, ap₂, _∙_}
 use mathlib.Core.List.{List}
-use Prim.Native.Nat.{ℕ, _+_, _≤_, _<_}
+use Prim.Native.Nat.{ℕ, _+_, _<_}
 use native.Mathlib.Omega.{arith}
 use lib.IntN.{ℤ, pos}
 use lib.ListN.{length, getD, length-append}
 use Rattle.arithmetic.specs.Arithmetic.{Operation, operate, negation}
-use Rattle.words.specs.Kinds.{word-in, word-lit, word-neg, word-add, word-max, word-loc}
+use Rattle.words.specs.Kinds.{word-in, word-lit, word-neg, word-loc}
+use Rattle.words.specs.Groups.{oneOf}
+use Rattle.syntax.specs.Laws.Heads.{operation-apart}
 use Rattle.meaning.specs.Loops.{Offset, Value}
 use Rattle.meaning.specs.Rows.{operationWord, offsetRows, valueRows}
 use Rattle.meaning.specs.Runs.{offsetAt, valueIn}
@@ -24,22 +26,6 @@ Gives ks ns at ib c r s v m = (e : Value) → Stand ks ns at (valueRows e) → V
 abbrev pub Reads : List ℕ → List ℤ → ℕ → ℕ → (ℕ → ℕ) → List ℤ → ℤ → ℕ → Type 0
 Reads ks ns at base c s v m = (o : Offset) → Stand ks ns at (offsetRows o) → OffsetExact c o → (v ≡ getD s (base + offsetAt c o) (pos 0)) × (m ≡ at + length (offsetRows o))
 
-word-low : (o : Operation) → word-add ≤ operationWord o
-word-low Operation.addition = omega arith
-word-low Operation.subtraction = omega arith
-word-low Operation.multiplication = omega arith
-word-low Operation.division = omega arith
-word-low Operation.minimum = omega arith
-word-low Operation.maximum = omega arith
-
-word-high : (o : Operation) → operationWord o ≤ word-max
-word-high Operation.addition = omega arith
-word-high Operation.subtraction = omega arith
-word-high Operation.multiplication = omega arith
-word-high Operation.division = omega arith
-word-high Operation.minimum = omega arith
-word-high Operation.maximum = omega arith
-
 module _ (ks : List ℕ) (ns : List ℤ) (at : ℕ) (ib : List ℕ) (c r : ℕ → ℕ) (s : List ℤ) where
   pub value-none : (v : ℤ) (m : ℕ) → 4095 < at → Gives ks ns at ib c r s v m
   unfolding valueRows
@@ -50,15 +36,15 @@ module _ (ks : List ℕ) (ns : List ℤ) (at : ℕ) (ib : List ℕ) (c r : ℕ �
   value-none v m e (Value.operation o x y) b f = absurd (table.stand-none _ _ e b)
 
   pub literal : (v : ℤ) → getD ks at 0 ≡ word-lit → v ≡ getD ns at (pos 0) → Gives ks ns at ib c r s v (at + 1)
-  unfolding valueRows
+  unfolding valueRows oneOf
   literal v e q (Value.literal z) b f = (q ∙ table.number b, refl)
   literal v e q (Value.input k o) b f = absurd (omega (arith, e, table.kind b))
   literal v e q (Value.region d o) b f = absurd (omega (arith, e, table.kind b))
   literal v e q (Value.negate x) b f = absurd (omega (arith, e, table.kind b))
-  literal v e q (Value.operation o x y) b f = absurd (omega (arith, e, table.kind b, word-low o))
+  literal v e q (Value.operation o x y) b f = absurd (omega (arith, e, table.kind b, operation-apart o word-lit refl))
 
   pub input : (v : ℤ) (m base : ℕ) → getD ks at 0 ≡ word-in → base ≡ getD ib (asNatural (getD ns at (pos 0))) 0 → Reads ks ns (at + 1) base c s v m → Gives ks ns at ib c r s v m
-  unfolding valueRows
+  unfolding valueRows oneOf
   input v m base e q g (Value.input k o) b f =
       let p = g o (table.next b) f in
       let h : base ≡ getD ib k 0 = q ∙ ap (λ (z : ℤ). getD ib (asNatural z) 0) (table.number b) in
@@ -66,10 +52,10 @@ module _ (ks : List ℕ) (ns : List ℤ) (at : ℕ) (ib : List ℕ) (c r : ℕ �
   input v m base e q g (Value.literal z) b f = absurd (omega (arith, e, table.kind b))
   input v m base e q g (Value.region d o) b f = absurd (omega (arith, e, table.kind b))
   input v m base e q g (Value.negate x) b f = absurd (omega (arith, e, table.kind b))
-  input v m base e q g (Value.operation o x y) b f = absurd (omega (arith, e, table.kind b, word-low o))
+  input v m base e q g (Value.operation o x y) b f = absurd (omega (arith, e, table.kind b, operation-apart o word-in refl))
 
   pub region : (v : ℤ) (m base : ℕ) → getD ks at 0 ≡ word-loc → base ≡ r (asNatural (getD ns at (pos 0))) → Reads ks ns (at + 1) base c s v m → Gives ks ns at ib c r s v m
-  unfolding valueRows
+  unfolding valueRows oneOf
   region v m base e q g (Value.region d o) b f =
       let p = g o (table.next b) f in
       let h : base ≡ r d = q ∙ ap (λ (z : ℤ). r (asNatural z)) (table.number b) in
@@ -77,15 +63,15 @@ module _ (ks : List ℕ) (ns : List ℤ) (at : ℕ) (ib : List ℕ) (c r : ℕ �
   region v m base e q g (Value.literal z) b f = absurd (omega (arith, e, table.kind b))
   region v m base e q g (Value.input k o) b f = absurd (omega (arith, e, table.kind b))
   region v m base e q g (Value.negate x) b f = absurd (omega (arith, e, table.kind b))
-  region v m base e q g (Value.operation o x y) b f = absurd (omega (arith, e, table.kind b, word-high o))
+  region v m base e q g (Value.operation o x y) b f = absurd (omega (arith, e, table.kind b, operation-apart o word-loc refl))
 
   pub negated : (v v₁ : ℤ) (m : ℕ) → getD ks at 0 ≡ word-neg → Gives ks ns (at + 1) ib c r s v₁ m → v ≡ negation v₁ → Gives ks ns at ib c r s v m
-  unfolding valueRows
+  unfolding valueRows oneOf
   negated v v₁ m e g q (Value.negate x) b f = let p = g x (table.next b) f in (q ∙ ap negation (p .0), omega (arith, p .1))
   negated v v₁ m e g q (Value.literal z) b f = absurd (omega (arith, e, table.kind b))
   negated v v₁ m e g q (Value.input k o) b f = absurd (omega (arith, e, table.kind b))
   negated v v₁ m e g q (Value.region d o) b f = absurd (omega (arith, e, table.kind b))
-  negated v v₁ m e g q (Value.operation o x y) b f = absurd (omega (arith, e, table.kind b, word-low o))
+  negated v v₁ m e g q (Value.operation o x y) b f = absurd (omega (arith, e, table.kind b, operation-apart o word-neg refl))
 
   pub operated : (v v₁ v₂ : ℤ) (m₁ m₂ k : ℕ) → k ≡ getD ks at 0 → ¬ (k ≡ word-lit) → ¬ (k ≡ word-in) → ¬ (k ≡ word-loc) → ¬ (k ≡ word-neg)
       → Gives ks ns (at + 1) ib c r s v₁ m₁ → Gives ks ns m₁ ib c r s v₂ m₂

@@ -9,7 +9,7 @@ ghost use Rattle.meaning.specs.Runs.{offsetAt, entry as entryOf};
 ghost use Rattle.syntax.specs.Ranges.{asNatural};
 ghost use Rattle.evaluation.specs.Table.{Stand};
 ghost use Rattle.evaluation.specs.Exact.{OffsetExact};
-use crate::sums;
+use crate::capped;
 use syntax::ranges;
 use words::kinds::*;
 
@@ -47,7 +47,7 @@ fn scaled(kind: u8, n: u32, x: u32) -> u32
     ensures rest { λ r. ⌜ (kind ≡ word-rest → 1 ≤ n → r ≡ x % n) ⌝ }
 {
     if kind == WORD_TIMES {
-        return sums::product(n, x);
+        return capped::product(n, x);
     }
     if n == 0 {
         return 0;
@@ -94,7 +94,7 @@ pub fn evaluate(
     if kind == WORD_PLUS {
         let second = evaluate(kinds, numbers, first.next, counters, c);
         return Offset {
-            number: sums::sum(first.number, second.number),
+            number: capped::sum(first.number, second.number),
             next: second.next,
         };
     }

@@ -1,11 +1,11 @@
 -- The cards P1 to P10, [15.1] and [15.2]: one list, from the plans' texts, and one proof.
 --
 -- It is computed from the definitions that the contracts of the entries name:
---   typing      checkText: `check_text` of `plans`
+--   typing      checkPlanText: `check_text` of `plans`
 --   translate   makeText, planIn, rowsMade; textOf of `lines`: `translate_text`
---   loops       checkText: `check_text`
+--   loops       checkLoopsText: `check_text`
 --   run         runText: `run_text`
---   refusals    numberOf, lineOf: the number and the line of a refusal
+--   refusals    refusalNumber, refusalLine: the number and the line of a refusal
 -- Where arrays differ in length only, the fact is shown for every length: `split-any-length` (P3), `index-any-length` (P4) and
 -- `cells-any-length` (P9) of `typing`, Theorems.
 use mathlib.Core.Path.{_≡_, refl}
@@ -17,9 +17,11 @@ use lib.Dec.{eqb}
 use lib.IntN.{ℤ, pos, negsuc}
 use lib.ListN.{take, drop}
 use Rattle.arithmetic.specs.Arithmetic.{clamp, sum, difference, product, negation, quotient, lesser, greater, operate}
-use Rattle.refusals.specs.Refusals.{numberOf, lineOf}
+use Rattle.refusals.specs.Refusals.{refusalNumber, refusalLine}
+use Rattle.refusals.specs.declared.Answer.{Answer}
+use Rattle.refusals.specs.declared.Answer.the-variants.{Told, Refused}
 use Rattle.words.specs.Words.{bytes, table, words, sameLetters, lookFrom, operandsOf}
-use Rattle.numerals.specs.Numerals.{allDigits, value, leadingZero, unsigned, notBelowZero, belowZero, numberOf as numeralOf, lastDigits, digits, decimal}
+use Rattle.numerals.specs.Numerals.{allDigits, value, leadingZero, unsigned, notBelowZero, belowZero, numeralOf as numeralOf, lastDigits, digits, decimal}
 use Rattle.texts.specs.Texts.{linesOf, placeOf}
 use Rattle.lines.specs.Reading.{lineOf as rowOf, rowsIn, formed, reading}
 use Rattle.lines.specs.Lent.{textRows}
@@ -30,25 +32,20 @@ use Rattle.meaning.specs.Runs.{run as runCommand, runLoops}
 use Rattle.meaning.specs.NamedOrders.{evens, odds, forward, backward, evensThenOdds, always}
 use Rattle.meaning.specs.Rows.{typeRows, termRows, allTypeRows, planRows, offsetRows, valueRows, placeRows, commandRows, allCellsRows, loopsRows}
 use Rattle.meaning.specs.Translation.{assign, writeMap, useReduce, useWritten, writeTerm, useTerm, translation}
-use Rattle.syntax.specs.declared.Answer.{Answer}
-use Rattle.syntax.specs.declared.Answer.the-variants as plan
-use Rattle.syntax.specs.Ranges.{oneOf, inRange}
+use Rattle.words.specs.Groups.{oneOf}
+use Rattle.syntax.specs.Ranges.{inRange}
 use Rattle.syntax.specs.Names.{openedBy}
 use Rattle.syntax.specs.Operands.{operandOf, operandsDue}
 use Rattle.syntax.specs.Walk.{askRow, walkFrom, listedFrom, walkTable}
 use Rattle.syntax.specs.Reading.{operandsAmong, readRows, choose, planOf, loopsOf}
 use Rattle.typing.specs.Check.{check, checkType, checkTypes, checkPlan}
-use Rattle.typing.specs.Entry.{checkRows, checkText}
+use Rattle.typing.specs.Entry.{checkPlanRows, checkPlanText}
 use Rattle.loops.specs.declared.Checked.{Checked}
 use Rattle.loops.specs.declared.Checked.the-variants as loops
 use Rattle.bounds.specs.Bounds.{everyRowBounded, askOffset, askValue, askPlace, askSet, askCommand, askBounds}
-use Rattle.loops.specs.Check.{checkLoops, checkRows as checkLoopsRows, checkText as checkLoopsText}
-use Rattle.translate.specs.declared.Made.{Made}
-use Rattle.translate.specs.declared.Made.the-variants as make
+use Rattle.loops.specs.Check.{checkLoops, checkLoopsRows as checkLoopsRows, checkLoopsText as checkLoopsText}
 use Rattle.translate.specs.Entry.{makePlan, makeText, rowsMade}
-use Rattle.run.specs.declared.Ran.{Ran}
-use Rattle.run.specs.declared.Ran.the-variants as ran
-use Rattle.run.specs.Run.{Outcome, askedRun, runText}
+use Rattle.run.specs.Run.{Ran, askedRun, runText}
 use Rattle.interpreter.specs.Orders.{runOf}
 
 -- ---- what is asked and what is answered
@@ -86,30 +83,30 @@ abbrev madeFrom : String → List ℕ
 madeFrom s = textOf words (rowsMade words (text s))
 
 abbrev ofPlan : Answer → Answered
-ofPlan (plan.Passed n) = passes
-ofPlan (plan.Refused q) = refused (numberOf q) (lineOf q)
+ofPlan (Told n) = passes
+ofPlan (Refused q) = refused (refusalNumber q) (refusalLine q)
 
 abbrev ofLoops : List ℕ → ℕ → Checked → Answered
 ofLoops u lines (loops.Passes w n) = made u lines w n
-ofLoops u lines (loops.Refused q) = refused (numberOf q) (lineOf q)
+ofLoops u lines (loops.Refused q) = refused (refusalNumber q) (refusalLine q)
 
-abbrev ofTranslation : List ℕ → Made → Answered
-ofTranslation u (make.Rows n) = ofLoops u n (checkLoopsText words u)
-ofTranslation u (make.Refused q) = refused (numberOf q) (lineOf q)
+abbrev ofTranslation : List ℕ → Answer → Answered
+ofTranslation u (Told n) = ofLoops u n (checkLoopsText words u)
+ofTranslation u (Refused q) = refused (refusalNumber q) (refusalLine q)
 
 -- [7.5] the output cells, which lie behind the inputs
 abbrev outputCells : Loops → List ℤ → List ℤ
 outputCells L s = take (L .output) (drop (allCells (L .inputs)) s)
 
-abbrev ofRun : Loops → Ran → List ℤ → Answered
-ofRun L (ran.Finished w) s = finished w (outputCells L s)
-ofRun L (ran.Refused q) s = refused (numberOf q) (lineOf q)
+abbrev ofRun : Loops → Answer → List ℤ → Answered
+ofRun L (Told w) s = finished w (outputCells L s)
+ofRun L (Refused q) s = refused (refusalNumber q) (refusalLine q)
 
-abbrev afterRun : Loops → Outcome → Answered
+abbrev afterRun : Loops → Ran → Answered
 afterRun L o = ofRun L (o .answer) (o .store)
 
 abbrev answered : Asked → Answered
-answered (checked s) = ofPlan (checkText words (text s))
+answered (checked s) = ofPlan (checkPlanText words (text s))
 answered (translated s) = ofTranslation (madeFrom s) (makeText words (text s))
 answered (run s order store) = afterRun (loopsIn (madeFrom s)) (runText words (madeFrom s) order store)
 
@@ -175,7 +172,7 @@ unfolding
     typeRows termRows allTypeRows planRows offsetRows valueRows placeRows commandRows allCellsRows loopsRows
     assign writeMap useReduce useWritten writeTerm useTerm translation
     oneOf inRange openedBy operandOf operandsDue askRow walkFrom listedFrom walkTable operandsAmong readRows choose planOf loopsOf
-    check checkType checkTypes checkPlan checkRows checkText
+    check checkType checkTypes checkPlan checkPlanRows checkPlanText
     everyRowBounded askOffset askValue askPlace askSet askCommand askBounds checkLoops checkLoopsRows checkLoopsText
     makePlan makeText runOf askedRun runText
 cards-answered = refl

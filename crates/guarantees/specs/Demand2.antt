@@ -14,6 +14,7 @@ use mathlib.Core.Logic.{_↔_}
 use Prim.Native.Nat.{ℕ, _≤_, _<_}
 use lib.IntN.{ℤ}
 use lib.ListN.{length}
+use Rattle.refusals.specs.declared.Answer.{Answer}
 use Rattle.words.specs.Kinds.{Row, rowsOf}
 use Rattle.lines.specs.Lent.{textRows}
 use Rattle.lines.specs.Printing.{textOf, Printable, Each}
@@ -30,7 +31,6 @@ use Rattle.meaning.specs.Rows.{planRows, loopsRows}
 use Rattle.meaning.specs.Counts.{planWrites}
 use Rattle.meaning.specs.Limits.{TouchesBelow}
 use Rattle.meaning.specs.Translation.{translation}
-use Rattle.syntax.specs.declared.Answer.{Answer}
 use Rattle.typing.specs.Questions.{AllYes, AllYesTo}
 use Rattle.typing.specs.TypeQuestions.{planQuestions}
 use Rattle.typing.specs.EntryQuestions.{readQuestions}

@@ -13,7 +13,7 @@ use mathlib.Core.List.{List, [], map}
 use Prim.Native.Nat.{ℕ, _≤_}
 use lib.IntN.{ℤ}
 use lib.ListN.{length, take}
-use Rattle.lines.specs.declared.Printing.{Printing}
+use Rattle.refusals.specs.declared.Answer.{Answer}
 use Rattle.meaning.specs.Types.{cells}
 use Rattle.meaning.specs.Terms.{Plan}
 use Rattle.meaning.specs.Numbers.{clamped32}
@@ -26,15 +26,13 @@ use Rattle.meaning.specs.Translation.{planType, translation}
 use Rattle.meaning.specs.Counts.{planWrites}
 use Rattle.meaning.specs.Demand3.{planValue, Outcome}
 use Rattle.typing.specs.Questions.{AllYes}
-use Rattle.loops.specs.declared.Needed.{Needed}
 use Rattle.loops.specs.Contracts.{TellsNeed}
-use Rattle.run.specs.declared.Ran.{Ran}
 use Rattle.run.specs.Contracts.{KeepsFrame, RunsText, RunsRows}
 use Rattle.store.specs.Store.{storeOf, frameOf}
 use Rattle.programs.specs.Runner.{withValues, finishedText}
 use Rattle.programs.specs.Contracts.{PrintsRun}
 use Rattle.vazhdumir.specs.Contracts.{TellsNeedForC, RunsTextForC, RunsRowsForC}
-use Rattle.guarantees.specs.Told.{Told, toldNeeded, toldPrinting, toldRan, toldCode}
+use Rattle.guarantees.specs.Told.{Told, toldAnswer, toldCode}
 use Rattle.guarantees.specs.Questions.{valuesQuestions, outputRoom}
 use Rattle.guarantees.specs.Runs.{IsRun, Permutes, runNamed}
 use Rattle.guarantees.specs.Ways.{MadeText, MadeTable, Translated}
@@ -74,23 +72,23 @@ pub record Delivered (ws : List (List ℕ)) (t : List ℕ) (P : Plan) : Type 0 w
   pub no-other-run : (s : List ℤ) (st : State clamped32) → IsRun (translation P) s st
       → (π : Arbiter) × Permutes π × (st ≡ runNamed π (translation P) s)
   -- [7.4] That need is what the need entries tell.
-  pub need-told : (u : List ℕ) → MadeText ws t u → (r : Needed) → TellsNeed ws u r → toldNeeded r ≡ Told.value (need (translation P))
+  pub need-told : (u : List ℕ) → MadeText ws t u → (r : Answer) → TellsNeed ws u r → toldAnswer r ≡ Told.value (need (translation P))
   pub need-told-c : (u : List ℕ) → MadeText ws t u → (r : ℕ) → TellsNeedForC ws u r → toldCode r ≡ Told.value (need (translation P))
   -- [9.10] Each run entry, on every store of at least the need, in each order that can be named.
-  pub text-run : (u : List ℕ) → MadeText ws t u → (order : ℕ) → order ≤ 2 → (c c′ : List ℤ) (b b′ : List ℕ) (r : Ran)
+  pub text-run : (u : List ℕ) → MadeText ws t u → (order : ℕ) → order ≤ 2 → (c c′ : List ℤ) (b b′ : List ℕ) (r : Answer)
       → need (translation P) ≤ length (storeOf c b) → KeepsFrame c b c′ b′ → RunsText ws u order c b r c′ b′
-      → RanRightly P c b (toldRan r) c′ b′
-  pub table-run : (k : List ℕ) (n : List ℤ) → MadeTable ws t k n → (order : ℕ) → order ≤ 2 → (c c′ : List ℤ) (b b′ : List ℕ) (r : Ran)
+      → RanRightly P c b (toldAnswer r) c′ b′
+  pub table-run : (k : List ℕ) (n : List ℤ) → MadeTable ws t k n → (order : ℕ) → order ≤ 2 → (c c′ : List ℤ) (b b′ : List ℕ) (r : Answer)
       → need (translation P) ≤ length (storeOf c b) → KeepsFrame c b c′ b′ → RunsRows k n order c b r c′ b′
-      → RanRightly P c b (toldRan r) c′ b′
+      → RanRightly P c b (toldAnswer r) c′ b′
   pub text-run-c : (u : List ℕ) → MadeText ws t u → (order : ℕ) → order ≤ 2 → (b b′ : List ℕ) (r : ℕ)
       → need (translation P) ≤ length (storeOf [] b) → RunsTextForC ws u order b r b′ → RanRightly P [] b (toldCode r) [] b′
   pub table-run-c : (k : List ℕ) (n : List ℤ) → MadeTable ws t k n → (order : ℕ) → order ≤ 2 → (b b′ : List ℕ) (r : ℕ)
       → need (translation P) ≤ length (storeOf [] b) → RunsRowsForC k n order b r b′ → RanRightly P [] b (toldCode r) [] b′
   -- The runner, on a store of at least the need, lent room enough and values that pass.
-  pub printed-run : (u : List ℕ) → MadeText ws t u → (v : List ℕ) (s s′ : List ℤ) (l l′ : List ℕ) (r : Printing) → PrintsRun ws u v s l r s′ l′
+  pub printed-run : (u : List ℕ) → MadeText ws t u → (v : List ℕ) (s s′ : List ℤ) (l l′ : List ℕ) (r : Answer) → PrintsRun ws u v s l r s′ l′
       → AllYes (outputRoom (length l)) → need (translation P) ≤ length s → AllYes (valuesQuestions ws v (length s) (translation P))
-      → PrintedRightly P (withValues ws v (inputCount P) s) l (toldPrinting r) s′ l′
+      → PrintedRightly P (withValues ws v (inputCount P) s) l (toldAnswer r) s′ l′
 
 -- [9.8] For every plan's text that is translated without refusal there is one plan whose rows are the text's, it is well typed within the
 -- limits, and of it all that holds.

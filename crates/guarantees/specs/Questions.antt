@@ -26,7 +26,7 @@ use Rattle.bounds.specs.Bounds.{everyRowBounded}
 use Rattle.translate.specs.Questions.{fewWrites}
 use Rattle.typing.specs.Questions.{Question, question}
 use Rattle.typing.specs.EntryQuestions.{formQuestions, readQuestions, kindQuestions, walkQuestions}
-use Rattle.values.specs.Values.{oneLineEach, valueRows}
+use Rattle.values.specs.Values.{oneLineEach, valueLines}
 
 -- ---- 1 to 6: a plan's text, a loops' text, a table
 
@@ -106,7 +106,7 @@ storeRoom cells L = question (leb (need L) cells) StoreSize ∷ []
 abbrev pub fillQuestions : List (List ℕ) → List ℕ → ℕ → ℕ → List Question
 fillQuestions ws t n cells =
     formQuestions (headOf ws Cells) (valuesLimits .bytes) t
-    ++ (question (leb n cells) StoreSize ∷ question (oneLineEach n (kindsOf (valueRows ws t))) ValueLines ∷ [])
+    ++ (question (leb n cells) StoreSize ∷ question (oneLineEach n (kindsOf (valueLines ws t))) ValueLines ∷ [])
 
 -- ---- the runner
 

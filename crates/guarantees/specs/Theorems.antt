@@ -4,6 +4,7 @@ use mathlib.Core.List.{List}
 use Prim.Native.Nat.{ℕ}
 use native.Mathlib.Omega.{arith}
 use lib.ListN.{length}
+use Rattle.refusals.specs.declared.Answer.the-variants.{Told, Refused}
 use Rattle.words.specs.Kinds.{Row, rowsOf}
 use Rattle.words.specs.Words.{lookUp}
 use Rattle.lines.specs.Lent.{textRows}
@@ -13,7 +14,6 @@ use Rattle.lines.specs.Reading.{headOf}
 use Rattle.lines.specs.Laws.{rows-back, reads-back, prints-back}
 use Rattle.lines.specs.declared.Heads.the-variants.{Words}
 use Rattle.lines.specs.declared.Limits.{Limits}
-use Rattle.lines.specs.declared.Reading.the-variants as read
 use Rattle.meaning.specs.Terms.{Plan}
 use Rattle.meaning.specs.Loops.{Loops}
 use Rattle.meaning.specs.Layout.{need, regionsFrom}
@@ -29,7 +29,7 @@ use Rattle.typing.specs.Laws.Questions.{all-asked, end-asked}
 use Rattle.typing.specs.Laws.EntryQuestions.{reading-asks}
 use Rattle.loops.specs.declared.Checked.{Checked}
 use Rattle.loops.specs.declared.Checked.the-variants as loops
-use Rattle.loops.specs.Check.{checkTable, checkText}
+use Rattle.loops.specs.Check.{checkTable, checkLoopsText}
 use Rattle.loops.specs.TextTheorems as texts
 use Rattle.loops.specs.TableTheorems as tables
 use Rattle.guarantees.specs.Told.{toldWrites, toldNeed}
@@ -94,10 +94,10 @@ module _ (ws : List (List ℕ)) (good : Good ws) where
   safe R (loops.Refused q) h n e L is = no-value (sym e)
 
   read-yes : (limits : Limits) (t : List ℕ) (n : ℕ)
-      → ask read.Refused (readQuestions (headOf ws Words) limits t) (read.Rows (length (linesOf t))) ≡ read.Rows n
+      → ask Refused (readQuestions (headOf ws Words) limits t) (Told (length (linesOf t))) ≡ Told n
       → AllYes (readQuestions (headOf ws Words) limits t)
   read-yes limits t n e =
-      end-asked read.Refused (readQuestions (headOf ws Words) limits t) (read.Rows (length (linesOf t))) (read.Rows n)
+      end-asked Refused (readQuestions (headOf ws Words) limits t) (Told (length (linesOf t))) (Told n)
       (λ q f. let clash : _≡_ {A = ℕ} 0 1 = cc in omega arith) e .0
 
   pub demand-2 : Demand2 ws
@@ -106,7 +106,7 @@ module _ (ws : List (List ℕ)) (good : Good ws) where
     text-made = λ t u M P A. made-text ws good t M .1 ∙ ap (λ (Q : Plan). textOf ws (loopsRows (translation Q))) (plan-same ws good t P A);
     rows-made = λ t k n M P A. made-table ws good t M .1 ∙ ap (λ (Q : Plan). loopsRows (translation Q)) (plan-same ws good t P A);
     text-passes = λ t u M P A r e.
-        let x = made-text ws good t M in tells _ P r (plan-same ws good t P A) (e ∙ ap (checkText ws) (x .1) ∙ text-passes ws good t (x .0));
+        let x = made-text ws good t M in tells _ P r (plan-same ws good t P A) (e ∙ ap (checkLoopsText ws) (x .1) ∙ text-passes ws good t (x .0));
     rows-pass = λ t k n M P A r e.
         let x = made-table ws good t M in tells _ P r (plan-same ws good t P A) (e ∙ ap checkTable (x .1) ∙ rows-pass ws good t (x .0));
     read-back = λ limits R p some bytes lines. (
@@ -117,7 +117,7 @@ module _ (ws : List (List ℕ)) (good : Good ws) where
     );
     print-back = λ limits t h.
         prints-back ws limits t (length (linesOf t))
-        (reading-asks (lookUp ws) limits t ∙ all-asked read.Refused (readQuestions (lookUp ws) limits t) (read.Rows (length (linesOf t))) h);
+        (reading-asks (lookUp ws) limits t ∙ all-asked Refused (readQuestions (lookUp ws) limits t) (Told (length (linesOf t))) h);
     text-safe = λ t r e. safe (textRows ws t) r (λ w n f. texts.text-safe ws t w n (sym e ∙ f));
     rows-safe = λ k n r e. safe (rowsOf k n) r (λ w m f. tables.table-safe (rowsOf k n) w m (sym e ∙ f));
   }

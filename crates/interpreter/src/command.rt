@@ -7,7 +7,7 @@ ghost use Rattle.meaning.specs.Rows.{placeRows, commandRows};
 ghost use Rattle.meaning.specs.Runs.{entry as entryOf};
 ghost use Rattle.evaluation.specs.Table.{Stand};
 ghost use Rattle.interpreter.specs.Exact.{PlaceExact, PlaceOfExact};
-ghost use Rattle.interpreter.specs.Commands.{nextOf, placeOf, commandOf, cellOf};
+ghost use Rattle.interpreter.specs.Commands.{nextOf, placeIn, commandOf, cellIn};
 use evaluation::offset;
 use words::kinds::*;
 
@@ -36,7 +36,7 @@ fn set_at(
 ) -> Command
     ensures bound { λ r. ⌜ at ≤ nextOf at r ⌝ }
     ensures result { λ r. ⌜ ((p : PlaceTree) → Stand (now (kinds .entry)) (now (numbers .entry)) at (placeRows p) → PlaceExact (entryOf (drop c (now (counters .entry)))) p
-        → r ≡ Command.Set (placeOf (entryOf (drop c (now (counters .entry)))) p) (at + length (placeRows p))) ⌝ }
+        → r ≡ Command.Set (placeIn (entryOf (drop c (now (counters .entry)))) p) (at + length (placeRows p))) ⌝ }
 {
     if 4095 < at {
         return Command::Nothing;
@@ -86,7 +86,7 @@ pub fn decode(
 
 // The cell that a place names.
 pub fn cell(place: Place, regions: &[u32; 256], r: usize, output: u32) -> usize
-    ensures { λ n. ⌜ n ≡ cellOf (entryOf (drop r (now (regions .entry)))) output place ⌝ }
+    ensures { λ n. ⌜ n ≡ cellIn (entryOf (drop r (now (regions .entry)))) output place ⌝ }
 {
     match place {
         Place::Output(offset) => output as usize + offset as usize,

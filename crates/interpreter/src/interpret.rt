@@ -15,13 +15,13 @@ ghost use Rattle.store.specs.Store.{storeOf, frameOf};
 ghost use Rattle.evaluation.specs.Table.{Stand};
 ghost use Rattle.evaluation.specs.Exact.{ValueExact};
 ghost use Rattle.interpreter.specs.Exact.{CommandExact};
-ghost use Rattle.interpreter.specs.Commands.{cellOf};
+ghost use Rattle.interpreter.specs.Commands.{cellIn};
 ghost use Rattle.interpreter.specs.Interpreter.{environment, Done, RoundsDone};
 use crate::command;
 use crate::command::Command;
 use crate::command::Place;
 use crate::order;
-use evaluation::sums;
+use evaluation::capped;
 use evaluation::value;
 
 // The row behind a command, the next free cell behind its regions, and the writes made since the run began.
@@ -50,7 +50,7 @@ fn assign(
     ensures frame { λ _. ⌜ frameOf (now (cells .exit)) (now (bytes .exit)) ≡ frameOf (now (cells .entry)) (now (bytes .entry)) ⌝ }
     ensures result { λ n. ⌜ ((v : ValueTree) → Stand (now (kinds .entry)) (now (numbers .entry)) at (valueRows v) → ValueExact (entryOf (drop c (now (counters .entry)))) v
         → (n ≡ at + length (valueRows v)) × (storeOf (now (cells .exit)) (now (bytes .exit)) ≡ set
-        (storeOf (now (cells .entry)) (now (bytes .entry))) (cellOf (entryOf (drop r (now (regions .entry)))) output place)
+        (storeOf (now (cells .entry)) (now (bytes .entry))) (cellIn (entryOf (drop r (now (regions .entry)))) output place)
         (valueIn clamped32 (now (inputs .entry)) (entryOf (drop c (now (counters .entry)))) (entryOf (drop r (now (regions .entry)))) (storeOf (now (cells .entry)) (now (bytes .entry))) v))) ⌝ }
 {
     let value = value::evaluate(
@@ -196,7 +196,7 @@ pub fn run_command(
             Progress {
                 next,
                 free,
-                writes: sums::sum(writes, 1),
+                writes: capped::sum(writes, 1),
             }
         }
         Command::Seq => {
@@ -272,7 +272,7 @@ pub fn run_command(
                 inputs,
                 output,
                 order,
-                sums::sum(free, n),
+                capped::sum(free, n),
                 cells,
                 bytes,
                 writes,

@@ -12,13 +12,13 @@ use mir.Facts.{toZ-ofZ}
 use Rattle.words.specs.declared.Found.the-variants.{At, NotListed}
 use Rattle.numerals.specs.declared.Numeral.{Numeral}
 use Rattle.numerals.specs.declared.Numeral.the-variants.{Is}
-use Rattle.lines.specs.Reading.{cellOf}
+use Rattle.lines.specs.Reading.{cellNamed}
 
-below-zero : (z : ℤ) → ltZ z (pos 0) ≡ true → NotListed ≡ cellOf (Is z)
+below-zero : (z : ℤ) → ltZ z (pos 0) ≡ true → NotListed ≡ cellNamed (Is z)
 below-zero (pos n) h = absurd (omega (arith, ltb-true n 0 h))
 below-zero (negsuc n) h = refl
 
-not-below : (z : ℤ) → ltZ z (pos 0) ≡ false → T (nonNeg z) × (At (natAbs z) ≡ cellOf (Is z))
+not-below : (z : ℤ) → ltZ z (pos 0) ≡ false → T (nonNeg z) × (At (natAbs z) ≡ cellNamed (Is z))
 not-below (pos n) h = (tt, refl)
 not-below (negsuc n) h = absurd (true≢false h)
 
@@ -26,11 +26,11 @@ module _ {d : Numeral} {z : ℤ} (is : d ≡ Is z) (fits : SFits w32 z) where
   held : toZ w32 (ofZ w32 z) ≡ z
   held = toZ-ofZ fits
 
-  pub no-cell : ltZ (toZ w32 (ofZ w32 z)) (pos 0) ≡ true → NotListed ≡ cellOf d
-  no-cell h = below-zero z (subst (λ (y : ℤ). ltZ y (pos 0) ≡ true) held h) ∙ ap cellOf (sym is)
+  pub no-cell : ltZ (toZ w32 (ofZ w32 z)) (pos 0) ≡ true → NotListed ≡ cellNamed d
+  no-cell h = below-zero z (subst (λ (y : ℤ). ltZ y (pos 0) ≡ true) held h) ∙ ap cellNamed (sym is)
 
   module _ (h : ltZ (toZ w32 (ofZ w32 z)) (pos 0) ≡ false) where
-    here : T (nonNeg z) × (At (natAbs z) ≡ cellOf (Is z))
+    here : T (nonNeg z) × (At (natAbs z) ≡ cellNamed (Is z))
     here = not-below z (subst (λ (y : ℤ). ltZ y (pos 0) ≡ false) held h)
 
     pub cell-fits : T (nonNeg (toZ w32 (ofZ w32 z))) × Fits w64 (natAbs (toZ w32 (ofZ w32 z)))
@@ -38,5 +38,5 @@ module _ {d : Numeral} {z : ℤ} (is : d ≡ Is z) (fits : SFits w32 z) where
         subst (λ (y : ℤ). T (nonNeg y) × Fits w64 (natAbs y)) (sym held)
         (here .0, record { fits = omega (arith, natAbs-le z (fits .sfits)) })
 
-    pub cell : At (natAbs (toZ w32 (ofZ w32 z))) ≡ cellOf d
-    cell = subst (λ (y : ℤ). At (natAbs y) ≡ cellOf d) (sym held) (here .1 ∙ ap cellOf (sym is))
+    pub cell : At (natAbs (toZ w32 (ofZ w32 z))) ≡ cellNamed d
+    cell = subst (λ (y : ℤ). At (natAbs y) ≡ cellNamed d) (sym held) (here .1 ∙ ap cellNamed (sym is))

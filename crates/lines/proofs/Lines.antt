@@ -16,16 +16,16 @@ use Rattle.words.specs.declared.Found.the-variants.{At, NotListed}
 use Rattle.words.specs.Words.{words}
 use Rattle.words.specs.Laws.{found-word, words-count}
 use Rattle.refusals.specs.declared.Refusal.the-variants.{LineForm}
-use Rattle.numerals.specs.Numerals.{numberOf}
+use Rattle.refusals.specs.declared.Answer.the-variants.{Told, Refused}
+use Rattle.numerals.specs.Numerals.{numeralOf}
 use Rattle.numerals.specs.Laws.{in-range}
 use Rattle.numerals.specs.declared.Numeral.{Numeral}
 use Rattle.numerals.specs.declared.Numeral.the-variants.{Is, Malformed}
 use Rattle.texts.specs.Texts.{placeOf, beforeComma, linesOf, firstLine, afterFirst}
-use Rattle.lines.specs.Reading.{cellOf, headOf, paired, lineOf, addRow, rowsIn, whether, formed}
+use Rattle.lines.specs.Reading.{cellNamed, headOf, paired, lineOf, addRow, rowsIn, whether, formed}
 use Rattle.texts.specs.Laws.{lines-from, lines-done}
 use Rattle.lines.specs.Below.{Below}
 use Rattle.lines.specs.declared.Heads.the-variants.{Words, Cells}
-use Rattle.lines.specs.declared.Reading.the-variants.{Rows, Refused}
 use Rattle.lines.specs.declared.Line.{Line}
 use Rattle.lines.specs.declared.Line.the-variants.{IsRow, NoRow}
 
@@ -37,27 +37,27 @@ no-pair (At k) = refl
 no-pair NotListed = refl
 
 module _ (head : List ℕ → Found) (l : List ℕ) (n : ℕ) (comma : n ≡ placeOf 44 l) where
-  line-by : lineOf head l ≡ paired (head (take n l)) (numberOf (drop (suc n) l))
+  line-by : lineOf head l ≡ paired (head (take n l)) (numeralOf (drop (suc n) l))
   unfolding lineOf
-  line-by = ap (λ (k : ℕ). paired (head (take k l)) (numberOf (drop (suc k) l))) (sym comma)
+  line-by = ap (λ (k : ℕ). paired (head (take k l)) (numeralOf (drop (suc k) l))) (sym comma)
 
   pub no-head : {f : Found} → f ≡ head (take n l) → f ≡ NotListed → NoRow ≡ lineOf head l
-  no-head e is = ap (λ (g : Found). paired g (numberOf (drop (suc n) l))) (sym is ∙ e) ∙ sym line-by
+  no-head e is = ap (λ (g : Found). paired g (numeralOf (drop (suc n) l))) (sym is ∙ e) ∙ sym line-by
 
   pub no-comma : length l ≡ n → NoRow ≡ lineOf head l
-  unfolding numberOf
+  unfolding numeralOf
   no-comma e =
       let none : drop (suc n) l ≡ [] = drop-of-length-le l {i = suc n} (omega arith) in
-      no-pair (head (take n l)) ∙ ap (λ (t : List ℕ). paired (head (take n l)) (numberOf t)) (sym none) ∙ sym line-by
+      no-pair (head (take n l)) ∙ ap (λ (t : List ℕ). paired (head (take n l)) (numeralOf t)) (sym none) ∙ sym line-by
 
-  behind : {d : Numeral} → d ≡ numberOf (take (length l - (n + 1)) (drop (n + 1) l)) → d ≡ numberOf (drop (suc n) l)
-  behind e = e ∙ ap numberOf (part-all l (n + 1) ∙ ap (λ (k : ℕ). drop k l) (add-one n))
+  behind : {d : Numeral} → d ≡ numeralOf (take (length l - (n + 1)) (drop (n + 1) l)) → d ≡ numeralOf (drop (suc n) l)
+  behind e = e ∙ ap numeralOf (part-all l (n + 1) ∙ ap (λ (k : ℕ). drop k l) (add-one n))
 
-  pub no-number : {d : Numeral} → d ≡ numberOf (take (length l - (n + 1)) (drop (n + 1) l)) → d ≡ Malformed → NoRow ≡ lineOf head l
+  pub no-number : {d : Numeral} → d ≡ numeralOf (take (length l - (n + 1)) (drop (n + 1) l)) → d ≡ Malformed → NoRow ≡ lineOf head l
   no-number e is = no-pair (head (take n l)) ∙ ap (paired (head (take n l))) (sym is ∙ behind e) ∙ sym line-by
 
   pub row : {f : Found} {d : Numeral} {k : ℕ} {z : ℤ} → f ≡ head (take n l) → f ≡ At k
-      → d ≡ numberOf (take (length l - (n + 1)) (drop (n + 1) l)) → d ≡ Is z → IsRow k z ≡ lineOf head l
+      → d ≡ numeralOf (take (length l - (n + 1)) (drop (n + 1) l)) → d ≡ Is z → IsRow k z ≡ lineOf head l
   row e is e′ is′ = ap₂ paired (sym is ∙ e) (sym is′ ∙ behind e′) ∙ sym line-by
 
 -- the line that begins at a place of a text
@@ -102,7 +102,7 @@ module _ (head : List ℕ → Found) (t : List ℕ) (at next : ℕ) {line : Line
       ∙ so-far
 
 module _ (head : List ℕ → Found) (t : List ℕ) (at : ℕ) (end : length t ≤ at) where
-  pub formed-end : (n : ℕ) → formed head n (linesOf (drop at t)) ≡ Rows n
+  pub formed-end : (n : ℕ) → formed head n (linesOf (drop at t)) ≡ Told n
   unfolding formed
   formed-end n = ap (formed head n) (lines-done t at end)
 
@@ -118,7 +118,7 @@ below-paired n (At k) (Is z) h = h k refl
 below-paired n (At k) Malformed h = tt
 below-paired n NotListed d h = tt
 
-cell-small : (d : Numeral) (k : ℕ) → ((z : ℤ) → d ≡ Is z → SFits w32 z) → cellOf d ≡ At k → k < 2147483648
+cell-small : (d : Numeral) (k : ℕ) → ((z : ℤ) → d ≡ Is z → SFits w32 z) → cellNamed d ≡ At k → k < 2147483648
 cell-small (Is (pos n)) k h e = let q : n ≡ k = cc in omega (arith, h (pos n) refl .sfits)
 cell-small (Is (negsuc n)) k h e = let clash : _≡_ {A = ℕ} 0 1 = cc in absurd (omega arith)
 cell-small Malformed k h e = let clash : _≡_ {A = ℕ} 0 1 = cc in absurd (omega arith)
@@ -133,4 +133,4 @@ pub cell-below : (l : List ℕ) {line : Line} → line ≡ lineOf (headOf words 
 unfolding lineOf
 cell-below l e =
     subst (Below 2147483648) (sym e)
-    (below-paired 2147483648 _ _ (λ k f. cell-small (numberOf (beforeComma l)) k (λ z g. in-range (beforeComma l) g) f))
+    (below-paired 2147483648 _ _ (λ k f. cell-small (numeralOf (beforeComma l)) k (λ z g. in-range (beforeComma l) g) f))

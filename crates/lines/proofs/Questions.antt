@@ -14,14 +14,14 @@ use Rattle.refusals.specs.declared.Refusal.{Refusal}
 use Rattle.refusals.specs.declared.Refusal.the-variants.{TextForm, LineCount}
 use Rattle.texts.specs.Texts.{linesOf}
 use Rattle.lines.specs.Reading.{closed, formed, limited, reading, roomFor, filled}
+use Rattle.refusals.specs.declared.Answer.{Answer}
+use Rattle.refusals.specs.declared.Answer.the-variants.{Told, Refused}
 use Rattle.lines.specs.declared.Limits.{Limits}
-use Rattle.lines.specs.declared.Reading.{Reading}
-use Rattle.lines.specs.declared.Reading.the-variants.{Rows, Refused}
 
 -- ---- questions 1 to 3
 
 module _ (head : List ℕ → Found) (limits : Limits) (t : List ℕ) where
-  abbrev rest : Reading
+  abbrev rest : Answer
   rest = limited (limits .lines) (formed head 0 (linesOf t))
 
   not-closed : closed (limits .bytes) t ≡ false → Refused TextForm ≡ reading head limits t
@@ -39,7 +39,7 @@ module _ (head : List ℕ → Found) (limits : Limits) (t : List ℕ) where
     open-text h =
         not-closed (simp (le-leb 1 (length t) (omega arith), le-leb (length t) (limits .bytes) fits, ne-eqb (getD t (length t - 1) 0) 10 h))
 
-    module _ (last : getD t (length t - 1) 0 ≡ 10) {answer : Reading} (asked : answer ≡ formed head 0 (linesOf t)) where
+    module _ (last : getD t (length t - 1) 0 ≡ 10) {answer : Answer} (asked : answer ≡ formed head 0 (linesOf t)) where
       limited-answer : limited (limits .lines) answer ≡ reading head limits t
       unfolding reading
       limited-answer =
@@ -50,33 +50,33 @@ module _ (head : List ℕ → Found) (limits : Limits) (t : List ℕ) where
       pub no-row : {r : Refusal} → answer ≡ Refused r → answer ≡ reading head limits t
       no-row is = is ∙ ap (limited (limits .lines)) (sym is) ∙ limited-answer
 
-      pub many-lines : {n : ℕ} → answer ≡ Rows n → limits .lines < n → Refused LineCount ≡ reading head limits t
+      pub many-lines : {n : ℕ} → answer ≡ Told n → limits .lines < n → Refused LineCount ≡ reading head limits t
       many-lines {n} is h =
-          ap (λ (b : Bool). cond b (Rows n) (Refused LineCount)) (sym (lt-leb n (limits .lines) h))
+          ap (λ (b : Bool). cond b (Told n) (Refused LineCount)) (sym (lt-leb n (limits .lines) h))
           ∙ ap (limited (limits .lines)) (sym is)
           ∙ limited-answer
 
-      pub all-rows : {n : ℕ} → answer ≡ Rows n → n ≤ limits .lines → Rows n ≡ reading head limits t
+      pub all-rows : {n : ℕ} → answer ≡ Told n → n ≤ limits .lines → Told n ≡ reading head limits t
       all-rows {n} is h =
-          ap (λ (b : Bool). cond b (Rows n) (Refused LineCount)) (sym (le-leb n (limits .lines) h))
+          ap (λ (b : Bool). cond b (Told n) (Refused LineCount)) (sym (le-leb n (limits .lines) h))
           ∙ ap (limited (limits .lines)) (sym is)
           ∙ limited-answer
 
 -- ---- what the lent slices hold
 
 module _ {A : Type 0} (put held : List A) (kinds numbers : ℕ) where
-  pub kept-refused : {answer : Reading} {r : Refusal} → answer ≡ Refused r → held ≡ filled (roomFor answer kinds numbers) put held
-  kept-refused is = ap (λ (x : Reading). filled (roomFor x kinds numbers) put held) (sym is)
+  pub kept-refused : {answer : Answer} {r : Refusal} → answer ≡ Refused r → held ≡ filled (roomFor answer kinds numbers) put held
+  kept-refused is = ap (λ (x : Answer). filled (roomFor x kinds numbers) put held) (sym is)
 
   module _ (n : ℕ) where
-    pub kept-kinds : kinds < n → held ≡ filled (roomFor (Rows n) kinds numbers) put held
+    pub kept-kinds : kinds < n → held ≡ filled (roomFor (Told n) kinds numbers) put held
     kept-kinds h = simp (lt-leb n kinds h)
 
-    pub kept-numbers : n ≤ kinds → numbers < n → held ≡ filled (roomFor (Rows n) kinds numbers) put held
+    pub kept-numbers : n ≤ kinds → numbers < n → held ≡ filled (roomFor (Told n) kinds numbers) put held
     kept-numbers g h = simp (le-leb n kinds g, lt-leb n numbers h)
 
     pub filled-with : {after : List A} → n ≤ kinds → n ≤ numbers → length put ≡ n → n ≤ length held → after ≡ sets held 0 put
-        → after ≡ filled (roomFor (Rows n) kinds numbers) put held
+        → after ≡ filled (roomFor (Told n) kinds numbers) put held
     filled-with g h count fits e =
         e
         ∙ sets-eq put held 0 (omega arith)

@@ -13,6 +13,8 @@ use lib.ListN.{length, getD, set, drop, length-append, drop-of-length-le}
 use lib.Seq.{sets, sets-eq, drop-cons}
 use Rattle.refusals.specs.declared.Refusal.{Refusal}
 use Rattle.refusals.specs.declared.Refusal.the-variants.{LentSize}
+use Rattle.refusals.specs.declared.Answer.{Answer}
+use Rattle.refusals.specs.declared.Answer.the-variants.{Told, Refused}
 use Rattle.words.specs.Kinds.{Row, rowsOf}
 use Rattle.words.specs.Laws.{rows-at, rows-length}
 use Rattle.words.specs.Words.{wordAt}
@@ -20,8 +22,6 @@ use Rattle.numerals.specs.Numerals.{decimal}
 use Rattle.lines.specs.Printing.{written, textOf, fitting, printing}
 use Rattle.lines.specs.Reading.{filled}
 use Rattle.lines.proofs.Stores.{sets-append}
-use Rattle.lines.specs.declared.Printing.{Printing}
-use Rattle.lines.specs.declared.Printing.the-variants.{Bytes, Refused}
 
 module _ (ws : List (List ℕ)) (ks : List ℕ) (ns : List ℤ) where
   abbrev rows : List Row
@@ -75,19 +75,19 @@ line-put ws k z t at n m e f e₁ e₂ e₃ e₄ =
 
 pub too-long : (t : List ℕ) (room : ℕ) → room < length t → Refused LentSize ≡ printing t room
 unfolding printing
-too-long t room h = ap (λ (b : Bool). cond b (Bytes (length t)) (Refused LentSize)) (sym (lt-leb (length t) room h))
+too-long t room h = ap (λ (b : Bool). cond b (Told (length t)) (Refused LentSize)) (sym (lt-leb (length t) room h))
 
-pub fits-in : (t : List ℕ) (room n : ℕ) → n ≡ length t → n ≤ room → Bytes n ≡ printing t room
+pub fits-in : (t : List ℕ) (room n : ℕ) → n ≡ length t → n ≤ room → Told n ≡ printing t room
 unfolding printing
-fits-in t room n e h = ap Bytes e ∙ ap (λ (b : Bool). cond b (Bytes (length t)) (Refused LentSize)) (sym (le-leb (length t) room (omega arith)))
+fits-in t room n e h = ap Told e ∙ ap (λ (b : Bool). cond b (Told (length t)) (Refused LentSize)) (sym (le-leb (length t) room (omega arith)))
 
 -- the answer tells whether the text fits
-module _ (t : List ℕ) (held : List ℕ) {answer : Printing} (is : answer ≡ printing t (length held)) where
-  pub bytes-fit : {n : ℕ} → answer ≡ Bytes n → length t ≤ length held
+module _ (t : List ℕ) (held : List ℕ) {answer : Answer} (is : answer ≡ printing t (length held)) where
+  pub bytes-fit : {n : ℕ} → answer ≡ Told n → length t ≤ length held
   unfolding printing
   bytes-fit {n} e = go (leb (length t) (length held)) refl (sym is ∙ e)
     where
-      go : (b : Bool) → leb (length t) (length held) ≡ b → cond b (Bytes (length t)) (Refused LentSize) ≡ Bytes n → length t ≤ length held
+      go : (b : Bool) → leb (length t) (length held) ≡ b → cond b (Told (length t)) (Refused LentSize) ≡ Told n → length t ≤ length held
       go true h f = leb-true (length t) (length held) h
       go false h f = let clash : _≡_ {A = ℕ} 0 1 = cc in absurd (omega arith)
 
@@ -95,11 +95,11 @@ module _ (t : List ℕ) (held : List ℕ) {answer : Printing} (is : answer ≡ p
   unfolding printing
   unprinted {r} e = go (leb (length t) (length held)) (sym is ∙ e)
     where
-      go : (b : Bool) → cond b (Bytes (length t)) (Refused LentSize) ≡ Refused r → held ≡ filled b t held
+      go : (b : Bool) → cond b (Told (length t)) (Refused LentSize) ≡ Refused r → held ≡ filled b t held
       go true f = let clash : _≡_ {A = ℕ} 0 1 = cc in absurd (omega arith)
       go false f = refl
 
-  pub printed : {n : ℕ} {after : List ℕ} → answer ≡ Bytes n → after ≡ sets held 0 t → after ≡ filled (fitting t (length held)) t held
+  pub printed : {n : ℕ} {after : List ℕ} → answer ≡ Told n → after ≡ sets held 0 t → after ≡ filled (fitting t (length held)) t held
   printed e put =
       let fits : length t ≤ length held = bytes-fit e in
       put

@@ -22,7 +22,7 @@ use Rattle.words.specs.Good.{lowerCase, Good}
 use Rattle.words.specs.Laws.{found-word, own-place, word-formed}
 use Rattle.words.specs.declared.Found.{Found}
 use Rattle.words.specs.declared.Found.the-variants.{At, NotListed}
-use Rattle.numerals.specs.Numerals.{numberOf, decimal}
+use Rattle.numerals.specs.Numerals.{numeralOf, decimal}
 use Rattle.texts.specs.Laws.{Free, lines-within, place-behind, place-split, lines-line, together, Closed, lines-together, last-closed, closed-last}
 use Rattle.numerals.specs.Laws.{read-back, one-way, no-line-end, decimal-length, decimal-short, decimal-nonempty}
 use Rattle.numerals.specs.declared.Numeral.{Numeral}
@@ -31,12 +31,12 @@ use Rattle.refusals.specs.declared.Refusal.{Refusal}
 use Rattle.refusals.specs.declared.Refusal.the-variants.{TextForm, LineForm, LineCount}
 use Rattle.texts.specs.Texts.{linesOf, placeOf, beforeComma, afterComma}
 use Rattle.lines.specs.Reading.{paired, lineOf, addRow, rowsIn, closed, whether, formed, limited, reading}
+use Rattle.refusals.specs.declared.Answer.{Answer}
+use Rattle.refusals.specs.declared.Answer.the-variants.{Told, Refused}
 use Rattle.lines.specs.Printing.{written, textOf, Printable, Each}
 use Rattle.lines.specs.declared.Line.{Line}
 use Rattle.lines.specs.declared.Line.the-variants.{IsRow, NoRow}
 use Rattle.lines.specs.declared.Limits.{Limits}
-use Rattle.lines.specs.declared.Reading.{Reading}
-use Rattle.lines.specs.declared.Reading.the-variants.{Rows, Refused}
 
 -- ---- a row's line, without its byte 10
 
@@ -55,14 +55,14 @@ free-append b [] m f g = g
 free-append b (c ∷ cs) m f g = (f .0, free-append b cs m (f .1) g)
 
 -- what stands before the first comma and behind it
-line-parts : (head : List ℕ → Found) (w d : List ℕ) → Free 44 w → lineOf head (w ++ (44 ∷ d)) ≡ paired (head w) (numberOf d)
+line-parts : (head : List ℕ → Found) (w d : List ℕ) → Free 44 w → lineOf head (w ++ (44 ∷ d)) ≡ paired (head w) (numeralOf d)
 unfolding lineOf
 line-parts head w d f =
     let place : placeOf 44 (w ++ (44 ∷ d)) ≡ length w = place-behind 44 w d f in
     let before : beforeComma (w ++ (44 ∷ d)) ≡ w = ap (λ (n : ℕ). take n (w ++ (44 ∷ d))) place ∙ take-append-seam w (44 ∷ d) in
     let after : afterComma (w ++ (44 ∷ d)) ≡ d =
     ap (λ (n : ℕ). drop n (w ++ (44 ∷ d))) (ap suc place ∙ sym (add-one (length w))) ∙ drop-append-add w (44 ∷ d) 1 in
-    ap₂ (λ (x y : List ℕ). paired (head x) (numberOf y)) before after
+    ap₂ (λ (x y : List ℕ). paired (head x) (numeralOf y)) before after
 
 -- ---- what is printed reads back
 
@@ -92,14 +92,14 @@ module _ (ws : List (List ℕ)) (good : Good ws) where
       ap (rowsIn (lookUp ws)) (text-lines r rs)
       ∙ ap₂ addRow (row-line r (p .0)) (rows-back rs (p .1))
 
-  pub formed-back : (n : ℕ) (rs : List Row) → Each (Printable ws) rs → formed (lookUp ws) n (linesOf (textOf ws rs)) ≡ Rows (n + length rs)
+  pub formed-back : (n : ℕ) (rs : List Row) → Each (Printable ws) rs → formed (lookUp ws) n (linesOf (textOf ws rs)) ≡ Told (n + length rs)
   unfolding formed linesOf textOf Each
-  formed-back n [] p = ap Rows (sym (add-zero n))
+  formed-back n [] p = ap Told (sym (add-zero n))
   formed-back n (r ∷ rs) p =
       ap (formed (lookUp ws) n) (text-lines r rs)
       ∙ ap (λ (l : Line). whether l (formed (lookUp ws) (suc n) (linesOf (textOf ws rs))) (Refused (LineForm (suc n)))) (row-line r (p .0))
       ∙ formed-back (suc n) rs (p .1)
-      ∙ ap Rows (suc-add n (length rs) ∙ sym (add-suc n (length rs)))
+      ∙ ap Told (suc-add n (length rs) ∙ sym (add-suc n (length rs)))
 
   -- a text of at least one row ends with byte 10
   text-ends : (rs : List Row) → 0 < length rs → (l : List ℕ) × (textOf ws rs ≡ l ++ (10 ∷ []))
@@ -120,16 +120,16 @@ module _ (ws : List (List ℕ)) (good : Good ws) where
   -- The rows of a text that was printed are the rows that it was printed from.
   pub reads-back : (limits : Limits) (rs : List Row) → Each (Printable ws) rs → 0 < length rs
       → length (textOf ws rs) ≤ limits .bytes → length rs ≤ limits .lines
-      → reading (lookUp ws) limits (textOf ws rs) ≡ Rows (length rs)
+      → reading (lookUp ws) limits (textOf ws rs) ≡ Told (length rs)
   unfolding reading
   reads-back limits rs p some bytes lines =
       ap (λ (b : Bool). cond b (limited (limits .lines) (formed (lookUp ws) 0 (linesOf (textOf ws rs)))) (Refused TextForm)) (text-closed (limits .bytes) rs some bytes)
-      ∙ ap (limited (limits .lines)) (formed-back 0 rs p ∙ ap Rows (zero-add (length rs)))
-      ∙ ap (λ (b : Bool). cond b (Rows (length rs)) (Refused LineCount)) (le-leb (length rs) (limits .lines) lines)
+      ∙ ap (limited (limits .lines)) (formed-back 0 rs p ∙ ap Told (zero-add (length rs)))
+      ∙ ap (λ (b : Bool). cond b (Told (length rs)) (Refused LineCount)) (le-leb (length rs) (limits .lines) lines)
 
 -- ---- a text that passes questions 1 to 3
 
-refused-rows : {r : Refusal} {n : ℕ} → Refused r ≡ Rows n → ⊥
+refused-rows : {r : Refusal} {n : ℕ} → Refused r ≡ Told n → ⊥
 refused-rows e = let clash : _≡_ {A = ℕ} 0 1 = cc in omega arith
 
 closed-text : (limit : ℕ) (t : List ℕ) → closed limit t ≡ true → Closed t
@@ -143,30 +143,30 @@ closed-text limit t c =
 
 module _ (head : List ℕ → Found) where
   -- every line is a row
-  rows-count : (n m : ℕ) (ls : List (List ℕ)) → formed head n ls ≡ Rows m → m ≡ n + length (rowsIn head ls)
+  rows-count : (n m : ℕ) (ls : List (List ℕ)) → formed head n ls ≡ Told m → m ≡ n + length (rowsIn head ls)
   unfolding formed rowsIn
   rows-count n m [] e = let q : n ≡ m = cc in omega arith
   rows-count n m (l ∷ ls) e = go (lineOf head l) refl e (rows-count (suc n) m ls)
     where
-      go : (x : Line) → lineOf head l ≡ x → whether x (formed head (suc n) ls) (Refused (LineForm (suc n))) ≡ Rows m
-          → (formed head (suc n) ls ≡ Rows m → m ≡ suc n + length (rowsIn head ls)) → m ≡ n + length (addRow (lineOf head l) (rowsIn head ls))
+      go : (x : Line) → lineOf head l ≡ x → whether x (formed head (suc n) ls) (Refused (LineForm (suc n))) ≡ Told m
+          → (formed head (suc n) ls ≡ Told m → m ≡ suc n + length (rowsIn head ls)) → m ≡ n + length (addRow (lineOf head l) (rowsIn head ls))
       go (IsRow k z) is f rest = rest f ∙ suc-add n _ ∙ sym (add-suc n _) ∙ ap (λ (x : Line). n + length (addRow x (rowsIn head ls))) (sym is)
       go NoRow is f rest = absurd (refused-rows f)
 
-  limited-rows : (limit : ℕ) (r : Reading) (n : ℕ) → limited limit r ≡ Rows n → r ≡ Rows n
-  limited-rows limit (Rows m) n e = go (leb m limit) e
+  limited-rows : (limit : ℕ) (r : Answer) (n : ℕ) → limited limit r ≡ Told n → r ≡ Told n
+  limited-rows limit (Told m) n e = go (leb m limit) e
     where
-      go : (b : Bool) → cond b (Rows m) (Refused LineCount) ≡ Rows n → Rows m ≡ Rows n
+      go : (b : Bool) → cond b (Told m) (Refused LineCount) ≡ Told n → Told m ≡ Told n
       go true f = f
       go false f = absurd (refused-rows f)
   limited-rows limit (Refused r) n e = absurd (refused-rows e)
 
-  passed : (limits : Limits) (t : List ℕ) (n : ℕ) → reading head limits t ≡ Rows n → Closed t × (formed head 0 (linesOf t) ≡ Rows n)
+  passed : (limits : Limits) (t : List ℕ) (n : ℕ) → reading head limits t ≡ Told n → Closed t × (formed head 0 (linesOf t) ≡ Told n)
   unfolding reading
   passed limits t n e = go (closed (limits .bytes) t) refl e
     where
-      go : (b : Bool) → closed (limits .bytes) t ≡ b → cond b (limited (limits .lines) (formed head 0 (linesOf t))) (Refused TextForm) ≡ Rows n
-          → Closed t × (formed head 0 (linesOf t) ≡ Rows n)
+      go : (b : Bool) → closed (limits .bytes) t ≡ b → cond b (limited (limits .lines) (formed head 0 (linesOf t))) (Refused TextForm) ≡ Told n
+          → Closed t × (formed head 0 (linesOf t) ≡ Told n)
       go true c f = (closed-text (limits .bytes) t c, limited-rows (limits .lines) (formed head 0 (linesOf t)) n f)
       go false c f = absurd (refused-rows f)
 
@@ -183,14 +183,14 @@ module _ (head : List ℕ → Found) where
   pub lines-uncounted : (limit : ℕ) (t : List ℕ) → length t ≤ limit → limited limit (formed head 0 (linesOf t)) ≡ formed head 0 (linesOf t)
   lines-uncounted limit t h = go (formed head 0 (linesOf t)) refl
     where
-      go : (r : Reading) → formed head 0 (linesOf t) ≡ r → limited limit r ≡ r
-      go (Rows m) e =
-          ap (λ (b : Bool). cond b (Rows m) (Refused LineCount))
+      go : (r : Answer) → formed head 0 (linesOf t) ≡ r → limited limit r ≡ r
+      go (Told m) e =
+          ap (λ (b : Bool). cond b (Told m) (Refused LineCount))
           (le-leb m limit (omega (arith, rows-count 0 m (linesOf t) e, rows-within (linesOf t), lines-within t)))
       go (Refused r) e = refl
 
   -- As many rows are read as the answer says.
-  pub rows-read : (limits : Limits) (t : List ℕ) (n : ℕ) → reading head limits t ≡ Rows n → length (rowsIn head (linesOf t)) ≡ n
+  pub rows-read : (limits : Limits) (t : List ℕ) (n : ℕ) → reading head limits t ≡ Told n → length (rowsIn head (linesOf t)) ≡ n
   rows-read limits t n e = omega (arith, rows-count 0 n (linesOf t) (passed limits t n e .1))
 
 -- ---- what is read prints back, for every table
@@ -204,19 +204,19 @@ module _ (ws : List (List ℕ)) where
   line-back : (l : List ℕ) (k : ℕ) (z : ℤ) → lineOf (lookUp ws) l ≡ IsRow k z → inside ws (k, z) ≡ l
   unfolding lineOf
   line-back l k z e =
-      let both = paired-row (lookUp ws (beforeComma l)) (numberOf (afterComma l)) k z e in
+      let both = paired-row (lookUp ws (beforeComma l)) (numeralOf (afterComma l)) k z e in
       let word : wordAt ws k ≡ beforeComma l = found-word ws (beforeComma l) k (both .0) .1 in
       let digits : decimal z ≡ afterComma l = one-way (afterComma l) (both .1) in
       ap₂ (λ (w d : List ℕ). w ++ (44 ∷ d)) word digits
       ∙ place-split 44 l (subst (λ (d : List ℕ). 0 < length d) digits (decimal-nonempty z))
 
-  printed : (n m : ℕ) (ls : List (List ℕ)) → formed (lookUp ws) n ls ≡ Rows m → textOf ws (rowsIn (lookUp ws) ls) ≡ together ls
+  printed : (n m : ℕ) (ls : List (List ℕ)) → formed (lookUp ws) n ls ≡ Told m → textOf ws (rowsIn (lookUp ws) ls) ≡ together ls
   unfolding formed rowsIn textOf together written
   printed n m [] e = refl
   printed n m (l ∷ ls) e = go (lineOf (lookUp ws) l) refl e (printed (suc n) m ls)
     where
-      go : (x : Line) → lineOf (lookUp ws) l ≡ x → whether x (formed (lookUp ws) (suc n) ls) (Refused (LineForm (suc n))) ≡ Rows m
-          → (formed (lookUp ws) (suc n) ls ≡ Rows m → textOf ws (rowsIn (lookUp ws) ls) ≡ together ls)
+      go : (x : Line) → lineOf (lookUp ws) l ≡ x → whether x (formed (lookUp ws) (suc n) ls) (Refused (LineForm (suc n))) ≡ Told m
+          → (formed (lookUp ws) (suc n) ls ≡ Told m → textOf ws (rowsIn (lookUp ws) ls) ≡ together ls)
           → textOf ws (addRow (lineOf (lookUp ws) l) (rowsIn (lookUp ws) ls)) ≡ l ++ (10 ∷ together ls)
       go (IsRow k z) is f rest =
           ap (λ (x : Line). textOf ws (addRow x (rowsIn (lookUp ws) ls))) is
@@ -225,7 +225,7 @@ module _ (ws : List (List ℕ)) where
       go NoRow is f rest = absurd (refused-rows f)
 
   -- A text that is read and printed again is the same text.
-  pub prints-back : (limits : Limits) (t : List ℕ) (n : ℕ) → reading (lookUp ws) limits t ≡ Rows n
+  pub prints-back : (limits : Limits) (t : List ℕ) (n : ℕ) → reading (lookUp ws) limits t ≡ Told n
       → textOf ws (rowsIn (lookUp ws) (linesOf t)) ≡ t
   prints-back limits t n e =
       let p = passed (lookUp ws) limits t n e in

@@ -8,12 +8,12 @@ use lib.ListN.{length}
 use mir.Syntax.{w32}
 use mir.Val.{SFits}
 use Rattle.refusals.specs.declared.Refusal.the-variants.{LentSize}
+use Rattle.refusals.specs.declared.Answer.{Answer}
+use Rattle.refusals.specs.declared.Answer.the-variants.{Told, Refused}
 use Rattle.words.specs.Kinds.{Row}
 use Rattle.words.specs.Words.{wordAt}
 use Rattle.numerals.specs.Numerals.{decimal}
 use Rattle.lines.specs.Reading.{filled}
-use Rattle.lines.specs.declared.Printing.{Printing}
-use Rattle.lines.specs.declared.Printing.the-variants.{Bytes, Refused}
 
 -- [1.1], [1.2] A row's line: its word, a comma (byte 44), its number, and byte 10.
 unfoldable pub written : List (List ℕ) → Row → List ℕ
@@ -27,11 +27,11 @@ textOf ws (r ∷ rs) = written ws r ++ textOf ws rs
 abbrev pub fitting : List ℕ → ℕ → Bool
 fitting text room = leb (length text) room
 
-unfoldable pub printing : List ℕ → ℕ → Printing
-printing text room = cond (fitting text room) (Bytes (length text)) (Refused LentSize)
+unfoldable pub printing : List ℕ → ℕ → Answer
+printing text room = cond (fitting text room) (Told (length text)) (Refused LentSize)
 
 -- What a printer promises of its answer r and of the text, as lent and as left.
-pub record PrintInto (ws : List (List ℕ)) (rows : List Row) (text : List ℕ) (r : Printing) (text′ : List ℕ) : Type 0 where
+pub record PrintInto (ws : List (List ℕ)) (rows : List Row) (text : List ℕ) (r : Answer) (text′ : List ℕ) : Type 0 where
   pub answer : r ≡ printing (textOf ws rows) (length text)
   pub text-left : text′ ≡ filled (fitting (textOf ws rows) (length text)) (textOf ws rows) text
 

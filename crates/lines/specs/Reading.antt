@@ -6,14 +6,16 @@ use mathlib.Core.List.{List, [], _∷_, _++_, map}
 use Prim.Native.Nat.{ℕ, suc, _-_}
 use lib.Dec.{eqb, leb}
 use lib.IntN.{ℤ, pos, negsuc}
-use lib.ListN.{length, getD, take, drop}
+use lib.ListN.{length, getD, drop}
 use Rattle.refusals.specs.declared.Refusal.the-variants.{TextForm, LineForm, LineCount}
+use Rattle.refusals.specs.declared.Answer.{Answer}
+use Rattle.refusals.specs.declared.Answer.the-variants.{Told, Refused}
 use Rattle.words.specs.Kinds.{Row}
 use Rattle.words.specs.Words.{lookUp}
 use Rattle.words.specs.declared.Found.{Found}
 use Rattle.words.specs.declared.Found.the-variants.{At, NotListed}
 use Rattle.texts.specs.Texts.{linesOf, beforeComma, afterComma}
-use Rattle.numerals.specs.Numerals.{numberOf}
+use Rattle.numerals.specs.Numerals.{numeralOf}
 use Rattle.numerals.specs.declared.Numeral.{Numeral}
 use Rattle.numerals.specs.declared.Numeral.the-variants.{Is, Malformed}
 use Rattle.lines.specs.declared.Heads.{Heads}
@@ -21,21 +23,19 @@ use Rattle.lines.specs.declared.Heads.the-variants.{Words, Cells}
 use Rattle.lines.specs.declared.Line.{Line}
 use Rattle.lines.specs.declared.Line.the-variants.{IsRow, NoRow}
 use Rattle.lines.specs.declared.Limits.{Limits}
-use Rattle.lines.specs.declared.Reading.{Reading}
-use Rattle.lines.specs.declared.Reading.the-variants.{Rows, Refused}
 
 -- ---- a line's row
 
 -- [11.3] In a values file a number that is not below 0 stands for the word, and is a cell; [11.4] no other number is one.
-abbrev pub cellOf : Numeral → Found
-cellOf (Is (pos n)) = At n
-cellOf (Is (negsuc n)) = NotListed
-cellOf Malformed = NotListed
+abbrev pub cellNamed : Numeral → Found
+cellNamed (Is (pos n)) = At n
+cellNamed (Is (negsuc n)) = NotListed
+cellNamed Malformed = NotListed
 
 -- [1.3] What stands before the comma: a listed word, or in the values file a cell.
 abbrev pub headOf : List (List ℕ) → Heads → List ℕ → Found
 headOf ws Words l = lookUp ws l
-headOf ws Cells l = cellOf (numberOf l)
+headOf ws Cells l = cellNamed (numeralOf l)
 
 abbrev pub paired : Found → Numeral → Line
 paired (At k) (Is z) = IsRow k z
@@ -44,7 +44,7 @@ paired NotListed n = NoRow
 
 -- [1.2] A line is a word, one comma and a number; a second comma makes what is behind the first no number.
 unfoldable pub lineOf : (List ℕ → Found) → List ℕ → Line
-lineOf head l = paired (head (beforeComma l)) (numberOf (afterComma l))
+lineOf head l = paired (head (beforeComma l)) (numeralOf (afterComma l))
 
 -- [1.5] The rows of lines.
 abbrev pub addRow : Line → List Row → List Row
@@ -62,21 +62,21 @@ abbrev pub closed : ℕ → List ℕ → Bool
 closed limit t = leb 1 (length t) && leb (length t) limit && eqb (getD t (length t - 1) 0) 10
 
 -- [10.2] Every line is well written; else the first that is not is told, counted from 1 ([1.5]). n lines were asked already.
-abbrev pub whether : Line → Reading → Reading → Reading
+abbrev pub whether : Line → Answer → Answer → Answer
 whether (IsRow k z) yes′ no′ = yes′
 whether NoRow yes′ no′ = no′
 
-unfoldable pub formed : (List ℕ → Found) → ℕ → List (List ℕ) → Reading
-formed head n [] = Rows n
+unfoldable pub formed : (List ℕ → Found) → ℕ → List (List ℕ) → Answer
+formed head n [] = Told n
 formed head n (l ∷ ls) = whether (lineOf head l) (formed head (suc n) ls) (Refused (LineForm (suc n)))
 
 -- [10.3] The lines are at most as many as they may be.
-abbrev pub limited : ℕ → Reading → Reading
-limited limit (Rows n) = cond (leb n limit) (Rows n) (Refused LineCount)
+abbrev pub limited : ℕ → Answer → Answer
+limited limit (Told n) = cond (leb n limit) (Told n) (Refused LineCount)
 limited limit (Refused r) = Refused r
 
 -- [10.2] All lines are asked for their form before they are counted. The first "no" of the three; else how many rows there are.
-unfoldable pub reading : (List ℕ → Found) → Limits → List ℕ → Reading
+unfoldable pub reading : (List ℕ → Found) → Limits → List ℕ → Answer
 reading head limits t =
     cond (closed (limits .bytes) t) (limited (limits .lines) (formed head 0 (linesOf t))) (Refused TextForm)
 
@@ -94,8 +94,8 @@ valuesLimits = record { bytes = 65536; lines = 65536 }
 
 -- ---- [10.22] what lent slices hold in the end: the rows in front if both have room for them; else what they held
 
-abbrev pub roomFor : Reading → ℕ → ℕ → Bool
-roomFor (Rows n) kinds numbers = leb n kinds && leb n numbers
+abbrev pub roomFor : Answer → ℕ → ℕ → Bool
+roomFor (Told n) kinds numbers = leb n kinds && leb n numbers
 roomFor (Refused r) kinds numbers = false
 
 abbrev pub kindsOf : List Row → List ℕ
@@ -109,7 +109,7 @@ filled room put held = cond room (put ++ drop (length put) held) held
 
 -- What a reader promises of its answer r and of the two slices, as lent and as left.
 pub record ReadInto (head : List ℕ → Found) (limits : Limits) (t : List ℕ) (kinds : List ℕ) (numbers : List ℤ)
-    (r : Reading) (kinds′ : List ℕ) (numbers′ : List ℤ) : Type 0 where
+    (r : Answer) (kinds′ : List ℕ) (numbers′ : List ℤ) : Type 0 where
   pub answer : r ≡ reading head limits t
   pub kinds-left : kinds′ ≡ filled (roomFor r (length kinds) (length numbers)) (kindsOf (rowsIn head (linesOf t))) kinds
   pub numbers-left : numbers′ ≡ filled (roomFor r (length kinds) (length numbers)) (numbersOf (rowsIn head (linesOf t))) numbers

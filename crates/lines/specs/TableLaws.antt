@@ -9,17 +9,19 @@ use borrow.Author.Tests.{leb-true, le-leb, lt-leb}
 use lib.Dec.{leb}
 use lib.IntN.{ℤ}
 use lib.ListN.{length, take, drop, length-map}
-use lib.Seq.{take-at}
+use lib.Seq.{take-at, length-take-le}
+use Rattle.refusals.specs.declared.Refusal.{Refusal}
 use Rattle.refusals.specs.declared.Refusal.the-variants.{LineCount, TextForm, LentSize}
+use Rattle.refusals.specs.declared.Answer.{Answer}
+use Rattle.refusals.specs.declared.Answer.the-variants.{Told, Refused}
+use Rattle.refusals.specs.Answers.{after, unlessRefused, isTold}
 use Rattle.words.specs.Kinds.{Row, rowsOf}
 use Rattle.words.specs.declared.Found.{Found}
 use Rattle.texts.specs.Texts.{linesOf}
 use Rattle.lines.specs.Reading.{rowsIn, closed, formed, limited, reading, roomFor, kindsOf, numbersOf, filled, ReadInto}
-use Rattle.lines.specs.Lent.{askRoom}
+use Rattle.lines.specs.Lent.{askRoom, TableInto}
 use Rattle.lines.specs.Laws.{rows-read}
 use Rattle.lines.specs.declared.Limits.{Limits}
-use Rattle.lines.specs.declared.Reading.{Reading}
-use Rattle.lines.specs.declared.Reading.the-variants.{Rows, Refused}
 
 -- ---- rows in front
 
@@ -57,54 +59,106 @@ module _ (n k m : ℕ) where
   pub room-for : n ≤ k → n ≤ m → (leb n k && leb n m) ≡ true
   room-for h g = simp (le-leb n k h, le-leb n m g)
 
+  -- question 12 of these rows, which were told
+  module _ {a : Answer} (is : a ≡ Told n) where
+    asked : (b : Bool) → (leb n k && leb n m) ≡ b → cond b (Told n) (Refused LentSize) ≡ after a (λ rows. askRoom rows k m)
+    asked b e = ap (λ (x : Bool). cond x (Told n) (Refused LentSize)) (sym e) ∙ ap (λ (x : Answer). after x (λ rows. askRoom rows k m)) (sym is)
+
+    pub few-kinds : k < n → Refused LentSize ≡ after a (λ rows. askRoom rows k m)
+    few-kinds h = asked false (short-kinds h)
+
+    pub few-numbers : m < n → Refused LentSize ≡ after a (λ rows. askRoom rows k m)
+    few-numbers h = asked false (short-numbers h)
+
+    pub room-told : n ≤ k → n ≤ m → Told n ≡ after a (λ rows. askRoom rows k m)
+    room-told h g = asked true (room-for h g)
+
+-- ---- refused before the table is touched
+
+pub refused-into : {v r : Answer} {q : Refusal} (R : List Row) (ks : List ℕ) (ns : List ℤ) → r ≡ v → r ≡ Refused q → TableInto v R ks ns r ks ns
+refused-into R ks ns e f = record {
+  answer = f ∙ ap (λ (x : Answer). unlessRefused x (askRoom (length R) (length ks) (length ns))) (sym f ∙ e);
+  kinds-left = ap (λ (x : Answer). filled (isTold x) (kindsOf R) ks) (sym f);
+  numbers-left = ap (λ (x : Answer). filled (isTold x) (numbersOf R) ns) (sym f);
+}
+
 -- ---- a text that was read
 
-limited-few : (limit n : ℕ) (r : Reading) → limited limit r ≡ Rows n → n ≤ limit
+limited-few : (limit n : ℕ) (r : Answer) → limited limit r ≡ Told n → n ≤ limit
 limited-few limit n (Refused q) e = absurd (let clash : _≡_ {A = ℕ} 0 1 = cc in omega arith)
-limited-few limit n (Rows m) e = go (leb m limit) refl e
+limited-few limit n (Told m) e = go (leb m limit) refl e
   where
-    go : (b : Bool) → leb m limit ≡ b → cond b (Rows m) (Refused LineCount) ≡ Rows n → n ≤ limit
+    go : (b : Bool) → leb m limit ≡ b → cond b (Told m) (Refused LineCount) ≡ Told n → n ≤ limit
     go true h e = let same : m ≡ n = cc in omega (arith, leb-true m limit h)
     go false h e = absurd (let clash : _≡_ {A = ℕ} 0 1 = cc in omega arith)
 
 module _ (head : List ℕ → Found) (limits : Limits) (t : List ℕ) where
   -- it has no more rows than its limits let in
-  pub read-few : (n : ℕ) → reading head limits t ≡ Rows n → n ≤ limits .lines
+  pub read-few : (n : ℕ) → reading head limits t ≡ Told n → n ≤ limits .lines
   unfolding reading
   read-few n e = go (closed (limits .bytes) t) e
     where
-      go : (b : Bool) → cond b (limited (limits .lines) (formed head 0 (linesOf t))) (Refused TextForm) ≡ Rows n → n ≤ limits .lines
+      go : (b : Bool) → cond b (limited (limits .lines) (formed head 0 (linesOf t))) (Refused TextForm) ≡ Told n → n ≤ limits .lines
       go true e = limited-few (limits .lines) n (formed head 0 (linesOf t)) e
       go false e = absurd (let clash : _≡_ {A = ℕ} 0 1 = cc in omega arith)
 
   -- and they stand in front of slices that have room for so many
-  pub rows-held : (r : Reading) (n : ℕ) (ks ks′ : List ℕ) (ns ns′ : List ℤ) → r ≡ Rows n → limits .lines ≤ length ks → limits .lines ≤ length ns
+  pub rows-held : (r : Answer) (n : ℕ) (ks ks′ : List ℕ) (ns ns′ : List ℤ) → r ≡ Told n → limits .lines ≤ length ks → limits .lines ≤ length ns
       → ReadInto head limits t ks ns r ks′ ns′ → rowsOf (take n ks′) (take n ns′) ≡ rowsIn head (linesOf t)
   rows-held r n ks ks′ ns ns′ f h g i =
-      let e : reading head limits t ≡ Rows n = sym (i .answer) ∙ f in
+      let e : reading head limits t ≡ Told n = sym (i .answer) ∙ f in
       let few = read-few n e in
       let room : roomFor r (length ks) (length ns) ≡ true =
-      ap (λ (x : Reading). roomFor x (length ks) (length ns)) f ∙ room-for n (length ks) (length ns) (omega (arith, few, h)) (omega (arith, few, g)) in
+      ap (λ (x : Answer). roomFor x (length ks) (length ns)) f ∙ room-for n (length ks) (length ns) (omega (arith, few, h)) (omega (arith, few, g)) in
       rows-in-front (roomFor r (length ks) (length ns)) (rowsIn head (linesOf t)) n ks ks′ ns ns′ room (rows-read head limits t n e) (i .kinds-left) (i .numbers-left)
 
-  -- ---- question 12, put to what was read
+  -- ---- read into slices of as many rows as the limits let in: their fronts hold the rows
 
-  module _ (r : Reading) (n : ℕ) (ks ks′ : List ℕ) (ns ns′ : List ℤ) (f : r ≡ Rows n) (i : ReadInto head limits t ks ns r ks′ ns′) where
-    abbrev fits : Bool
-    fits = leb n (length ks) && leb n (length ns)
+  pub record Held (n : ℕ) (ks′ : List ℕ) (ns′ : List ℤ) : Type 0 where
+    pub few : n ≤ limits .lines
+    pub kinds-front : length (take n ks′) ≡ n
+    pub numbers-front : length (take n ns′) ≡ n
+    pub rows : rowsOf (take n ks′) (take n ns′) ≡ rowsIn head (linesOf t)
 
-    pub room-asked : (b : Bool) → fits ≡ b → cond b (Rows n) (Refused LentSize) ≡ askRoom (length (rowsIn head (linesOf t))) (length ks) (length ns)
-    room-asked b e =
-        ap (λ (x : Bool). cond x (Rows n) (Refused LentSize)) (sym e)
-        ∙ ap (λ (k : ℕ). askRoom k (length ks) (length ns)) (sym (rows-read head limits t n (sym (i .answer) ∙ f)))
+  pub held : {r : Answer} {n : ℕ} {ks ks′ : List ℕ} {ns ns′ : List ℤ} → ReadInto head limits t ks ns r ks′ ns′ → r ≡ Told n
+      → length ks ≡ limits .lines → length ns ≡ limits .lines → length ks′ ≡ limits .lines → length ns′ ≡ limits .lines → Held n ks′ ns′
+  held {r} {n} {ks} {ks′} {ns} {ns′} i f k m k′ m′ =
+      let few = read-few n (sym (i .answer) ∙ f) in
+      record {
+        few = few;
+        kinds-front = length-take-le n ks′ (omega (arith, few, k′));
+        numbers-front = length-take-le n ns′ (omega (arith, few, m′));
+        rows = rows-held r n ks ks′ ns ns′ f (omega (arith, k)) (omega (arith, m)) i;
+      }
 
-    column-left : {A : Type 0} (b : Bool) → fits ≡ b → (column lent : List A) {then : List A}
-        → then ≡ filled (roomFor r (length ks) (length ns)) column lent → then ≡ filled b column lent
-    column-left b e column lent q =
-        q ∙ ap (λ (x : Reading). filled (roomFor x (length ks) (length ns)) column lent) f ∙ ap (λ (x : Bool). filled x column lent) e
+  -- ---- read into a lent table, where `checked` answers the questions before 12, those of the reading first
 
-    pub kinds-filled : (b : Bool) → fits ≡ b → ks′ ≡ filled b (kindsOf (rowsIn head (linesOf t))) ks
-    kinds-filled b e = column-left b e (kindsOf (rowsIn head (linesOf t))) ks (i .kinds-left)
+  abbrev R : List Row
+  R = rowsIn head (linesOf t)
 
-    pub numbers-filled : (b : Bool) → fits ≡ b → ns′ ≡ filled b (numbersOf (rowsIn head (linesOf t))) ns
-    numbers-filled b e = column-left b e (numbersOf (rowsIn head (linesOf t))) ns (i .numbers-left)
+  module _ {checked : Answer} (next : Answer) (c : checked ≡ unlessRefused (reading head limits t) next) {n : ℕ} (passes : checked ≡ Told n)
+      {ks ks′ : List ℕ} {ns ns′ : List ℤ} {r : Answer} (i : ReadInto head limits t ks ns r ks′ ns′) where
+    pub read-into : {a : Answer} {k m : ℕ} → k ≡ length ks → m ≡ length ns → a ≡ after r (λ rows. askRoom rows k m) → TableInto checked R ks ns a ks′ ns′
+    read-into {a} {k} {m} h g e = go r refl
+      where
+        told : (b : Bool) (m : ℕ) → isTold (cond b (Told m) (Refused LentSize)) ≡ b
+        told true m = refl
+        told false m = refl
+
+        go : (x : Answer) → r ≡ x → TableInto checked R ks ns a ks′ ns′
+        go (Refused q) f =
+            let no : checked ≡ Refused q = c ∙ ap (λ (x : Answer). unlessRefused x next) (sym (i .answer) ∙ f) in
+            absurd (let clash : _≡_ {A = ℕ} 0 1 = cc in omega arith)
+        go (Told rows) f =
+            let asks : a ≡ askRoom rows (length ks) (length ns) =
+            e ∙ ap (λ (x : Answer). after x (λ rows. askRoom rows k m)) f ∙ ap₂ (askRoom rows) h g in
+            let room : roomFor r (length ks) (length ns) ≡ isTold a =
+            ap (λ (x : Answer). roomFor x (length ks) (length ns)) f
+            ∙ sym (ap isTold asks ∙ told (leb rows (length ks) && leb rows (length ns)) rows) in
+            record {
+              answer = asks
+                  ∙ ap (λ (k : ℕ). askRoom k (length ks) (length ns)) (sym (rows-read head limits t rows (sym (i .answer) ∙ f)))
+                  ∙ ap (λ (x : Answer). unlessRefused x (askRoom (length R) (length ks) (length ns))) (sym passes);
+              kinds-left = i .kinds-left ∙ ap (λ (b : Bool). filled b (kindsOf R) ks) room;
+              numbers-left = i .numbers-left ∙ ap (λ (b : Bool). filled b (numbersOf R) ns) room;
+            }

@@ -1,9 +1,13 @@
 // Texts and rows: a text is read into kinds and numbers ([1.8]), and rows are printed as a text ([1.9]).
+ghost use mathlib.Core.Path.{_≡_};
+ghost use Rattle.refusals.specs.Answers.{after};
 ghost use Rattle.words.specs.Kinds.{rowsOf};
 ghost use Rattle.words.specs.Words.{words};
 ghost use Rattle.lines.specs.Reading.{headOf, planLimits, loopsLimits, valuesLimits, ReadInto};
+ghost use Rattle.lines.specs.Lent.{askRoom};
 ghost use Rattle.lines.specs.Printing.{PrintInto};
 ghost use Rattle.lines.specs.declared.Heads.the-variants.{Words, Cells};
+use refusals::Answer;
 use refusals::Refusal;
 
 mod printer;
@@ -27,24 +31,12 @@ pub struct Limits {
     pub lines: usize,
 }
 
-// How many rows a text has, or the first question that it answers "no".
-pub enum Reading {
-    Rows(usize),
-    Refused(Refusal),
-}
-
-// How many bytes were put, or the question that the lent text answers "no".
-pub enum Printing {
-    Bytes(usize),
-    Refused(Refusal),
-}
-
-// Reads a text within limits; its rows go into the lent table if that has room for them.
-fn read(text: &[u8], limits: Limits, kinds: &mut [u8], numbers: &mut [i32]) -> Reading
+// Reads a text within limits: how many rows it has, or the first "no". They go into the lent table if that has room for them.
+fn read(text: &[u8], limits: Limits, kinds: &mut [u8], numbers: &mut [i32]) -> Answer
     ensures { λ r. ⌜ ReadInto (headOf words Words) limits (now (text .entry)) (now (kinds .entry)) (now (numbers .entry)) r (now (kinds .exit)) (now (numbers .exit)) ⌝ }
 {
     let answer = reader::ask(Heads::Words, limits, text);
-    let Reading::Rows(rows) = answer else {
+    let Answer::Told(rows) = answer else {
         return answer;
     };
     if kinds.len() < rows {
@@ -58,7 +50,7 @@ fn read(text: &[u8], limits: Limits, kinds: &mut [u8], numbers: &mut [i32]) -> R
 }
 
 // Reads a plan's text: at most 4,096 bytes [13.2] and 256 lines [13.4].
-pub fn read_plan(text: &[u8], kinds: &mut [u8], numbers: &mut [i32]) -> Reading
+pub fn read_plan(text: &[u8], kinds: &mut [u8], numbers: &mut [i32]) -> Answer
     ensures { λ r. ⌜ ReadInto (headOf words Words) planLimits (now (text .entry)) (now (kinds .entry)) (now (numbers .entry)) r (now (kinds .exit)) (now (numbers .exit)) ⌝ }
 {
     read(
@@ -73,7 +65,7 @@ pub fn read_plan(text: &[u8], kinds: &mut [u8], numbers: &mut [i32]) -> Reading
 }
 
 // Reads the text of loops: at most 65,536 bytes [13.3] and 4,096 lines [13.5].
-pub fn read_loops(text: &[u8], kinds: &mut [u8], numbers: &mut [i32]) -> Reading
+pub fn read_loops(text: &[u8], kinds: &mut [u8], numbers: &mut [i32]) -> Answer
     ensures { λ r. ⌜ ReadInto (headOf words Words) loopsLimits (now (text .entry)) (now (kinds .entry)) (now (numbers .entry)) r (now (kinds .exit)) (now (numbers .exit)) ⌝ }
 {
     read(
@@ -88,7 +80,7 @@ pub fn read_loops(text: &[u8], kinds: &mut [u8], numbers: &mut [i32]) -> Reading
 }
 
 // Reads a values file of at most 65,536 bytes [13.3]: the cells and their values.
-pub fn read_values(text: &[u8], cells: &mut [u32], values: &mut [i32]) -> Reading
+pub fn read_values(text: &[u8], cells: &mut [u32], values: &mut [i32]) -> Answer
     ensures { λ r. ⌜ ReadInto (headOf words Cells) valuesLimits (now (text .entry)) (now (cells .entry)) (now (values .entry)) r (now (cells .exit)) (now (values .exit)) ⌝ }
 {
     let answer = reader::ask(
@@ -99,7 +91,7 @@ pub fn read_values(text: &[u8], cells: &mut [u32], values: &mut [i32]) -> Readin
         },
         text,
     );
-    let Reading::Rows(rows) = answer else {
+    let Answer::Told(rows) = answer else {
         return answer;
     };
     if cells.len() < rows {
@@ -112,12 +104,29 @@ pub fn read_values(text: &[u8], cells: &mut [u32], values: &mut [i32]) -> Readin
     answer
 }
 
-// [1.9] Prints the rows of a table, as many as the shorter slice has ([1.8]), at the front of the lent text.
-pub fn print(kinds: &[u8], numbers: &[i32], text: &mut [u8]) -> Printing
+// [10.12] Has a table of so many kinds and numbers room for the rows told? How many they are, or the first "no".
+pub fn ask_room(told: Answer, kinds: usize, numbers: usize) -> Answer
+    ensures { λ r. ⌜ r ≡ after told (λ rows. askRoom rows kinds numbers) ⌝ }
+{
+    let Answer::Told(rows) = told else {
+        return told;
+    };
+    if kinds < rows {
+        return Answer::Refused(Refusal::LentSize);
+    }
+    if numbers < rows {
+        return Answer::Refused(Refusal::LentSize);
+    }
+    told
+}
+
+// [1.9] Prints the rows of a table, as many as the shorter slice has ([1.8]), at the front of the lent text:
+// how many bytes were put, or the "no".
+pub fn print(kinds: &[u8], numbers: &[i32], text: &mut [u8]) -> Answer
     ensures { λ r. ⌜ PrintInto words (rowsOf (now (kinds .entry)) (now (numbers .entry))) (now (text .entry)) r (now (text .exit)) ⌝ }
 {
     let answer = printer::text_size(kinds, numbers, text.len());
-    let Printing::Bytes(_) = answer else {
+    let Answer::Told(_) = answer else {
         return answer;
     };
     printer::put_text(kinds, numbers, text);

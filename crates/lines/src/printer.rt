@@ -6,18 +6,8 @@ ghost use lib.Seq.{sets};
 ghost use Rattle.words.specs.Kinds.{rowsOf};
 ghost use Rattle.words.specs.Words.{words, wordAt};
 ghost use Rattle.lines.specs.Printing.{written, textOf, printing};
-use crate::Printing;
+use refusals::Answer;
 use refusals::Refusal;
-
-// [1.8] How many rows a table has.
-fn rows_of(kinds: &[u8], numbers: &[i32]) -> usize
-    ensures { λ r. ⌜ (r ≡ length (rowsOf (now (kinds .entry)) (now (numbers .entry)))) × (r ≤ length (now (kinds .entry))) × (r ≤ length (now (numbers .entry))) ⌝ }
-{
-    if kinds.len() < numbers.len() {
-        return kinds.len();
-    }
-    numbers.len()
-}
 
 // The bytes of a row's line.
 fn line_size(kind: u8, number: i32) -> usize
@@ -27,21 +17,21 @@ fn line_size(kind: u8, number: i32) -> usize
 }
 
 // The bytes of the rows' text, if it has at most as many as there is room for.
-pub fn text_size(kinds: &[u8], numbers: &[i32], room: usize) -> Printing
+pub fn text_size(kinds: &[u8], numbers: &[i32], room: usize) -> Answer
     ensures { λ r. ⌜ r ≡ printing (textOf words (rowsOf (now (kinds .entry)) (now (numbers .entry)))) room ⌝ }
 {
-    let rows = rows_of(kinds, numbers);
+    let rows = words::row_count(kinds, numbers);
     let mut bytes = 0;
     let mut i = 0;
     while i < rows {
         let size = line_size(kinds[i], numbers[i]);
         if room - bytes < size {
-            return Printing::Refused(Refusal::LentSize);
+            return Answer::Refused(Refusal::LentSize);
         }
         bytes += size;
         i += 1;
     }
-    Printing::Bytes(bytes)
+    Answer::Told(bytes)
 }
 
 // Puts a word's letters.
@@ -77,7 +67,7 @@ pub fn put_text(kinds: &[u8], numbers: &[i32], text: &mut [u8])
     requires { ⌜ length (textOf words (rowsOf (now kinds) (now numbers))) ≤ length (now text) ⌝ }
     ensures { λ _. ⌜ now (text .exit) ≡ sets (now (text .entry)) 0 (textOf words (rowsOf (now (kinds .entry)) (now (numbers .entry)))) ⌝ }
 {
-    let rows = rows_of(kinds, numbers);
+    let rows = words::row_count(kinds, numbers);
     let mut at = 0;
     let mut i = 0;
     while i < rows {

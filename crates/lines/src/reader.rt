@@ -7,14 +7,14 @@ ghost use lib.Seq.{sets};
 ghost use Rattle.words.specs.Kinds.{Row};
 ghost use Rattle.words.specs.Words.{words};
 ghost use Rattle.texts.specs.Texts.{linesOf, firstLine, afterFirst};
-ghost use Rattle.lines.specs.Reading.{cellOf, headOf, lineOf, addRow, rowsIn, formed, reading, kindsOf, numbersOf};
+ghost use Rattle.lines.specs.Reading.{cellNamed, headOf, lineOf, addRow, rowsIn, formed, reading, kindsOf, numbersOf};
 ghost use Rattle.lines.specs.Below.{Below};
 ghost use Rattle.lines.specs.declared.Heads.the-variants.{Words, Cells};
 use crate::Heads;
 use crate::Limits;
 use crate::Line;
-use crate::Reading;
 use numerals::Numeral;
+use refusals::Answer;
 use refusals::Refusal;
 use words::Found;
 
@@ -26,7 +26,7 @@ pub struct Next {
 
 // [11.3], [11.4] The cell that a number names.
 fn cell_of(number: Numeral) -> Found
-    ensures { λ r. ⌜ r ≡ cellOf number ⌝ }
+    ensures { λ r. ⌜ r ≡ cellNamed number ⌝ }
 {
     match number {
         Numeral::Is(cell) => {
@@ -86,7 +86,7 @@ fn next_line(heads: Heads, text: &[u8], at: usize) -> Next
 }
 
 // [10.2], line by line.
-fn ask_lines(heads: Heads, text: &[u8]) -> Reading
+fn ask_lines(heads: Heads, text: &[u8]) -> Answer
     ensures { λ r. ⌜ r ≡ formed (headOf words heads) 0 (linesOf (now (text .entry))) ⌝ }
 {
     let mut at = 0;
@@ -96,33 +96,33 @@ fn ask_lines(heads: Heads, text: &[u8]) -> Reading
         let line = next.line;
         lines += 1;
         let Line::IsRow { kind: _, number: _ } = line else {
-            return Reading::Refused(Refusal::LineForm(lines));
+            return Answer::Refused(Refusal::LineForm(lines));
         };
         at = next.after;
     }
-    Reading::Rows(lines)
+    Answer::Told(lines)
 }
 
 // Questions 1, 2 and 3: [10.1] to [10.3].
-pub fn ask(heads: Heads, limits: Limits, text: &[u8]) -> Reading
+pub fn ask(heads: Heads, limits: Limits, text: &[u8]) -> Answer
     ensures { λ r. ⌜ r ≡ reading (headOf words heads) limits (now (text .entry)) ⌝ }
 {
     let size = text.len();
     if size == 0 {
-        return Reading::Refused(Refusal::TextForm);
+        return Answer::Refused(Refusal::TextForm);
     }
     if limits.bytes < size {
-        return Reading::Refused(Refusal::TextForm);
+        return Answer::Refused(Refusal::TextForm);
     }
     if text[size - 1] != b'\n' {
-        return Reading::Refused(Refusal::TextForm);
+        return Answer::Refused(Refusal::TextForm);
     }
     let answer = ask_lines(heads, text);
-    let Reading::Rows(rows) = answer else {
+    let Answer::Told(rows) = answer else {
         return answer;
     };
     if limits.lines < rows {
-        return Reading::Refused(Refusal::LineCount);
+        return Answer::Refused(Refusal::LineCount);
     }
     answer
 }

@@ -10,34 +10,31 @@ use lib.Dec.{leb}
 use lib.ListN.{length}
 use Rattle.refusals.specs.declared.Refusal.{Refusal}
 use Rattle.refusals.specs.declared.Refusal.the-variants.{WriteCount}
+use Rattle.refusals.specs.declared.Answer.{Answer}
+use Rattle.refusals.specs.declared.Answer.the-variants as answer
 use Rattle.words.specs.Kinds.{Row}
 use Rattle.meaning.specs.Loops.{Loops}
 use Rattle.meaning.specs.Rows.{commandRows, loopsRows}
 use Rattle.meaning.specs.Layout.{need}
 use Rattle.meaning.specs.Counts.{commandWrites}
 use Rattle.syntax.specs.InRange.{LoopsInRange}
-use Rattle.syntax.specs.declared.Answer.{Answer}
-use Rattle.syntax.specs.declared.Answer.the-variants as walk
 use Rattle.syntax.specs.Walk.{walkTable}
 use Rattle.syntax.specs.Reading.{loopsOf}
 use Rattle.syntax.specs.Theorems.{all-passed, loops-tree}
 use Rattle.words.specs.declared.Sort.the-variants as sort
 use Rattle.loops.specs.declared.Checked.{Checked}
 use Rattle.loops.specs.declared.Checked.the-variants as checked
-use Rattle.bound_check.specs.declared.Asked.{Asked}
-use Rattle.bound_check.specs.declared.Asked.the-variants.{Passed, Refused}
+use Rattle.row_bounds.specs.declared.Asked.{Asked}
+use Rattle.row_bounds.specs.declared.Asked.the-variants.{Passed, Refused}
 use Rattle.bounds.specs.Bounds.{askBounds}
-use Rattle.loops.specs.Check.{askWrites, unless, checkLoops, afterWalk, checkRows}
-use Rattle.bound_check.specs.Rows.{asking}
-use Rattle.loops.specs.Needs.{cellsIn}
+use Rattle.loops.specs.Check.{askWrites, unless, checkLoops, afterAnswer, checkLoopsRows}
+use Rattle.row_bounds.specs.Rows.{asking}
+use Rattle.loops.specs.Needs.{cellsNeeded}
 use Rattle.loops.proofs.Needs.{loops-cells}
-use Rattle.bound_check.proofs.Commands.{asking-refused, asking-passed}
+use Rattle.row_bounds.proofs.Commands.{asking-refused, asking-passed}
 use Rattle.syntax.proofs.Front as table
 
 -- ---- the loops' answer, from the command's
-
-pub one-case : {A : Type 0} {q : Refusal} {i v : ℕ} → Refused q ≡ Passed i v → A
-one-case e = absurd (let z : _≡_ {A = ℕ} 0 1 = cc in omega arith)
 
 module _ (L : Loops) (w : Asked) (g : w ≡ asking (length (commandRows (L .command))) (commandWrites (L .command)) (askBounds L)) where
   pub limits-refused : (q : Refusal) → w ≡ Refused q → checked.Refused q ≡ checkLoops L
@@ -62,21 +59,21 @@ module _ (L : Loops) (w : Asked) (g : w ≡ asking (length (commandRows (L .comm
         let m : 16777216 < commandWrites (L .command) = omega (arith, l, passed .2) in
         asked false (lt-leb (commandWrites (L .command)) 16777216 m)
 
-    pub limits-passes : v ≤ 16777216 → (R : List Row) → R ≡ loopsRows L → (c : ℕ) → c ≡ cellsIn R → checked.Passes v c ≡ checkLoops L
+    pub limits-passes : v ≤ 16777216 → (R : List Row) → R ≡ loopsRows L → (c : ℕ) → c ≡ cellsNeeded R → checked.Passes v c ≡ checkLoops L
     limits-passes l R e c q =
         let m : v ≡ commandWrites (L .command) = omega (arith, l, passed .2) in
-        ap₂ checked.Passes m (q ∙ ap cellsIn e ∙ loops-cells L)
+        ap₂ checked.Passes m (q ∙ ap cellsNeeded e ∙ loops-cells L)
         ∙ asked true (le-leb (commandWrites (L .command)) 16777216 (omega (arith, l, m)))
 
 -- ---- a table's answer, from the walk's
 
-pub rows-refused : (R : List Row) (q : Refusal) → walkTable sort.Loops R ≡ walk.Refused q → checked.Refused q ≡ checkRows R
-unfolding checkRows
-rows-refused R q e = ap (λ (a : Answer). afterWalk a (checkLoops (loopsOf R))) (sym e)
+pub rows-refused : (R : List Row) (q : Refusal) → walkTable sort.Loops R ≡ answer.Refused q → checked.Refused q ≡ checkLoopsRows R
+unfolding checkLoopsRows
+rows-refused R q e = ap (λ (a : Answer). afterAnswer a (checkLoops (loopsOf R))) (sym e)
 
-pub rows-limits : (R : List Row) (m : ℕ) (r : Checked) → walkTable sort.Loops R ≡ walk.Passed m
-    → ((L : Loops) → R ≡ loopsRows L → LoopsInRange L → r ≡ checkLoops L) → r ≡ checkRows R
-unfolding checkRows
+pub rows-limits : (R : List Row) (m : ℕ) (r : Checked) → walkTable sort.Loops R ≡ answer.Told m
+    → ((L : Loops) → R ≡ loopsRows L → LoopsInRange L → r ≡ checkLoops L) → r ≡ checkLoopsRows R
+unfolding checkLoopsRows
 rows-limits R m r e f =
     let t = loops-tree R (all-passed sort.Loops R m e) in
-    f (loopsOf R) (t .1) (t .0) ∙ ap (λ (a : Answer). afterWalk a (checkLoops (loopsOf R))) (sym e)
+    f (loopsOf R) (t .1) (t .0) ∙ ap (λ (a : Answer). afterAnswer a (checkLoops (loopsOf R))) (sym e)

@@ -14,7 +14,7 @@ use lib.ListN.{length, getD, drop}
 use lib.Seq.{drop-cons, drop-length}
 use Rattle.words.specs.Kinds.{Row, rowsOf, word-cells, word-new}
 use Rattle.syntax.specs.Ranges.{asNatural}
-use Rattle.loops.specs.Needs.{rowCells, cellsIn}
+use Rattle.loops.specs.Needs.{rowCells, cellsNeeded}
 
 -- ---- the need
 
@@ -31,22 +31,22 @@ other-row k z d e = simp (ne-eqb k word-cells d, ne-eqb k word-new e)
 abbrev pub rowsFrom : List ℕ → List ℤ → ℕ → List Row
 rowsFrom ks ns i = rowsOf (drop i ks) (drop i ns)
 
-pub sum-start : (ks : List ℕ) (ns : List ℤ) → 0 + cellsIn (rowsFrom ks ns 0) ≡ cellsIn (rowsOf ks ns)
+pub sum-start : (ks : List ℕ) (ns : List ℤ) → 0 + cellsNeeded (rowsFrom ks ns 0) ≡ cellsNeeded (rowsOf ks ns)
 sum-start ks ns = zero-add _
 
 pub sum-next : (ks : List ℕ) (ns : List ℤ) (i : ℕ) → i < length ks → i < length ns
-    → cellsIn (rowsFrom ks ns i) ≡ rowCells (getD ks i 0) (getD ns i (pos 0)) + cellsIn (rowsFrom ks ns (i + 1))
-unfolding rowsOf cellsIn
+    → cellsNeeded (rowsFrom ks ns i) ≡ rowCells (getD ks i 0) (getD ns i (pos 0)) + cellsNeeded (rowsFrom ks ns (i + 1))
+unfolding rowsOf cellsNeeded
 sum-next ks ns i h g = rw (add-one, drop-cons ks i 0 h, drop-cons ns i (pos 0) g)
 
-pub sum-end : (ks : List ℕ) (ns : List ℤ) (i : ℕ) → i ≡ length ks → cellsIn (rowsFrom ks ns i) ≡ 0
-unfolding rowsOf cellsIn
+pub sum-end : (ks : List ℕ) (ns : List ℤ) (i : ℕ) → i ≡ length ks → cellsNeeded (rowsFrom ks ns i) ≡ 0
+unfolding rowsOf cellsNeeded
 sum-end ks ns i e = rw (e, drop-length)
 
 pub row-read : (k : ℕ) (z : ℤ) → SFits w32 z → {n : ℕ} → n ≡ rowCells k (toZ w32 (ofZ w32 z)) → n ≡ rowCells k z
 row-read k z h e = e ∙ ap (rowCells k) (toZ-ofZ w32 z h)
 
 pub sum-again : (ks : List ℕ) (ns : List ℤ) (i sum : ℕ) → i < length ks → i < length ns
-    → sum + cellsIn (rowsFrom ks ns i) ≡ cellsIn (rowsOf ks ns)
-    → sum + rowCells (getD ks i 0) (getD ns i (pos 0)) + cellsIn (rowsFrom ks ns (i + 1)) ≡ cellsIn (rowsOf ks ns)
+    → sum + cellsNeeded (rowsFrom ks ns i) ≡ cellsNeeded (rowsOf ks ns)
+    → sum + rowCells (getD ks i 0) (getD ns i (pos 0)) + cellsNeeded (rowsFrom ks ns (i + 1)) ≡ cellsNeeded (rowsOf ks ns)
 sum-again ks ns i sum h g e = omega (arith, e, sum-next ks ns i h g)

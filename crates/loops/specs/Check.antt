@@ -7,22 +7,18 @@ use lib.Dec.{leb}
 use lib.ListN.{length}
 use Rattle.refusals.specs.declared.Refusal.{Refusal}
 use Rattle.refusals.specs.declared.Refusal.the-variants.{LineCount, WriteCount}
+use Rattle.refusals.specs.declared.Answer.{Answer}
+use Rattle.refusals.specs.declared.Answer.the-variants as answer
 use Rattle.words.specs.Kinds.{Row}
 use Rattle.words.specs.declared.Sort.the-variants as sort
 use Rattle.texts.specs.Texts.{linesOf}
 use Rattle.lines.specs.Reading.{rowsIn, reading, headOf, loopsLimits}
 use Rattle.lines.specs.declared.Heads.the-variants.{Words}
-use Rattle.lines.specs.declared.Reading.{Reading}
-use Rattle.lines.specs.declared.Reading.the-variants as read
 use Rattle.meaning.specs.Loops.{Loops}
 use Rattle.meaning.specs.Layout.{need}
 use Rattle.meaning.specs.Counts.{commandWrites}
-use Rattle.syntax.specs.declared.Answer.{Answer}
-use Rattle.syntax.specs.declared.Answer.the-variants as walk
 use Rattle.syntax.specs.Walk.{listedFrom, walkTable}
 use Rattle.syntax.specs.Reading.{loopsOf}
-use Rattle.loops.specs.declared.Needed.{Needed}
-use Rattle.loops.specs.declared.Needed.the-variants.{Cells, Refused as NoNeed}
 use Rattle.loops.specs.declared.Checked.{Checked}
 use Rattle.loops.specs.declared.Checked.the-variants.{Passes, Refused}
 use Rattle.bounds.specs.Bounds.{askBounds}
@@ -42,34 +38,36 @@ unless (some q) next = Refused q
 unfoldable pub checkLoops : Loops → Checked
 checkLoops L = unless (askBounds L) (askWrites L)
 
--- [7.4] The need of loops that pass
-abbrev pub needOf : Checked → Needed
-needOf (Passes w n) = Cells n
-needOf (Refused q) = NoNeed q
+-- [7.1] The writes of loops that pass,
+abbrev pub writesOf : Checked → Answer
+writesOf (Passes w n) = answer.Told w
+writesOf (Refused q) = answer.Refused q
+
+-- [7.4] and their need
+abbrev pub needOf : Checked → Answer
+needOf (Passes w n) = answer.Told n
+needOf (Refused q) = answer.Refused q
 
 -- ---- loops as rows
 
--- [10.2] (of the kinds) and [10.4] to [10.6] by the walk of `syntax`; then [10.9] and [10.11] of the loops whose rows these are ([10.18]).
-abbrev pub afterWalk : Answer → Checked → Checked
-afterWalk (walk.Passed m) next = next
-afterWalk (walk.Refused q) next = Refused q
+-- on with the check, unless there was a "no"
+abbrev pub afterAnswer : Answer → Checked → Checked
+afterAnswer (answer.Told n) next = next
+afterAnswer (answer.Refused q) next = Refused q
 
-unfoldable pub checkRows : List Row → Checked
-checkRows R = afterWalk (walkTable sort.Loops R) (checkLoops (loopsOf R))
+-- [10.2] (of the kinds) and [10.4] to [10.6] by the walk of `syntax`; then [10.9] and [10.11] of the loops whose rows these are ([10.18]).
+unfoldable pub checkLoopsRows : List Row → Checked
+checkLoopsRows R = afterAnswer (walkTable sort.Loops R) (checkLoops (loopsOf R))
 
 -- ---- loops as a table that was not read from a text
 
 -- [10.16] A lent table is asked 2, of its kinds; then 3, of its rows ([13.5]); then what its rows are asked.
 unfoldable pub checkTable : List Row → Checked
 checkTable R =
-    afterWalk (listedFrom 0 R (walk.Passed (length R))) (cond (leb (length R) 4096) (checkRows R) (Refused LineCount))
+    afterAnswer (listedFrom 0 R (answer.Told (length R))) (cond (leb (length R) 4096) (checkLoopsRows R) (Refused LineCount))
 
 -- ---- loops as a text
 
 -- [10.1] to [10.3] by the reading of `lines`; then the rows. ws is the table of words.
-abbrev pub afterReading : Reading → Checked → Checked
-afterReading (read.Rows n) next = next
-afterReading (read.Refused q) next = Refused q
-
-unfoldable pub checkText : List (List ℕ) → List ℕ → Checked
-checkText ws t = afterReading (reading (headOf ws Words) loopsLimits t) (checkRows (rowsIn (headOf ws Words) (linesOf t)))
+unfoldable pub checkLoopsText : List (List ℕ) → List ℕ → Checked
+checkLoopsText ws t = afterAnswer (reading (headOf ws Words) loopsLimits t) (checkLoopsRows (rowsIn (headOf ws Words) (linesOf t)))

@@ -2,7 +2,6 @@
 
 -- The definitions
 pub mod Check
-pub mod Reading
 -- What the contracts of parts say besides
 pub mod Needs
 -- Their laws, and what is proved

@@ -11,6 +11,6 @@ use Rattle.syntax.specs.Ranges.{asNatural}
 abbrev pub rowCells : ℕ → ℤ → ℕ
 rowCells k z = cond (eqb k word-cells) (asNatural z) (cond (eqb k word-new) (asNatural z) 0)
 
-unfoldable pub cellsIn : List Row → ℕ
-cellsIn [] = 0
-cellsIn (r ∷ rs) = rowCells (r .0) (r .1) + cellsIn rs
+unfoldable pub cellsNeeded : List Row → ℕ
+cellsNeeded [] = 0
+cellsNeeded (r ∷ rs) = rowCells (r .0) (r .1) + cellsNeeded rs

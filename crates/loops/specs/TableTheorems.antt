@@ -11,6 +11,8 @@ use lib.Dec.{leb}
 use lib.ListN.{length}
 use Rattle.refusals.specs.declared.Refusal.{Refusal}
 use Rattle.refusals.specs.declared.Refusal.the-variants.{LineCount, RowDue}
+use Rattle.refusals.specs.declared.Answer.{Answer}
+use Rattle.refusals.specs.declared.Answer.the-variants as answer
 use Rattle.words.specs.Kinds.{Row}
 use Rattle.meaning.specs.Numbers.{NumberDomain}
 use Rattle.meaning.specs.Loops.{Loops}
@@ -18,14 +20,12 @@ use Rattle.meaning.specs.Layout.{regionsFrom}
 use Rattle.meaning.specs.Runs.{Store, startOf}
 use Rattle.meaning.specs.Rows.{loopsRows}
 use Rattle.meaning.specs.Limits.{TouchesBelow}
-use Rattle.syntax.specs.declared.Answer.{Answer}
-use Rattle.syntax.specs.declared.Answer.the-variants as walk
 use Rattle.syntax.specs.Walk.{walkFrom, listedFrom, walkTable}
 use Rattle.syntax.specs.Reading.{loopsOf}
 use Rattle.syntax.specs.Laws.Listed.{all-listed, one-unlisted}
 use Rattle.loops.specs.declared.Checked.{Checked}
 use Rattle.loops.specs.declared.Checked.the-variants.{Passes, Refused}
-use Rattle.loops.specs.Check.{checkLoops, afterWalk, checkRows, checkTable}
+use Rattle.loops.specs.Check.{checkLoops, afterAnswer, checkLoopsRows, checkTable}
 use Rattle.loops.specs.Theorems.{Accepted, RunsSafely, passes-exactly, safe, runs-safely}
 
 no-refusal : {A : Type 0} {q : Refusal} {w n : ℕ} → Refused q ≡ Passes w n → A
@@ -33,42 +33,42 @@ no-refusal e = absurd (let z : _≡_ {A = ℕ} 0 1 = cc in omega arith)
 
 -- [10.2] Every kind is that of a word.
 abbrev pub AllListed : List Row → Type 0
-AllListed R = listedFrom 0 R (walk.Passed (length R)) ≡ walk.Passed (length R)
+AllListed R = listedFrom 0 R (answer.Told (length R)) ≡ answer.Told (length R)
 
 -- A table of no rows lacks its first.
 pub no-rows : checkTable [] ≡ Refused (RowDue 1)
-unfolding checkTable checkRows walkTable listedFrom walkFrom
+unfolding checkTable checkLoopsRows walkTable listedFrom walkFrom
 no-rows = refl
 
 module _ (R : List Row) where
   abbrev limitedRows : Bool → Checked
-  limitedRows b = cond b (checkRows R) (Refused LineCount)
+  limitedRows b = cond b (checkLoopsRows R) (Refused LineCount)
 
-  few : length R ≤ 4096 → limitedRows (leb (length R) 4096) ≡ checkRows R
+  few : length R ≤ 4096 → limitedRows (leb (length R) 4096) ≡ checkLoopsRows R
   few h = ap limitedRows (le-leb (length R) 4096 h)
 
   many : 4096 < length R → limitedRows (leb (length R) 4096) ≡ Refused LineCount
   many h = ap limitedRows (lt-leb (length R) 4096 h)
 
-  unlisted-rows : (q : Refusal) → listedFrom 0 R (walk.Passed (length R)) ≡ walk.Refused q → checkRows R ≡ Refused q
-  unfolding checkRows walkTable
+  unlisted-rows : (q : Refusal) → listedFrom 0 R (answer.Told (length R)) ≡ answer.Refused q → checkLoopsRows R ≡ Refused q
+  unfolding checkLoopsRows walkTable
   unlisted-rows q e =
-      ap (λ (a : Answer). afterWalk a (checkLoops (loopsOf R))) (one-unlisted R 0 (length R) q _ e)
+      ap (λ (a : Answer). afterAnswer a (checkLoops (loopsOf R))) (one-unlisted R 0 (length R) q _ e)
 
   -- by question 2
-  by-kinds : {A : Type 0} → ((q : Refusal) → listedFrom 0 R (walk.Passed (length R)) ≡ walk.Refused q → checkTable R ≡ Refused q → A)
+  by-kinds : {A : Type 0} → ((q : Refusal) → listedFrom 0 R (answer.Told (length R)) ≡ answer.Refused q → checkTable R ≡ Refused q → A)
       → (AllListed R → checkTable R ≡ limitedRows (leb (length R) 4096) → A) → A
   unfolding checkTable
-  by-kinds {A} unlisted listed = go (listedFrom 0 R (walk.Passed (length R))) refl
+  by-kinds {A} unlisted listed = go (listedFrom 0 R (answer.Told (length R))) refl
     where
-      go : (a : Answer) → listedFrom 0 R (walk.Passed (length R)) ≡ a → A
-      go (walk.Refused q) e = unlisted q e (ap (λ (a : Answer). afterWalk a (limitedRows (leb (length R) 4096))) e)
-      go (walk.Passed m) e =
-          listed (all-listed R 0 m (walk.Passed (length R)) (walk.Passed (length R)) e)
-          (ap (λ (a : Answer). afterWalk a (limitedRows (leb (length R) 4096))) e)
+      go : (a : Answer) → listedFrom 0 R (answer.Told (length R)) ≡ a → A
+      go (answer.Refused q) e = unlisted q e (ap (λ (a : Answer). afterAnswer a (limitedRows (leb (length R) 4096))) e)
+      go (answer.Told m) e =
+          listed (all-listed R 0 m (answer.Told (length R)) (answer.Told (length R)) e)
+          (ap (λ (a : Answer). afterAnswer a (limitedRows (leb (length R) 4096))) e)
 
   -- A table of at most 4,096 rows is checked as its rows.
-  pub few-rows : length R ≤ 4096 → checkTable R ≡ checkRows R
+  pub few-rows : length R ≤ 4096 → checkTable R ≡ checkLoopsRows R
   few-rows h = by-kinds (λ q e f. f ∙ sym (unlisted-rows q e)) (λ e f. f ∙ few h)
 
   -- by question 3
@@ -89,7 +89,7 @@ module _ (R : List Row) where
   )
 
   -- [9.9] Loops that pass run safely.
-  rows-pass : (w n : ℕ) → checkTable R ≡ Passes w n → checkRows R ≡ Passes w n
+  rows-pass : (w n : ℕ) → checkTable R ≡ Passes w n → checkLoopsRows R ≡ Passes w n
   rows-pass w n e = passes-exactly R w n .1 (table-passes-exactly w n .0 e .1)
 
   pub table-safe : (w n : ℕ) → checkTable R ≡ Passes w n

@@ -1,5 +1,5 @@
--- What it means that a loops text passes the check, and what is read into a lent table. It rests on `checkText` of Check, `readText` of
--- Reading, `Accepted` and `FirstNo` of Theorems, and on the reading of `lines`. ws is any table of words. Assumes nothing.
+-- What it means that a loops text passes the check, and what is read into a lent table. It rests on `checkLoopsText` of Check, `Accepted` and
+-- `FirstNo` of Theorems, and on the reading of `lines`. ws is any table of words. Assumes nothing.
 use mathlib.Core.Bool.{Bool, true, false, cond, _&&_}
 use mathlib.Core.Path.{_≡_, refl, sym, ap, _∙_}
 use mathlib.Core.List.{List, []}
@@ -13,6 +13,9 @@ use mir.Syntax.{w32}
 use mir.Val.{SFits}
 use Rattle.refusals.specs.declared.Refusal.{Refusal}
 use Rattle.refusals.specs.declared.Refusal.the-variants.{LentSize}
+use Rattle.refusals.specs.declared.Answer.{Answer}
+use Rattle.refusals.specs.declared.Answer.the-variants as answer
+use Rattle.refusals.specs.Answers.{unlessRefused}
 use Rattle.words.specs.Kinds.{Row}
 use Rattle.words.specs.Good.{Good}
 use Rattle.lines.specs.Reading.{reading, headOf, loopsLimits}
@@ -21,8 +24,6 @@ use Rattle.lines.specs.Printing.{textOf}
 use Rattle.lines.specs.Printing.{Each, Printable}
 use Rattle.lines.specs.Laws.{rows-back, reads-back, rows-read}
 use Rattle.lines.specs.declared.Heads.the-variants.{Words}
-use Rattle.lines.specs.declared.Reading.{Reading}
-use Rattle.lines.specs.declared.Reading.the-variants as read
 use Rattle.meaning.specs.Types.{DataType}
 use Rattle.meaning.specs.Terms.{Plan}
 use Rattle.meaning.specs.Typing.{HasType}
@@ -38,8 +39,7 @@ use Rattle.meaning.specs.Theorems.{own-loops-pass}
 use Rattle.syntax.specs.InRange.{LoopsInRange}
 use Rattle.loops.specs.declared.Checked.{Checked}
 use Rattle.loops.specs.declared.Checked.the-variants.{Passes, Refused}
-use Rattle.loops.specs.Check.{checkRows, afterReading, checkText}
-use Rattle.loops.specs.Reading.{afterCheck, readText}
+use Rattle.loops.specs.Check.{needOf, checkLoopsRows, afterAnswer, checkLoopsText}
 use Rattle.loops.specs.Theorems.{Accepted, RunsSafely, passes-exactly, safe, runs-safely, own-pass}
 use Rattle.loops.specs.Laws.Passing.{pass-loops}
 use Rattle.loops.specs.Laws.Literals.{CommandLiterals, plan-literals}
@@ -51,30 +51,30 @@ no-refusal e = absurd (let z : _≡_ {A = ℕ} 0 1 = cc in omega arith)
 
 -- [10.1] to [10.3] are answered "yes".
 abbrev pub Reads : List (List ℕ) → List ℕ → Type 0
-Reads ws t = reading (headOf ws Words) loopsLimits t ≡ read.Rows (length (textRows ws t))
+Reads ws t = reading (headOf ws Words) loopsLimits t ≡ answer.Told (length (textRows ws t))
 
 module _ (ws : List (List ℕ)) (t : List ℕ) where
   abbrev R : List Row
   R = textRows ws t
 
-  read-text : Reads ws t → checkText ws t ≡ checkRows R
-  unfolding checkText
-  read-text e = ap (λ (r : Reading). afterReading r (checkRows R)) e
+  read-text : Reads ws t → checkLoopsText ws t ≡ checkLoopsRows R
+  unfolding checkLoopsText
+  read-text e = ap (λ (r : Answer). afterAnswer r (checkLoopsRows R)) e
 
-  unread-text : (q : Refusal) → reading (headOf ws Words) loopsLimits t ≡ read.Refused q → checkText ws t ≡ Refused q
-  unfolding checkText
-  unread-text q e = ap (λ (r : Reading). afterReading r (checkRows R)) e
+  unread-text : (q : Refusal) → reading (headOf ws Words) loopsLimits t ≡ answer.Refused q → checkLoopsText ws t ≡ Refused q
+  unfolding checkLoopsText
+  unread-text q e = ap (λ (r : Answer). afterAnswer r (checkLoopsRows R)) e
 
   -- a text is read or refused
-  by-reading : {A : Type 0} → (Reads ws t → A) → ((q : Refusal) → reading (headOf ws Words) loopsLimits t ≡ read.Refused q → A) → A
+  by-reading : {A : Type 0} → (Reads ws t → A) → ((q : Refusal) → reading (headOf ws Words) loopsLimits t ≡ answer.Refused q → A) → A
   by-reading {A} well ill = go (reading (headOf ws Words) loopsLimits t) refl
     where
-      go : (r : Reading) → reading (headOf ws Words) loopsLimits t ≡ r → A
-      go (read.Rows n) e = well (e ∙ ap read.Rows (sym (rows-read (headOf ws Words) loopsLimits t n e)))
-      go (read.Refused q) e = ill q e
+      go : (r : Answer) → reading (headOf ws Words) loopsLimits t ≡ r → A
+      go (answer.Told n) e = well (e ∙ ap answer.Told (sym (rows-read (headOf ws Words) loopsLimits t n e)))
+      go (answer.Refused q) e = ill q e
 
   -- A text passes exactly when it reads as rows that are those of loops that satisfy the bounds and limits.
-  pub text-passes-exactly : (w n : ℕ) → (checkText ws t ≡ Passes w n) ↔ (Reads ws t × Accepted R w n)
+  pub text-passes-exactly : (w n : ℕ) → (checkLoopsText ws t ≡ Passes w n) ↔ (Reads ws t × Accepted R w n)
   text-passes-exactly w n = (
     λ e.
         by-reading (λ r. (r, passes-exactly R w n .0 (sym (read-text r) ∙ e)))
@@ -83,45 +83,47 @@ module _ (ws : List (List ℕ)) (t : List ℕ) where
   )
 
   -- [9.9] Loops that pass run safely.
-  rows-pass : (w n : ℕ) → checkText ws t ≡ Passes w n → checkRows R ≡ Passes w n
+  rows-pass : (w n : ℕ) → checkLoopsText ws t ≡ Passes w n → checkLoopsRows R ≡ Passes w n
   rows-pass w n e = passes-exactly R w n .1 (text-passes-exactly w n .0 e .1)
 
-  pub text-safe : (w n : ℕ) → checkText ws t ≡ Passes w n
+  pub text-safe : (w n : ℕ) → checkLoopsText ws t ≡ Passes w n
       → (L : Loops) × (R ≡ loopsRows L) × TouchesBelow n (L .command) (startOf L) (regionsFrom L)
   text-safe w n e = safe R w n (rows-pass w n e)
 
-  pub text-runs-safely : (𝓝 : NumberDomain) (w n : ℕ) → checkText ws t ≡ Passes w n
+  pub text-runs-safely : (𝓝 : NumberDomain) (w n : ℕ) → checkLoopsText ws t ≡ Passes w n
       → (L : Loops) × (R ≡ loopsRows L) × ((s : Store 𝓝) → RunsSafely 𝓝 L w n s)
   text-runs-safely 𝓝 w n e = runs-safely 𝓝 R w n (rows-pass w n e)
 
   -- ---- reading into a lent table
 
   module _ (kinds numbers : ℕ) where
-    passed-text : (w n : ℕ) → checkText ws t ≡ Passes w n → readText ws t kinds numbers ≡ askRoom (length R) kinds numbers
-    unfolding readText
-    passed-text w n e = ap (λ (c : Checked). afterCheck c (askRoom (length R) kinds numbers)) e
+    -- the answer for slices of these lengths
+    abbrev put : Checked → Answer
+    put c = unlessRefused (needOf c) (askRoom (length R) kinds numbers)
 
-    refused-text : (q : Refusal) → checkText ws t ≡ Refused q → readText ws t kinds numbers ≡ read.Refused q
-    unfolding readText
-    refused-text q e = ap (λ (c : Checked). afterCheck c (askRoom (length R) kinds numbers)) e
+    passed-text : (w n : ℕ) → checkLoopsText ws t ≡ Passes w n → put (checkLoopsText ws t) ≡ askRoom (length R) kinds numbers
+    passed-text w n e = ap put e
 
-    by-check : {A : Type 0} → ((w n : ℕ) → checkText ws t ≡ Passes w n → A) → ((q : Refusal) → checkText ws t ≡ Refused q → A) → A
-    by-check {A} well ill = go (checkText ws t) refl
+    refused-text : (q : Refusal) → checkLoopsText ws t ≡ Refused q → put (checkLoopsText ws t) ≡ answer.Refused q
+    refused-text q e = ap put e
+
+    by-check : {A : Type 0} → ((w n : ℕ) → checkLoopsText ws t ≡ Passes w n → A) → ((q : Refusal) → checkLoopsText ws t ≡ Refused q → A) → A
+    by-check {A} well ill = go (checkLoopsText ws t) refl
       where
-        go : (c : Checked) → checkText ws t ≡ c → A
+        go : (c : Checked) → checkLoopsText ws t ≡ c → A
         go (Passes w n) e = well w n e
         go (Refused q) e = ill q e
 
     -- by question 12
-    by-room : {A : Type 0} → (length R ≤ min kinds numbers → askRoom (length R) kinds numbers ≡ read.Rows (length R) → A)
-        → (min kinds numbers < length R → askRoom (length R) kinds numbers ≡ read.Refused LentSize → A) → A
+    by-room : {A : Type 0} → (length R ≤ min kinds numbers → askRoom (length R) kinds numbers ≡ answer.Told (length R) → A)
+        → (min kinds numbers < length R → askRoom (length R) kinds numbers ≡ answer.Refused LentSize → A) → A
     by-room {A} yes′ no′ = go (leb (length R) kinds) (leb (length R) numbers) refl refl
       where
         at : (a b : Bool) → leb (length R) kinds ≡ a → leb (length R) numbers ≡ b
-            → askRoom (length R) kinds numbers ≡ cond (a && b) (read.Rows (length R)) (read.Refused LentSize)
+            → askRoom (length R) kinds numbers ≡ cond (a && b) (answer.Told (length R)) (answer.Refused LentSize)
         at a b e f =
-            ap (λ (x : Bool). cond (x && leb (length R) numbers) (read.Rows (length R)) (read.Refused LentSize)) e
-            ∙ ap (λ (x : Bool). cond (a && x) (read.Rows (length R)) (read.Refused LentSize)) f
+            ap (λ (x : Bool). cond (x && leb (length R) numbers) (answer.Told (length R)) (answer.Refused LentSize)) e
+            ∙ ap (λ (x : Bool). cond (a && x) (answer.Told (length R)) (answer.Refused LentSize)) f
 
         go : (a b : Bool) → leb (length R) kinds ≡ a → leb (length R) numbers ≡ b → A
         go true true e f = yes′ (omega (arith, leb-true (length R) kinds e, leb-true (length R) numbers f)) (at true true e f)
@@ -129,20 +131,20 @@ module _ (ws : List (List ℕ)) (t : List ℕ) where
         go false b e f = no′ (omega (arith, leb-false (length R) kinds e)) (at false b e f)
 
     -- Rows are put exactly when the text passes and both slices have room for them.
-    pub put-exactly : (m : ℕ) → (readText ws t kinds numbers ≡ read.Rows m)
-        ↔ ((w : ℕ) × (n : ℕ) × (checkText ws t ≡ Passes w n) × (length R ≤ min kinds numbers) × (m ≡ length R))
+    pub put-exactly : (m : ℕ) → (put (checkLoopsText ws t) ≡ answer.Told m)
+        ↔ ((w : ℕ) × (n : ℕ) × (checkLoopsText ws t ≡ Passes w n) × (length R ≤ min kinds numbers) × (m ≡ length R))
     put-exactly m = (
       λ e.
           by-check
           (λ w n p. by-room (λ l f. (w, n, p, l, same (sym f ∙ sym (passed-text w n p) ∙ e))) (λ l f. never (sym f ∙ sym (passed-text w n p) ∙ e)))
           (λ q p. never (sym (refused-text q p) ∙ e)),
-      λ h. passed-text (h .0) (h .1) (h .2) ∙ by-room (λ l f. f ∙ ap read.Rows (sym (h .4))) (λ l f. absurd (omega (arith, l, h .3))),
+      λ h. passed-text (h .0) (h .1) (h .2) ∙ by-room (λ l f. f ∙ ap answer.Told (sym (h .4))) (λ l f. absurd (omega (arith, l, h .3))),
     )
       where
-        never : {A : Type 0} {q : Refusal} → read.Refused q ≡ read.Rows m → A
+        never : {A : Type 0} {q : Refusal} → answer.Refused q ≡ answer.Told m → A
         never e = absurd (let z : _≡_ {A = ℕ} 0 1 = cc in omega arith)
 
-        same : read.Rows (length R) ≡ read.Rows m → m ≡ length R
+        same : answer.Told (length R) ≡ answer.Told m → m ≡ length R
         same e = cc
 
 -- ---- the translator's own
@@ -176,10 +178,10 @@ module _ (ws : List (List ℕ)) (good : Good ws) (P : Plan) (t : DataType) (type
 
   -- [9.9] Loops that the translator made pass: where they have at most 4,096 lines ([10.10]) and 16,777,216 writes ([10.11]).
   pub own-text-passes : length own ≤ 4096 → planWrites P ≤ 16777216
-      → checkText ws (textOf ws own) ≡ Passes (planWrites P) (need (translation P))
+      → checkLoopsText ws (textOf ws own) ≡ Passes (planWrites P) (need (translation P))
   own-text-passes short few =
       let T : List ℕ = textOf ws own in
       let reads : Reads ws T =
       reads-back ws good loopsLimits own own-printable (some-row (translation P)) (omega (arith, own-text-size, short)) short
-      ∙ ap (λ (S : List Row). read.Rows (length S)) (sym own-text-back) in
-      read-text ws T reads ∙ ap checkRows own-text-back ∙ own-pass P t typed within few
+      ∙ ap (λ (S : List Row). answer.Told (length S)) (sym own-text-back) in
+      read-text ws T reads ∙ ap checkLoopsRows own-text-back ∙ own-pass P t typed within few

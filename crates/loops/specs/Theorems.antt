@@ -12,6 +12,8 @@ use lib.Dec.{leb}
 use lib.ListN.{length}
 use Rattle.refusals.specs.declared.Refusal.{Refusal}
 use Rattle.refusals.specs.declared.Refusal.the-variants.{WriteCount}
+use Rattle.refusals.specs.declared.Answer.{Answer}
+use Rattle.refusals.specs.declared.Answer.the-variants as answer
 use Rattle.words.specs.Kinds.{Row}
 use Rattle.words.specs.declared.Sort.the-variants as sort
 use Rattle.meaning.specs.Types.{DataType}
@@ -27,8 +29,6 @@ use Rattle.meaning.specs.Counts.{commandWrites, planWrites}
 use Rattle.meaning.specs.Limits.{LoopsPass, PlanWithin, TouchesBelow}
 use Rattle.meaning.specs.Translation.{translation}
 use Rattle.meaning.specs.Theorems.{safe-loops, beyond-need, writes-of-run, own-loops-pass, own-writes, run-is-choice}
-use Rattle.syntax.specs.declared.Answer.{Answer}
-use Rattle.syntax.specs.declared.Answer.the-variants as walk
 use Rattle.syntax.specs.Walk.{walkTable}
 use Rattle.syntax.specs.Reading.{loopsOf}
 use Rattle.syntax.specs.InRange.{LoopsInRange}
@@ -36,7 +36,7 @@ use Rattle.syntax.specs.Theorems.{WalksWell, all-passed, loops-walk, loops-read
 use Rattle.loops.specs.declared.Checked.{Checked}
 use Rattle.loops.specs.declared.Checked.the-variants.{Passes, Refused}
 use Rattle.bounds.specs.Bounds.{askBounds}
-use Rattle.loops.specs.Check.{askWrites, unless, checkLoops, afterWalk, checkRows}
+use Rattle.loops.specs.Check.{askWrites, unless, checkLoops, afterAnswer, checkLoopsRows}
 use Rattle.loops.specs.Laws.Passing.{loops-pass, pass-loops}
 
 no-refusal : {A : Type 0} {q : Refusal} {w n : ℕ} → Refused q ≡ Passes w n → A
@@ -73,26 +73,26 @@ unless-passes : (a : Option Refusal) (b : Checked) (w n : ℕ) → unless a b �
 unless-passes none b w n e = (refl, e)
 unless-passes (some q) b w n e = no-refusal e
 
-walk-passes : (R : List Row) (a : Answer) (b : Checked) (w n : ℕ) → walkTable sort.Loops R ≡ a → afterWalk a b ≡ Passes w n
+walk-passes : (R : List Row) (a : Answer) (b : Checked) (w n : ℕ) → walkTable sort.Loops R ≡ a → afterAnswer a b ≡ Passes w n
     → WalksWell sort.Loops R × (b ≡ Passes w n)
-walk-passes R (walk.Passed m) b w n h e = (all-passed sort.Loops R m h, e)
-walk-passes R (walk.Refused q) b w n h e = no-refusal e
+walk-passes R (answer.Told m) b w n h e = (all-passed sort.Loops R m h, e)
+walk-passes R (answer.Refused q) b w n h e = no-refusal e
 
-walked-rows : (R : List Row) → WalksWell sort.Loops R → checkRows R ≡ checkLoops (loopsOf R)
-unfolding checkRows
-walked-rows R h = ap (λ (a : Answer). afterWalk a (checkLoops (loopsOf R))) h
+walked-rows : (R : List Row) → WalksWell sort.Loops R → checkLoopsRows R ≡ checkLoops (loopsOf R)
+unfolding checkLoopsRows
+walked-rows R h = ap (λ (a : Answer). afterAnswer a (checkLoops (loopsOf R))) h
 
 checked-loops : (L : Loops) → LoopsPass L → checkLoops L ≡ askWrites L
 unfolding checkLoops
 checked-loops L h = ap (λ (a : Option Refusal). unless a (askWrites L)) (pass-loops L h .1)
 
 -- The rows of loops that are in range are checked as those loops.
-pub tree-checked : (L : Loops) → LoopsInRange L → checkRows (loopsRows L) ≡ checkLoops L
+pub tree-checked : (L : Loops) → LoopsInRange L → checkLoopsRows (loopsRows L) ≡ checkLoops L
 tree-checked L h = walked-rows (loopsRows L) (loops-walk (loopsRows L) .1 (L, h, refl)) ∙ ap checkLoops (loops-read L)
 
 -- A table passes exactly when its rows are those of loops that satisfy the bounds and limits.
-pub passes-exactly : (R : List Row) (w n : ℕ) → (checkRows R ≡ Passes w n) ↔ Accepted R w n
-unfolding checkRows checkLoops
+pub passes-exactly : (R : List Row) (w n : ℕ) → (checkLoopsRows R ≡ Passes w n) ↔ Accepted R w n
+unfolding checkLoopsRows checkLoops
 passes-exactly R w n = (
   λ e.
       let a = walk-passes R (walkTable sort.Loops R) (checkLoops (loopsOf R)) w n refl e in
@@ -113,13 +113,13 @@ passes-exactly R w n = (
       let e : askWrites L ≡ Passes w n =
       ap (λ (b : Bool). cond b (Passes (commandWrites (L .command)) (need L)) (Refused WriteCount)) l
       ∙ ap (λ (x : ℕ). Passes x (need L)) (sym (h .writes)) ∙ ap (Passes w) (sym (h .needs)) in
-      ap checkRows (h .rows) ∙ tree-checked L (pass-loops L (h .passes) .0) ∙ checked-loops L (h .passes) ∙ e,
+      ap checkLoopsRows (h .rows) ∙ tree-checked L (pass-loops L (h .passes) .0) ∙ checked-loops L (h .passes) ∙ e,
 )
 
 -- ---- what loops that pass do
 
 -- [9.9] Loops that pass run safely: every cell that is read or written, in any round of any loop, is below the need.
-pub safe : (R : List Row) (w n : ℕ) → checkRows R ≡ Passes w n
+pub safe : (R : List Row) (w n : ℕ) → checkLoopsRows R ≡ Passes w n
     → (L : Loops) × (R ≡ loopsRows L) × TouchesBelow n (L .command) (startOf L) (regionsFrom L)
 safe R w n e =
     let a = passes-exactly R w n .0 e in
@@ -133,7 +133,7 @@ pub record RunsSafely (𝓝 : NumberDomain) (L : Loops) (w n : ℕ) (s : Store �
   pub kept : (st : State 𝓝) → RunOf 𝓝 L s st
       → (length (st .store) ≡ length s) × ((x : ℕ) → n ≤ x → cell 𝓝 (st .store) x ≡ cell 𝓝 s x)
 
-pub runs-safely : (𝓝 : NumberDomain) (R : List Row) (w n : ℕ) → checkRows R ≡ Passes w n
+pub runs-safely : (𝓝 : NumberDomain) (R : List Row) (w n : ℕ) → checkLoopsRows R ≡ Passes w n
     → (L : Loops) × (R ≡ loopsRows L) × ((s : Store 𝓝) → RunsSafely 𝓝 L w n s)
 runs-safely 𝓝 R w n e =
     let a = passes-exactly R w n .0 e in
@@ -154,7 +154,7 @@ runs-safely 𝓝 R w n e =
 
 -- [9.9] Loops that the translator made pass: those of any plan within the limits that has few enough writes.
 pub own-pass : (P : Plan) (t : DataType) → HasType (P .inputs) [] (P .term) t → PlanWithin P → planWrites P ≤ 16777216
-    → checkRows (loopsRows (translation P)) ≡ Passes (planWrites P) (need (translation P))
+    → checkLoopsRows (loopsRows (translation P)) ≡ Passes (planWrites P) (need (translation P))
 own-pass P t typed within few =
     passes-exactly (loopsRows (translation P)) (planWrites P) (need (translation P)) .1
     (record {

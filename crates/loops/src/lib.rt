@@ -7,24 +7,17 @@ ghost use Rattle.words.specs.Kinds.{rowsOf};
 ghost use Rattle.meaning.specs.Loops.{Loops};
 ghost use Rattle.meaning.specs.Rows.{loopsRows};
 ghost use Rattle.syntax.specs.InRange.{LoopsInRange};
-ghost use Rattle.loops.specs.Check.{checkLoops, checkRows};
+ghost use Rattle.loops.specs.Check.{checkLoops, checkLoopsRows};
 ghost use Rattle.loops.specs.Contracts.{ChecksLoops, ChecksTable, TellsNeed, ReadsLoops};
-use bound_check::Asked;
-use lines::Reading;
+use refusals::Answer;
 use refusals::Refusal;
-use syntax::Answer;
+use row_bounds::Asked;
 
-mod cells;
+mod need;
 
 // The writes of loops that pass and the cells that they need; or the first "no".
 pub enum Checked {
     Passes { writes: usize, need: usize },
-    Refused(Refusal),
-}
-
-// The cells that loops need; or the first "no".
-pub enum Needed {
-    Cells(usize),
     Refused(Refusal),
 }
 
@@ -33,35 +26,31 @@ fn check_limits(kinds: &[u8], numbers: &[i32]) -> Checked
     requires { ⌜ (length (now kinds) ≡ length (now numbers)) × (length (now kinds) ≤ 4096) ⌝ }
     ensures { λ r. ⌜ ((L : Loops) → rowsOf (now (kinds .entry)) (now (numbers .entry)) ≡ loopsRows L → LoopsInRange L → r ≡ checkLoops L) ⌝ }
 {
-    let asked = bound_check::ask_loops(kinds, numbers);
-    let Asked::Passed { rows: _, writes } = asked else {
-        let Asked::Refused(refusal) = asked else {
-            return Checked::Refused(Refusal::WriteCount);
-        };
-        return Checked::Refused(refusal);
-    };
-    if 16777216 < writes {
-        return Checked::Refused(Refusal::WriteCount);
-    }
-    Checked::Passes {
-        writes,
-        need: cells::need(kinds, numbers),
+    let asked = row_bounds::ask_loops(kinds, numbers);
+    match asked {
+        Asked::Refused(refusal) => Checked::Refused(refusal),
+        Asked::Passed { rows: _, writes } => {
+            if 16777216 < writes {
+                return Checked::Refused(Refusal::WriteCount);
+            }
+            Checked::Passes {
+                writes,
+                need: need::cells_needed(kinds, numbers),
+            }
+        }
     }
 }
 
 // Questions 2 (of the kinds), 4 to 6, 9 and 11 of a table's rows.
 fn check_rows(kinds: &[u8], numbers: &[i32]) -> Checked
     requires { ⌜ (length (now kinds) ≡ length (now numbers)) × (length (now kinds) ≤ 4096) ⌝ }
-    ensures { λ r. ⌜ r ≡ checkRows (rowsOf (now (kinds .entry)) (now (numbers .entry))) ⌝ }
+    ensures { λ r. ⌜ r ≡ checkLoopsRows (rowsOf (now (kinds .entry)) (now (numbers .entry))) ⌝ }
 {
     let walked = syntax::walk_loops(kinds, numbers);
-    let Answer::Passed(_) = walked else {
-        let Answer::Refused(refusal) = walked else {
-            return Checked::Refused(Refusal::RowDue(1));
-        };
-        return Checked::Refused(refusal);
-    };
-    check_limits(kinds, numbers)
+    match walked {
+        Answer::Refused(refusal) => Checked::Refused(refusal),
+        Answer::Told(_) => check_limits(kinds, numbers),
+    }
 }
 
 // [10.16] The check of a lent table, whose rows are as many as the shorter slice has ([1.8]): questions 2 (of the kinds), 3 to 6, 9, 11.
@@ -69,16 +58,15 @@ pub fn check_table(kinds: &[u8], numbers: &[i32]) -> Checked
     ensures { λ r. ⌜ ChecksTable (now (kinds .entry)) (now (numbers .entry)) r ⌝ }
 {
     let listed = syntax::listed_rows(kinds, numbers);
-    let Answer::Passed(rows) = listed else {
-        let Answer::Refused(refusal) = listed else {
-            return Checked::Refused(Refusal::LineCount);
-        };
-        return Checked::Refused(refusal);
-    };
-    if 4096 < rows {
-        return Checked::Refused(Refusal::LineCount);
+    match listed {
+        Answer::Refused(refusal) => Checked::Refused(refusal),
+        Answer::Told(rows) => {
+            if 4096 < rows {
+                return Checked::Refused(Refusal::LineCount);
+            }
+            check_rows(&kinds[..rows], &numbers[..rows])
+        }
     }
-    check_rows(&kinds[..rows], &numbers[..rows])
 }
 
 // [10.16] The check of a loops text: questions 1 to 6, 9 and 11.
@@ -88,50 +76,32 @@ pub fn check_text(text: &[u8]) -> Checked
     let mut kinds = [0u8; 4096];
     let mut numbers = [0i32; 4096];
     let read = lines::read_loops(text, &mut kinds, &mut numbers);
-    let Reading::Rows(rows) = read else {
-        let Reading::Refused(refusal) = read else {
-            return Checked::Refused(Refusal::TextForm);
-        };
-        return Checked::Refused(refusal);
-    };
-    check_rows(&kinds[..rows], &numbers[..rows])
+    match read {
+        Answer::Refused(refusal) => Checked::Refused(refusal),
+        Answer::Told(rows) => check_rows(&kinds[..rows], &numbers[..rows]),
+    }
 }
 
 // [7.4] The need of a loops text, under the same questions.
-pub fn need_text(text: &[u8]) -> Needed
+pub fn need_text(text: &[u8]) -> Answer
     ensures { λ r. ⌜ TellsNeed words (now (text .entry)) r ⌝ }
 {
     let checked = check_text(text);
-    let Checked::Passes { writes: _, need } = checked else {
-        let Checked::Refused(refusal) = checked else {
-            return Needed::Refused(Refusal::TextForm);
-        };
-        return Needed::Refused(refusal);
-    };
-    Needed::Cells(need)
+    match checked {
+        Checked::Refused(refusal) => Answer::Refused(refusal),
+        Checked::Passes { writes: _, need } => Answer::Told(need),
+    }
 }
 
 // [10.16] Reads a loops text into a lent table: the same questions, then 12. How many rows were put in front of both slices; or the
 // first "no", and both are as they were ([10.17], [10.22]).
-pub fn read_text(text: &[u8], kinds: &mut [u8], numbers: &mut [i32]) -> Reading
+pub fn read_text(text: &[u8], kinds: &mut [u8], numbers: &mut [i32]) -> Answer
     ensures { λ r. ⌜ ReadsLoops words (now (text .entry)) (now (kinds .entry)) (now (numbers .entry)) r (now (kinds .exit)) (now (numbers .exit)) ⌝ }
 {
-    let checked = check_text(text);
-    let Checked::Passes { writes: _, need: _ } = checked else {
-        let Checked::Refused(refusal) = checked else {
-            return Reading::Refused(Refusal::TextForm);
-        };
-        return Reading::Refused(refusal);
+    let checked = need_text(text);
+    let Answer::Told(_) = checked else {
+        return checked;
     };
     let read = lines::read_loops(text, kinds, numbers);
-    let Reading::Rows(rows) = read else {
-        return read;
-    };
-    if kinds.len() < rows {
-        return Reading::Refused(Refusal::LentSize);
-    }
-    if numbers.len() < rows {
-        return Reading::Refused(Refusal::LentSize);
-    }
-    read
+    lines::ask_room(read, kinds.len(), numbers.len())
 }

@@ -16,7 +16,7 @@ use lib.Seq.{take-all, drop-cons}
 use Rattle.numerals.specs.declared.Magnitude.{Magnitude}
 use Rattle.numerals.specs.declared.Magnitude.the-variants.{Is, Malformed}
 use Rattle.numerals.specs.declared.Numeral.the-variants as numeral
-use Rattle.numerals.specs.Numerals.{digit, allDigits, value, leadingZero, unsigned, notBelowZero, belowZero, numberOf}
+use Rattle.numerals.specs.Numerals.{digit, allDigits, value, leadingZero, unsigned, notBelowZero, belowZero, numeralOf}
 use Rattle.numerals.specs.Magnitudes.{atMost}
 use Rattle.numerals.specs.DigitLaws.{value-grows, no-leading}
 
@@ -131,12 +131,12 @@ minus-no-number none e = refl
 minus-no-number (some zero) e = refl
 minus-no-number (some (suc m)) e = simp (lt-leb (suc m) 2147483648 (past 2147483648 (suc m) e))
 
-pub nothing : (bs : List ℕ) → length bs ≡ 0 → numberOf bs ≡ numeral.Malformed
-unfolding numberOf
+pub nothing : (bs : List ℕ) → length bs ≡ 0 → numeralOf bs ≡ numeral.Malformed
+unfolding numeralOf
 nothing [] h = refl
 nothing (b ∷ bs) h = absurd (omega arith)
 
-pub with-minus : (bs : List ℕ) → getD bs 0 0 ≡ 45 → numberOf bs ≡ belowZero (unsigned (take (length bs - 1) (drop 1 bs)))
-unfolding numberOf
+pub with-minus : (bs : List ℕ) → getD bs 0 0 ≡ 45 → numeralOf bs ≡ belowZero (unsigned (take (length bs - 1) (drop 1 bs)))
+unfolding numeralOf
 with-minus [] h = absurd (omega arith)
 with-minus (b ∷ bs) h = rw (take-all (suc (length bs) - 1) bs (omega arith)) (simp (eq-eqb b 45 h))

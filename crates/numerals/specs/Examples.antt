@@ -8,7 +8,7 @@ use Prim.Native.String.{String, [] as none, _∷_ as _before_}
 use lib.IntN.{ℤ, pos, negsuc}
 use Rattle.numerals.specs.declared.Numeral.{Numeral}
 use Rattle.numerals.specs.declared.Numeral.the-variants.{Is, Malformed}
-use Rattle.numerals.specs.Numerals.{allDigits, value, leadingZero, unsigned, notBelowZero, belowZero, numberOf, lastDigits, digits, decimal}
+use Rattle.numerals.specs.Numerals.{allDigits, value, leadingZero, unsigned, notBelowZero, belowZero, numeralOf, lastDigits, digits, decimal}
 
 -- the bytes of a text
 abbrev pub bytes : String → List ℕ
@@ -39,8 +39,8 @@ readings =
     ∷ ("99999999999999999999999999999999", Malformed)
     ∷ []
 
-pub texts-read : map (λ (e : String × Numeral). numberOf (bytes (e .0))) readings ≡ map (λ (e : String × Numeral). e .1) readings
-unfolding allDigits value leadingZero unsigned notBelowZero belowZero numberOf
+pub texts-read : map (λ (e : String × Numeral). numeralOf (bytes (e .0))) readings ≡ map (λ (e : String × Numeral). e .1) readings
+unfolding allDigits value leadingZero unsigned notBelowZero belowZero numeralOf
 texts-read = refl
 
 -- a number, and how it is written

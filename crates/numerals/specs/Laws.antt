@@ -15,13 +15,13 @@ use mir.Syntax.{w32}
 use mir.Val.{SFits}
 use Rattle.numerals.specs.declared.Numeral.the-variants.{Is, Malformed}
 use Rattle.texts.specs.Laws.{Free}
-use Rattle.numerals.specs.Numerals.{digit, allDigits, unsigned, notBelowZero, belowZero, numberOf, digits, decimal}
+use Rattle.numerals.specs.Numerals.{digit, allDigits, unsigned, notBelowZero, belowZero, numeralOf, digits, decimal}
 use Rattle.numerals.specs.DigitLaws as laws
 
 -- ---- read back
 
-pub without-minus : (bs : List ℕ) → getD bs 0 0 ≢ 45 → numberOf bs ≡ notBelowZero (unsigned bs)
-unfolding numberOf unsigned notBelowZero
+pub without-minus : (bs : List ℕ) → getD bs 0 0 ≢ 45 → numeralOf bs ≡ notBelowZero (unsigned bs)
+unfolding numeralOf unsigned notBelowZero
 without-minus [] h = refl
 without-minus (b ∷ bs) h = simp (ne-eqb b 45 h)
 
@@ -32,8 +32,8 @@ first-of-digits (d ∷ ds) h =
     omega arith
 
 -- A number of the range reads back as it was written.
-pub read-back : (z : ℤ) → SFits w32 z → numberOf (decimal z) ≡ Is z
-unfolding numberOf decimal notBelowZero belowZero
+pub read-back : (z : ℤ) → SFits w32 z → numeralOf (decimal z) ≡ Is z
+unfolding numeralOf decimal notBelowZero belowZero
 read-back (pos n) h =
     without-minus (decimal (pos n)) (first-of-digits (decimal (pos n)) (laws.allDigits-decimal n))
     ∙ ap notBelowZero (laws.unsigned-decimal n)
@@ -75,8 +75,8 @@ below-zero ds (some (suc n)) {z} e h =
     subst (λ (y : ℤ). Written y (45 ∷ ds)) (both .1)
     (record { range = record { sfits = omega arith }; bytes = ap (λ (es : List ℕ). 45 ∷ es) (laws.decimal-unsigned ds e) })
 
-written : (bs : List ℕ) {z : ℤ} → numberOf bs ≡ Is z → Written z bs
-unfolding numberOf
+written : (bs : List ℕ) {z : ℤ} → numeralOf bs ≡ Is z → Written z bs
+unfolding numeralOf
 written [] h = absurd (malformed h)
 written (b ∷ bs) {z} h = go (eqb b 45) refl h
   where
@@ -86,11 +86,11 @@ written (b ∷ bs) {z} h = go (eqb b 45) refl h
     go false e k = not-below-zero (b ∷ bs) (unsigned (b ∷ bs)) refl k
 
 -- Bytes that say a number are the number as it is written: each is written in one way.
-pub one-way : (bs : List ℕ) {z : ℤ} → numberOf bs ≡ Is z → decimal z ≡ bs
+pub one-way : (bs : List ℕ) {z : ℤ} → numeralOf bs ≡ Is z → decimal z ≡ bs
 one-way bs h = written bs h .bytes
 
 -- Bytes say no number beyond the range.
-pub in-range : (bs : List ℕ) {z : ℤ} → numberOf bs ≡ Is z → SFits w32 z
+pub in-range : (bs : List ℕ) {z : ℤ} → numeralOf bs ≡ Is z → SFits w32 z
 in-range bs h = written bs h .range
 
 -- ---- how long

@@ -44,9 +44,9 @@ belowZero (some zero) = Malformed
 belowZero (some (suc n)) = cond (leb (suc n) 2147483648) (Is (negsuc n)) Malformed
 
 -- [1.4] The number that bytes say. The minus sign is byte 45.
-unfoldable pub numberOf : List ℕ → Numeral
-numberOf [] = Malformed
-numberOf (b ∷ bs) = cond (eqb b 45) (belowZero (unsigned bs)) (notBelowZero (unsigned (b ∷ bs)))
+unfoldable pub numeralOf : List ℕ → Numeral
+numeralOf [] = Malformed
+numeralOf (b ∷ bs) = cond (eqb b 45) (belowZero (unsigned bs)) (notBelowZero (unsigned (b ∷ bs)))
 
 -- The digits of n: those of n / 10, then n % 10; none for 0. Of them the last ones, at most `most`.
 unfoldable pub lastDigits : ℕ → ℕ → List ℕ

@@ -4,7 +4,7 @@ ghost use Prim.Native.Nat.{_≤_};
 ghost use lib.IntN.{pos, natAbs};
 ghost use lib.ListN.{length};
 ghost use lib.Seq.{sets};
-ghost use Rattle.numerals.specs.Numerals.{digit, numberOf, unsigned, notBelowZero, belowZero, decimal};
+ghost use Rattle.numerals.specs.Numerals.{digit, numeralOf, unsigned, notBelowZero, belowZero, decimal};
 ghost use Rattle.numerals.specs.Magnitudes.{atMost};
 
 // What bytes say: a number, or none that is well written.
@@ -21,7 +21,7 @@ enum Magnitude {
 
 // The number that all of `bytes` say.
 pub fn read(bytes: &[u8]) -> Numeral
-    ensures { λ r. ⌜ r ≡ numberOf (now (bytes .entry)) ⌝ }
+    ensures { λ r. ⌜ r ≡ numeralOf (now (bytes .entry)) ⌝ }
 {
     if bytes.len() == 0 {
         return Numeral::Malformed;

@@ -1,82 +1,28 @@
--- A text that was read: the table that was lent holds its rows. Assumes nothing.
-use mathlib.Core.Bool.{Bool, true, false, _&&_}
+-- A text that was read: its answer is that of its rows. Assumes nothing.
 use mathlib.Core.Path.{_≡_, refl, sym, ap, _∙_}
 use mathlib.Core.List.{List}
-use Prim.Native.Nat.{ℕ, _≤_}
-use native.Mathlib.Omega.{arith}
-use lib.Dec.{leb}
-use lib.IntN.{ℤ}
-use lib.ListN.{length, take}
+use Prim.Native.Nat.{ℕ}
 use Rattle.refusals.specs.declared.Refusal.{Refusal}
-use Rattle.refusals.specs.declared.Refusal.the-variants.{LentSize}
-use Rattle.words.specs.Kinds.{Row, rowsOf}
-use Rattle.words.specs.declared.Found.{Found}
-use Rattle.texts.specs.Texts.{linesOf}
-use Rattle.lines.specs.Reading.{reading, rowsIn, headOf, planLimits, ReadInto}
-use Rattle.lines.specs.Lent.{askRoom}
-use Rattle.lines.specs.TableLaws.{read-few, rows-held, room-asked, kinds-filled, numbers-filled}
-use Rattle.lines.specs.declared.Heads.the-variants.{Words}
-use Rattle.lines.specs.declared.Reading.{Reading}
-use Rattle.lines.specs.declared.Reading.the-variants.{Rows, Refused}
-use Rattle.syntax.specs.declared.Answer.{Answer}
-use Rattle.syntax.specs.declared.Answer.the-variants as answer
-use Rattle.typing.specs.Entry.{afterReading, checkRows, checkText}
-use Rattle.plans.specs.Reading.{afterCheck, readText, PlanInto}
-
-no-pass : {A : Type 0} {q : Refusal} {n : ℕ} → answer.Refused q ≡ answer.Passed n → A
-no-pass e = absurd (let z : _≡_ {A = ℕ} 0 1 = cc in omega arith)
+use Rattle.refusals.specs.declared.Answer.{Answer}
+use Rattle.refusals.specs.declared.Answer.the-variants.{Told, Refused}
+use Rattle.refusals.specs.Answers.{unlessRefused}
+use Rattle.words.specs.Kinds.{Row}
+use Rattle.words.specs.Words.{lookUp}
+use Rattle.lines.specs.Reading.{reading, planLimits}
+use Rattle.lines.specs.Lent.{textRows}
+use Rattle.typing.specs.Entry.{checkPlanRows, checkPlanText}
 
 module _ (ws : List (List ℕ)) (t : List ℕ) where
-  abbrev head : List ℕ → Found
-  head = headOf ws Words
+  pub text-asked : checkPlanText ws t ≡ unlessRefused (reading (lookUp ws) planLimits t) (checkPlanRows (textRows ws t))
+  unfolding checkPlanText
+  text-asked = refl
 
-  abbrev R : List Row
-  R = rowsIn head (linesOf t)
+  module _ {r : Answer} (e : r ≡ reading (lookUp ws) planLimits t) where
+    by-reading : {x : Answer} → r ≡ x → unlessRefused x (checkPlanRows (textRows ws t)) ≡ checkPlanText ws t
+    by-reading f = ap (λ (y : Answer). unlessRefused y (checkPlanRows (textRows ws t))) (sym f ∙ e) ∙ sym text-asked
 
-  pub text-refused : (r : Reading) (q : Refusal) → r ≡ reading head planLimits t → r ≡ Refused q → answer.Refused q ≡ checkText ws t
-  unfolding checkText
-  text-refused r q e f = ap (λ (x : Reading). afterReading x (checkRows R)) (sym f ∙ e)
+    pub text-refused : {q : Refusal} → r ≡ Refused q → r ≡ checkPlanText ws t
+    text-refused f = f ∙ by-reading f
 
-  module _ (r : Reading) (n : ℕ) (e : r ≡ reading head planLimits t) (f : r ≡ Rows n) where
-    pub text-few : n ≤ 256
-    text-few = read-few head planLimits t n (sym e ∙ f)
-
-    pub text-checked : (ks ks′ : List ℕ) (ns ns′ : List ℤ) (c : Answer) → length ks ≡ 256 → length ns ≡ 256
-        → ReadInto head planLimits t ks ns r ks′ ns′ → c ≡ checkRows (rowsOf (take n ks′) (take n ns′)) → c ≡ checkText ws t
-    unfolding checkText
-    text-checked ks ks′ ns ns′ c h g i q =
-        q ∙ ap checkRows (rows-held head planLimits t r n ks ks′ ns ns′ f (omega (arith, h)) (omega (arith, g)) i)
-        ∙ ap (λ (x : Reading). afterReading x (checkRows R)) (sym f ∙ e)
-
-  -- ---- reading into a lent table
-
-  module _ (c : Answer) (ec : c ≡ checkText ws t) where
-    asked : (x : Answer) (kinds numbers : ℕ) → c ≡ x → afterCheck x (askRoom (length R) kinds numbers) ≡ readText ws t kinds numbers
-    unfolding readText
-    asked x kinds numbers e = ap (λ (y : Answer). afterCheck y (askRoom (length R) kinds numbers)) (sym e ∙ ec)
-
-    pub put-none : (q : Refusal) → c ≡ answer.Refused q → (ks : List ℕ) (ns : List ℤ) → PlanInto ws t ks ns (Refused q) ks ns
-    put-none q e ks ns = record { answer = asked (answer.Refused q) (length ks) (length ns) e; kinds-left = refl; numbers-left = refl }
-
-    module _ (n : ℕ) (passes : c ≡ answer.Passed n) (ks ks′ : List ℕ) (ns ns′ : List ℤ) (r : Reading) (i : ReadInto head planLimits t ks ns r ks′ ns′) where
-      pub read-again : {A : Type 0} (q : Refusal) → r ≡ Refused q → A
-      unfolding checkText
-      read-again q e = no-pass (sym (ap (λ (x : Reading). afterReading x (checkRows R)) (sym (i .answer) ∙ e)) ∙ sym ec ∙ passes)
-
-      module _ (m : ℕ) (is : r ≡ Rows m) where
-        abbrev fits : Bool
-        fits = leb m (length ks) && leb m (length ns)
-
-        pub put-short : fits ≡ false → PlanInto ws t ks ns (Refused LentSize) ks′ ns′
-        put-short e = record {
-          answer = room-asked head planLimits t r m ks ks′ ns ns′ is i false e ∙ asked (answer.Passed n) (length ks) (length ns) passes;
-          kinds-left = kinds-filled head planLimits t r m ks ks′ ns ns′ is i false e;
-          numbers-left = numbers-filled head planLimits t r m ks ks′ ns ns′ is i false e;
-        }
-
-        pub put-all : fits ≡ true → PlanInto ws t ks ns (Rows m) ks′ ns′
-        put-all e = record {
-          answer = room-asked head planLimits t r m ks ks′ ns ns′ is i true e ∙ asked (answer.Passed n) (length ks) (length ns) passes;
-          kinds-left = kinds-filled head planLimits t r m ks ks′ ns ns′ is i true e;
-          numbers-left = numbers-filled head planLimits t r m ks ks′ ns ns′ is i true e;
-        }
+    pub text-checked : {n : ℕ} {R : List Row} {c : Answer} → r ≡ Told n → R ≡ textRows ws t → c ≡ checkPlanRows R → c ≡ checkPlanText ws t
+    text-checked f same q = q ∙ ap checkPlanRows same ∙ by-reading f

@@ -3,15 +3,15 @@ use mathlib.Core.Path.{_≡_}
 use mathlib.Core.List.{List}
 use Prim.Native.Nat.{ℕ}
 use lib.IntN.{ℤ}
-use Rattle.lines.specs.declared.Reading.{Reading}
-use Rattle.syntax.specs.declared.Answer.{Answer}
-use Rattle.typing.specs.Entry.{checkText}
-use Rattle.plans.specs.Reading.{PlanInto}
+use Rattle.refusals.specs.declared.Answer.{Answer}
+use Rattle.lines.specs.Lent.{textRows, TableInto}
+use Rattle.typing.specs.Entry.{checkPlanText}
 
 -- [10.16], [10.17] `check_text`: the text and the answer
 abbrev pub ChecksPlan : List (List ℕ) → List ℕ → Answer → Type 0
-ChecksPlan ws t r = r ≡ checkText ws t
+ChecksPlan ws t r = r ≡ checkPlanText ws t
 
--- [10.16], [10.17] `read_text`: the text, the two slices as lent, the answer, the two slices as left
-abbrev pub ReadsPlan : List (List ℕ) → List ℕ → List ℕ → List ℤ → Reading → List ℕ → List ℤ → Type 0
-ReadsPlan ws t kinds numbers r kinds′ numbers′ = PlanInto ws t kinds numbers r kinds′ numbers′
+-- [10.16], [10.17] `read_text`, which puts the text's rows after the check: the text, the two slices as lent, the answer, the two slices as
+-- left
+abbrev pub ReadsPlan : List (List ℕ) → List ℕ → List ℕ → List ℤ → Answer → List ℕ → List ℤ → Type 0
+ReadsPlan ws t kinds numbers r kinds′ numbers′ = TableInto (checkPlanText ws t) (textRows ws t) kinds numbers r kinds′ numbers′

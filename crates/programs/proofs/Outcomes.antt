@@ -11,18 +11,15 @@ use lib.ListN.{length, take, drop}
 use lib.Seq.{sets}
 use Rattle.refusals.specs.declared.Refusal.{Refusal}
 use Rattle.refusals.specs.declared.Refusal.the-variants.{LentSize, StoreSize}
+use Rattle.refusals.specs.declared.Answer.{Answer}
+use Rattle.refusals.specs.declared.Answer.the-variants.{Told, Refused}
 use Rattle.words.specs.Kinds.{Row, rowsOf}
 use Rattle.words.specs.Laws.{rows-length}
-use Rattle.lines.specs.Reading.{reading, headOf, loopsLimits, filled, ReadInto}
+use Rattle.lines.specs.Reading.{headOf, reading, loopsLimits, filled}
 use Rattle.lines.specs.Lent.{textRows}
-use Rattle.lines.specs.Printing.{printing, fitting}
+use Rattle.lines.specs.Printing.{printing}
 use Rattle.lines.specs.Laws.{rows-read}
-use Rattle.lines.specs.TableLaws.{read-few, rows-held}
 use Rattle.lines.specs.declared.Heads.the-variants.{Words}
-use Rattle.lines.specs.declared.Reading.{Reading}
-use Rattle.lines.specs.declared.Reading.the-variants as read
-use Rattle.lines.specs.declared.Printing.{Printing}
-use Rattle.lines.specs.declared.Printing.the-variants.{Bytes, Refused}
 use Rattle.meaning.specs.Loops.{Loops}
 use Rattle.meaning.specs.Layout.{allCells}
 use Rattle.meaning.specs.Numbers.{clamped32}
@@ -30,62 +27,62 @@ use Rattle.meaning.specs.Runs.{State}
 use Rattle.syntax.specs.Reading.{loopsOf}
 use Rattle.loops.specs.declared.Checked.{Checked}
 use Rattle.loops.specs.declared.Checked.the-variants as check
-use Rattle.loops.specs.Check.{afterReading, checkRows, checkTable, checkText}
+use Rattle.loops.specs.Check.{afterAnswer, checkLoopsRows, checkTable, checkLoopsText}
 use Rattle.loops.specs.TableTheorems.{few-rows}
 use Rattle.interpreter.specs.Orders.{runOf}
 use Rattle.interpreter.specs.Interpreter.{stateOf}
-use Rattle.run.specs.Run.{Outcome, finished, refused}
-use Rattle.programs.specs.Printed.{refusalLine, PutInto}
-use Rattle.programs.specs.Runner.{askValues, withValues, afterValues, valuesRun, afterCheck, runnerOutcome}
+use Rattle.run.specs.Run.{Ran, finished, refused}
+use Rattle.programs.specs.Printed.{refusalText, PutInto}
+use Rattle.programs.specs.Runner.{askValues, withValues, afterValues, valuesRun, printChecked, runnerOutcome}
 use Rattle.programs.specs.Runner.{finishedText, outcomeText, runnerText, roomForAll, RunnerInto}
-use Rattle.programs.specs.Steps.{ValuesInto, Ready, LaidOut, OutcomeInto}
+use Rattle.programs.specs.Parts.{ValuesInto, Ready, LaidOut, OutcomeInto}
 use Rattle.programs.proofs.Putting.{front-put}
 
 -- a refusal, where there is room for the longest text
-pub refusal-into : (L : Loops) (q : Refusal) (s : List ℤ) {lent lent′ : List ℕ} {r : Printing} → PutInto (refusalLine q) lent r lent′
-    → length (refusalLine q) ≤ 45 → 69648 ≤ length lent → OutcomeInto L (refused q s) lent r s lent′
+pub refusal-into : (L : Loops) (q : Refusal) (s : List ℤ) {lent lent′ : List ℕ} {r : Answer} → PutInto (refusalText q) lent r lent′
+    → length (refusalText q) ≤ 45 → 69648 ≤ length lent → OutcomeInto L (refused q s) lent r s lent′
 unfolding printing
 refusal-into L q s {lent} I few room =
-    let fits = le-leb (length (refusalLine q)) (length lent) (omega arith) in
+    let fits = le-leb (length (refusalText q)) (length lent) (omega arith) in
     record {
-      answer = I .answer ∙ ap (λ (b : Bool). cond b (Bytes (length (refusalLine q))) (Refused LentSize)) fits;
+      answer = I .answer ∙ ap (λ (b : Bool). cond b (Told (length (refusalText q))) (Refused LentSize)) fits;
       store-left = refl;
-      text-left = I .text-left ∙ ap (λ (b : Bool). filled b (refusalLine q) lent) fits;
+      text-left = I .text-left ∙ ap (λ (b : Bool). filled b (refusalText q) lent) fits;
     }
 
 -- a run: its output cells and its writes
 pub run-into : (L : Loops) (s s′ : List ℤ) (w first size n : ℕ) {lent lent′ : List ℕ} → stateOf s′ w ≡ runOf L 0 s
     → first ≡ allCells (L .inputs) → size ≡ L .output → n ≡ length (finishedText (take size (drop first s′)) w) → n ≤ 69648 → 69648 ≤ length lent
-    → lent′ ≡ sets lent 0 (finishedText (take size (drop first s′)) w) → OutcomeInto L (finished (runOf L 0 s)) lent (Bytes n) s′ lent′
+    → lent′ ≡ sets lent 0 (finishedText (take size (drop first s′)) w) → OutcomeInto L (finished (runOf L 0 s)) lent (Told n) s′ lent′
 run-into L s s′ w first size n {lent} {lent′} ran f o count few room put =
     let text : finishedText (take size (drop first s′)) w ≡ outcomeText L (finished (runOf L 0 s)) =
     ap₂ (λ (i j : ℕ). finishedText (take i (drop j s′)) w) o f ∙ ap (λ (st : State clamped32). outcomeText L (finished st)) ran in
     record {
-      answer = ap Bytes (count ∙ ap length text);
+      answer = ap Told (count ∙ ap length text);
       store-left = ap (λ (st : State clamped32). st .store) ran;
       text-left = subst (λ (t : List ℕ). lent′ ≡ t ++ drop (length t) lent) text (front-put (finishedText (take size (drop first s′)) w) lent (omega (arith, count, few, room)) put);
     }
 
 -- ---- the values, and then the run
 
-module _ (ws : List (List ℕ)) (v : List ℕ) (L : Loops) (s s₁ : List ℤ) (inputs output : ℕ) (laid : LaidOut L inputs output) (a : Reading)
+module _ (ws : List (List ℕ)) (v : List ℕ) (L : Loops) (s s₁ : List ℤ) (inputs output : ℕ) (laid : LaidOut L inputs output) (a : Answer)
     (I : ValuesInto ws v inputs s a s₁) where
-  asked : (x : Reading) → a ≡ x → afterValues x L (withValues ws v (allCells (L .inputs)) s) s ≡ valuesRun ws v L s
+  asked : (x : Answer) → a ≡ x → afterValues x L (withValues ws v (allCells (L .inputs)) s) s ≡ valuesRun ws v L s
   unfolding valuesRun
   asked x f =
-      ap (λ (y : Reading). afterValues y L (withValues ws v (allCells (L .inputs)) s) s)
+      ap (λ (y : Answer). afterValues y L (withValues ws v (allCells (L .inputs)) s) s)
       (sym f ∙ I .answer ∙ ap (λ (n : ℕ). askValues ws v n (length s)) (laid .inputs-all))
 
-  pub values-refused : (q : Refusal) {lent lent′ : List ℕ} {r : Printing} → a ≡ read.Refused q → OutcomeInto L (refused q s₁) lent r s₁ lent′
+  pub values-refused : (q : Refusal) {lent lent′ : List ℕ} {r : Answer} → a ≡ Refused q → OutcomeInto L (refused q s₁) lent r s₁ lent′
       → OutcomeInto L (valuesRun ws v L s) lent r s₁ lent′
   values-refused q {lent} {lent′} {r} f J =
-      subst (λ (x : Outcome). OutcomeInto L x lent r s₁ lent′) (ap (refused q) (I .kept q f) ∙ asked (read.Refused q) f) J
+      subst (λ (x : Ran). OutcomeInto L x lent r s₁ lent′) (ap (refused q) (I .kept q f) ∙ asked (Refused q) f) J
 
-  pub values-run : (m : ℕ) {s′ : List ℤ} {lent lent′ : List ℕ} {r : Printing} → a ≡ read.Rows m → OutcomeInto L (finished (runOf L 0 s₁)) lent r s′ lent′
+  pub values-run : (m : ℕ) {s′ : List ℤ} {lent lent′ : List ℕ} {r : Answer} → a ≡ Told m → OutcomeInto L (finished (runOf L 0 s₁)) lent r s′ lent′
       → OutcomeInto L (valuesRun ws v L s) lent r s′ lent′
   values-run m {s′} {lent} {lent′} {r} f J =
-      subst (λ (x : Outcome). OutcomeInto L x lent r s′ lent′)
-      (ap (λ (l : List ℤ). finished (runOf L 0 l)) (I .filled m f ∙ ap (λ (n : ℕ). withValues ws v n s) (laid .inputs-all)) ∙ asked (read.Rows m) f) J
+      subst (λ (x : Ran). OutcomeInto L x lent r s′ lent′)
+      (ap (λ (l : List ℤ). finished (runOf L 0 l)) (I .filled m f ∙ ap (λ (n : ℕ). withValues ws v n s) (laid .inputs-all)) ∙ asked (Told m) f) J
 
 pub ready-same : (ks : List ℕ) (ns : List ℤ) (m n : ℕ) → m ≡ n → Ready ks ns n → Ready ks ns m
 ready-same ks ns m n e ready = subst (Ready ks ns) (sym e) ready
@@ -96,28 +93,28 @@ module _ (ws : List (List ℕ)) (v ks : List ℕ) (ns : List ℤ) (s : List ℤ)
   abbrev L : Loops
   L = loopsOf (rowsOf ks ns)
 
-  module _ {lent lent′ : List ℕ} {r : Printing} {s′ : List ℤ} where
-    answered : (x : Checked) → c ≡ x → OutcomeInto L (afterCheck x ws v L s) lent r s′ lent′
-        → OutcomeInto L (afterCheck (checkTable (rowsOf ks ns)) ws v L s) lent r s′ lent′
-    answered x f J = subst (λ (y : Checked). OutcomeInto L (afterCheck y ws v L s) lent r s′ lent′) (sym f ∙ e) J
+  module _ {lent lent′ : List ℕ} {r : Answer} {s′ : List ℤ} where
+    answered : (x : Checked) → c ≡ x → OutcomeInto L (printChecked x ws v L s) lent r s′ lent′
+        → OutcomeInto L (printChecked (checkTable (rowsOf ks ns)) ws v L s) lent r s′ lent′
+    answered x f J = subst (λ (y : Checked). OutcomeInto L (printChecked y ws v L s) lent r s′ lent′) (sym f ∙ e) J
 
     pub check-refused : (q : Refusal) → c ≡ check.Refused q → OutcomeInto L (refused q s) lent r s′ lent′
-        → OutcomeInto L (afterCheck (checkTable (rowsOf ks ns)) ws v L s) lent r s′ lent′
+        → OutcomeInto L (printChecked (checkTable (rowsOf ks ns)) ws v L s) lent r s′ lent′
     check-refused q f J = answered (check.Refused q) f J
 
     module _ (w n : ℕ) (f : c ≡ check.Passes w n) where
       passed : (b : Bool) → leb n (length s) ≡ b → OutcomeInto L (cond b (valuesRun ws v L s) (refused StoreSize s)) lent r s′ lent′
-          → OutcomeInto L (afterCheck (checkTable (rowsOf ks ns)) ws v L s) lent r s′ lent′
+          → OutcomeInto L (printChecked (checkTable (rowsOf ks ns)) ws v L s) lent r s′ lent′
       passed b h J =
           answered (check.Passes w n) f
           (subst (λ (x : Bool). OutcomeInto L (cond x (valuesRun ws v L s) (refused StoreSize s)) lent r s′ lent′) (sym h) J)
 
       pub store-short : length s < n → OutcomeInto L (refused StoreSize s) lent r s′ lent′
-          → OutcomeInto L (afterCheck (checkTable (rowsOf ks ns)) ws v L s) lent r s′ lent′
+          → OutcomeInto L (printChecked (checkTable (rowsOf ks ns)) ws v L s) lent r s′ lent′
       store-short h J = passed false (lt-leb n (length s) h) J
 
       pub passing-run : n ≤ length s → OutcomeInto L (valuesRun ws v L s) lent r s′ lent′
-          → OutcomeInto L (afterCheck (checkTable (rowsOf ks ns)) ws v L s) lent r s′ lent′
+          → OutcomeInto L (printChecked (checkTable (rowsOf ks ns)) ws v L s) lent r s′ lent′
       passing-run h J = passed true (le-leb n (length s) h) J
 
   pub ready : (w n : ℕ) → c ≡ check.Passes w n → length ks ≡ length ns → length ks ≤ 4096 → n ≤ length s → Ready ks ns (length s)
@@ -141,34 +138,26 @@ module _ (ws : List (List ℕ)) (t v : List ℕ) (s : List ℤ) (lent : List ℕ
   abbrev M : Loops
   M = loopsOf (textRows ws t)
 
-  pub outcome-into : (x : Outcome) → x ≡ runnerOutcome ws t v s → 69648 ≤ length lent → {r : Printing} {s′ : List ℤ} {lent′ : List ℕ}
+  pub outcome-into : (x : Ran) → x ≡ runnerOutcome ws t v s → 69648 ≤ length lent → {r : Answer} {s′ : List ℤ} {lent′ : List ℕ}
       → OutcomeInto M x lent r s′ lent′ → RunnerInto ws t v s lent r s′ lent′
   unfolding runnerText
   outcome-into x f h {r} {s′} {lent′} I =
-      let J : OutcomeInto M (runnerOutcome ws t v s) lent r s′ lent′ = subst (λ (y : Outcome). OutcomeInto M y lent r s′ lent′) f I in
+      let J : OutcomeInto M (runnerOutcome ws t v s) lent r s′ lent′ = subst (λ (y : Ran). OutcomeInto M y lent r s′ lent′) f I in
       let room : roomForAll lent ≡ true = le-leb 69648 (length lent) h in
       record { answer = J .answer ∙ simp room; store-left = J .store-left ∙ simp room; text-left = J .text-left ∙ simp room }
 
-  module _ (room : 69648 ≤ length lent) (ks ks′ : List ℕ) (ns ns′ : List ℤ) (d : Reading)
-      (i : ReadInto (headOf ws Words) loopsLimits t ks ns d ks′ ns′) where
-    read-so : (x : Reading) → d ≡ x → afterCheck (afterReading x (checkRows (textRows ws t))) ws v M s ≡ runnerOutcome ws t v s
-    unfolding runnerOutcome checkText
-    read-so x f = ap (λ (y : Reading). afterCheck (afterReading y (checkRows (textRows ws t))) ws v M s) (sym f ∙ i .answer)
+  module _ (room : 69648 ≤ length lent) {d : Answer} (i : d ≡ reading (headOf ws Words) loopsLimits t) where
+    read-so : (x : Answer) → d ≡ x → printChecked (afterAnswer x (checkLoopsRows (textRows ws t))) ws v M s ≡ runnerOutcome ws t v s
+    unfolding runnerOutcome checkLoopsText
+    read-so x f = ap (λ (y : Answer). printChecked (afterAnswer y (checkLoopsRows (textRows ws t))) ws v M s) (sym f ∙ i)
 
-    pub reading-refused : (q : Refusal) {r : Printing} {s′ : List ℤ} {lent′ : List ℕ} → d ≡ read.Refused q → OutcomeInto M (refused q s) lent r s′ lent′ → RunnerInto ws t v s lent r s′ lent′
-    reading-refused q f J = outcome-into (refused q s) (read-so (read.Refused q) f) room J
+    pub reading-refused : {q : Refusal} {r : Answer} {s′ : List ℤ} {lent′ : List ℕ} → d ≡ Refused q → OutcomeInto M (refused q s) lent r s′ lent′ → RunnerInto ws t v s lent r s′ lent′
+    reading-refused {q} f J = outcome-into (refused q s) (read-so (Refused q) f) room J
 
-    module _ (n : ℕ) (f : d ≡ read.Rows n) where
-      rows-few : n ≤ 4096
-      rows-few = read-few (headOf ws Words) loopsLimits t n (sym (i .answer) ∙ f)
-
-      pub table-run : {r : Printing} {s′ : List ℤ} {lent′ : List ℕ} → length ks ≡ 4096 → length ns ≡ 4096
-          → OutcomeInto (loopsOf (rowsOf (take n ks′) (take n ns′)))
-          (afterCheck (checkTable (rowsOf (take n ks′) (take n ns′))) ws v (loopsOf (rowsOf (take n ks′) (take n ns′))) s) lent r s′ lent′
-          → RunnerInto ws t v s lent r s′ lent′
-      table-run {r} {s′} {lent′} h g J =
-          let count = rows-read (headOf ws Words) loopsLimits t n (sym (i .answer) ∙ f) in
-          let held = rows-held (headOf ws Words) loopsLimits t d n ks ks′ ns ns′ f (omega (arith, h)) (omega (arith, g)) i in
-          outcome-into (afterCheck (checkTable (textRows ws t)) ws v M s)
-          (ap (λ (x : Checked). afterCheck x ws v M s) (few-rows (textRows ws t) (omega (arith, count, rows-few))) ∙ read-so (read.Rows n) f) room
-          (subst (λ (R : List Row). OutcomeInto (loopsOf R) (afterCheck (checkTable R) ws v (loopsOf R) s) lent r s′ lent′) held J)
+    pub table-run : {n : ℕ} {S : List Row} {r : Answer} {s′ : List ℤ} {lent′ : List ℕ} → d ≡ Told n → n ≤ 4096 → S ≡ textRows ws t
+        → OutcomeInto (loopsOf S) (printChecked (checkTable S) ws v (loopsOf S) s) lent r s′ lent′ → RunnerInto ws t v s lent r s′ lent′
+    table-run {n} {S} {r} {s′} {lent′} f few held J =
+        let count = rows-read (headOf ws Words) loopsLimits t n (sym i ∙ f) in
+        outcome-into (printChecked (checkTable (textRows ws t)) ws v M s)
+        (ap (λ (x : Checked). printChecked x ws v M s) (few-rows (textRows ws t) (omega (arith, count, few))) ∙ read-so (Told n) f) room
+        (subst (λ (R : List Row). OutcomeInto (loopsOf R) (printChecked (checkTable R) ws v (loopsOf R) s) lent r s′ lent′) held J)

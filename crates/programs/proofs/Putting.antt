@@ -11,15 +11,15 @@ use lib.ListN.{length, getD, set, drop, length-append, drop-of-length-le}
 use lib.Seq.{sets, sets-eq, drop-cons}
 use Rattle.refusals.specs.declared.Refusal.{Refusal}
 use Rattle.refusals.specs.declared.Refusal.the-variants.{LentSize}
-use Rattle.refusals.specs.Refusals.{numberOf, lineOf}
+use Rattle.refusals.specs.Refusals.{refusalNumber, refusalLine}
+use Rattle.refusals.specs.declared.Answer.the-variants.{Told, Refused}
 use Rattle.words.specs.Words.{bytes}
 use Rattle.numerals.specs.Numerals.{decimal}
 use Rattle.numerals.specs.DigitLaws.{decimal-length}
 use Rattle.numerals.specs.Laws.{decimal-short}
-use Rattle.lines.specs.declared.Printing.the-variants.{Bytes, Refused}
 use Rattle.lines.proofs.Stores.{sets-append}
 use Rattle.lines.proofs.Sizes.{too-long, fits-in}
-use Rattle.programs.specs.Printed.{refusalLine, PutInto}
+use Rattle.programs.specs.Printed.{refusalText, PutInto}
 use Rattle.programs.specs.Runner.{cellLines, finishedText}
 
 -- two parts, one behind the other
@@ -43,7 +43,7 @@ front-put text lent h put =
 
 -- a text that fits is put; one that does not is not
 pub put-all : (text lent : List ℕ) (n : ℕ) {lent′ : List ℕ} → n ≡ length text → n ≤ length lent → lent′ ≡ sets lent 0 text
-    → PutInto text lent (Bytes n) lent′
+    → PutInto text lent (Told n) lent′
 put-all text lent n e h put = record {
   answer = fits-in text (length lent) n e h;
   text-left = front-put text lent (omega arith) put ∙ simp (le-leb (length text) (length lent) (omega arith));
@@ -54,19 +54,19 @@ put-none text lent h = record { answer = too-long text (length lent) h; text-lef
 
 -- ---- a refusal's line
 
-module _ (q : Refusal) (n l : ℕ) (en : n ≡ numberOf q) (el : l ≡ lineOf q) where
+module _ (q : Refusal) (n l : ℕ) (en : n ≡ refusalNumber q) (el : l ≡ refusalLine q) where
   abbrev number : List ℕ
   number = decimal (pos n) ++ (44 ∷ [])
 
   abbrev line : List ℕ
   line = decimal (pos l) ++ (10 ∷ [])
 
-  in-parts : refusalLine q ≡ bytes "no," ++ (number ++ line)
-  unfolding refusalLine
+  in-parts : refusalText q ≡ bytes "no," ++ (number ++ line)
+  unfolding refusalText
   in-parts =
       ap₂ (λ (a b : ℕ). bytes "no," ++ decimal (pos a) ++ (44 ∷ decimal (pos b)) ++ (10 ∷ [])) (sym en) (sym el) ∙ simp append-assoc
 
-  pub refusal-sizes : (length (refusalLine q) ≡ 3 + length number + length line)
+  pub refusal-sizes : (length (refusalText q) ≡ 3 + length number + length line)
       × (length number ≡ length (decimal (pos n)) + 1) × (length line ≡ length (decimal (pos l)) + 1)
   refusal-sizes = (
     omega (arith, ap length in-parts, length-append number line),
@@ -75,7 +75,7 @@ module _ (q : Refusal) (n l : ℕ) (en : n ≡ numberOf q) (el : l ≡ lineOf q)
   )
 
   pub refusal-put : (t : List ℕ) (comma : ℕ) {t₁ t₂ t₃ : List ℕ} → t₁ ≡ sets t 0 (bytes "no,") → comma ≡ 3 + length number
-      → t₂ ≡ sets t₁ 3 number → t₃ ≡ sets t₂ comma line → t₃ ≡ sets t 0 (refusalLine q)
+      → t₂ ≡ sets t₁ 3 number → t₃ ≡ sets t₂ comma line → t₃ ≡ sets t 0 (refusalText q)
   refusal-put t comma {t₁} e₁ c e₂ e₃ =
       two-put (bytes "no,") (number ++ line) t 0 3 e₁ refl (two-put number line t₁ 3 comma e₂ c e₃)
       ∙ ap (sets t 0) (sym in-parts)

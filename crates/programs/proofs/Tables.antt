@@ -10,6 +10,9 @@ use borrow.Author.Tests.{eq-eqb, ne-eqb}
 use lib.IntN.{ℤ, pos}
 use lib.ListN.{length, getD, take, drop, drop-of-length-le, length-map}
 use lib.Seq.{drop-cons}
+use Rattle.refusals.specs.declared.Answer.{Answer}
+use Rattle.refusals.specs.declared.Answer.the-variants.{Told}
+use Rattle.refusals.specs.Answers.{isTold}
 use Rattle.words.specs.Kinds.{rowsOf}
 use Rattle.meaning.specs.Loops.{Loops}
 use Rattle.meaning.specs.Layout.{allCells, need}
@@ -20,53 +23,51 @@ use Rattle.meaning.specs.Numbers.{clamped32}
 use Rattle.meaning.specs.Runs.{RunOf}
 use Rattle.meaning.specs.Sequence.{upFrom}
 use Rattle.meaning.specs.Laws.Orders.{upFrom-length}
-use Rattle.syntax.specs.Ranges.{asNatural, cellsOf}
+use Rattle.syntax.specs.Ranges.{asNatural, cellNumbers}
 use Rattle.syntax.specs.Reading.{loopsOf}
 use Rattle.syntax.specs.Theorems.{loops-read}
 use Rattle.syntax.proofs.LoopsTable as parts
 use Rattle.loops.specs.Theorems.{Accepted, passes-exactly, runs-safely}
 use Rattle.lines.specs.Reading.{filled}
-use Rattle.lines.specs.declared.Reading.{Reading}
-use Rattle.lines.specs.declared.Reading.the-variants.{Rows, Refused}
 use Rattle.store.specs.Cells.{cellsOf as cellsOf′}
 use Rattle.store.specs.Store.{storeOf, frameOf}
 use Rattle.interpreter.specs.Orders.{runOf}
 use Rattle.interpreter.specs.Interpreter.{stateOf}
 use Rattle.run.specs.Theorems.{run-is-run}
-use Rattle.values.specs.Values.{filling, valueOf, valueRows, accepted, FillInto}
-use Rattle.programs.specs.Runner.{askValues, withValues}
-use Rattle.programs.specs.Steps.{ValuesInto, Ready, LaidOut}
+use Rattle.values.specs.Values.{filling, valueOf, valueLines, FillInto}
+use Rattle.programs.specs.Runner.{withValues}
+use Rattle.programs.specs.Parts.{ValuesInto, Ready, LaidOut}
 
 -- ---- the cells of rows, one after the other
 
 pub cells-next : (ns : List ℤ) (i : ℕ) → i < length ns
-    → allCells (cellsOf (drop i ns)) ≡ asNatural (getD ns i (pos 0)) + allCells (cellsOf (drop (i + 1) ns))
+    → allCells (cellNumbers (drop i ns)) ≡ asNatural (getD ns i (pos 0)) + allCells (cellNumbers (drop (i + 1) ns))
 cells-next ns i h = rw (add-one, drop-cons ns i (pos 0) h)
 
-pub cells-end : (ns : List ℤ) (i : ℕ) → length ns ≤ i → allCells (cellsOf (drop i ns)) ≡ 0
-cells-end ns i h = ap (λ (l : List ℤ). allCells (cellsOf l)) (drop-of-length-le ns h)
+pub cells-end : (ns : List ℤ) (i : ℕ) → length ns ≤ i → allCells (cellNumbers (drop i ns)) ≡ 0
+cells-end ns i h = ap (λ (l : List ℤ). allCells (cellNumbers l)) (drop-of-length-le ns h)
 
 -- ---- the values
 
 module _ (ws : List (List ℕ)) (v : List ℕ) (s : List ℤ) where
-  pub none-asked : (n : ℕ) → n ≡ 0 → ValuesInto ws v n s (Rows 0) s
+  pub none-asked : (n : ℕ) → n ≡ 0 → ValuesInto ws v n s (Told 0) s
   none-asked n e = record {
-    answer = ap (λ (b : Bool). cond b (Rows 0) (filling ws v n (length s))) (sym (eq-eqb n 0 e));
+    answer = ap (λ (b : Bool). cond b (Told 0) (filling ws v n (length s))) (sym (eq-eqb n 0 e));
     filled = λ m f. ap (λ (k : ℕ). withValues ws v k s) (sym e);
     kept = λ q f. refl;
   }
 
-  pub values-asked : (n : ℕ) (r : Reading) (s′ : List ℤ) → n ≢ 0 → FillInto ws v n s r s′ → ValuesInto ws v n s r s′
+  pub values-asked : (n : ℕ) (r : Answer) (s′ : List ℤ) → n ≢ 0 → FillInto ws v n s r s′ → ValuesInto ws v n s r s′
   values-asked n r s′ d I = record {
-    answer = I .answer ∙ ap (λ (b : Bool). cond b (Rows 0) (filling ws v n (length s))) (sym (ne-eqb n 0 d));
+    answer = I .answer ∙ ap (λ (b : Bool). cond b (Told 0) (filling ws v n (length s))) (sym (ne-eqb n 0 d));
     filled = λ m f.
-        I .store-left ∙ ap (λ (x : Reading). filled (accepted x) put s) f
-        ∙ ap (λ (k : ℕ). put ++ drop k s) (length-map (upFrom 0 n) (valueOf (valueRows ws v)) ∙ upFrom-length 0 n);
-    kept = λ q f. I .store-left ∙ ap (λ (x : Reading). filled (accepted x) put s) f;
+        I .store-left ∙ ap (λ (x : Answer). filled (isTold x) put s) f
+        ∙ ap (λ (k : ℕ). put ++ drop k s) (length-map (upFrom 0 n) (valueOf (valueLines ws v)) ∙ upFrom-length 0 n);
+    kept = λ q f. I .store-left ∙ ap (λ (x : Answer). filled (isTold x) put s) f;
   }
     where
       put : List ℤ
-      put = map (valueOf (valueRows ws v)) (upFrom 0 n)
+      put = map (valueOf (valueLines ws v)) (upFrom 0 n)
 
 -- ---- loops that pass, and a store that holds them
 
@@ -103,7 +104,7 @@ module _ (ks : List ℕ) (ns : List ℤ) (n : ℕ) (ready : Ready ks ns n) where
   pub first-row : 0 < length ns
   first-row = omega (arith, parts.table-long ks ns (ready .same) L rows)
 
-  pub laid-out : (k : ℕ) → k ≡ asNatural (getD ns 0 (pos 0)) → (inputs output : ℕ) → inputs ≡ allCells (cellsOf (take (1 + k - 1) (drop 1 ns)))
+  pub laid-out : (k : ℕ) → k ≡ asNatural (getD ns 0 (pos 0)) → (inputs output : ℕ) → inputs ≡ allCells (cellNumbers (take (1 + k - 1) (drop 1 ns)))
       → output ≡ asNatural (getD ns (1 + k) (pos 0)) → LaidOut L inputs output
   laid-out k e inputs output f g =
       let same = inputs-are k e .0 in

@@ -5,16 +5,16 @@ use mathlib.Core.Path.{_≡_}
 use mathlib.Core.List.{List}
 use Prim.Native.Nat.{ℕ}
 use lib.IntN.{ℤ}
-use Rattle.lines.specs.declared.Printing.{Printing}
+use Rattle.refusals.specs.declared.Answer.{Answer}
 use Rattle.programs.specs.Printed.{translatorText, PutInto}
 use Rattle.programs.specs.Runner.{readsValues, RunnerInto}
 
 -- [11.1], [11.9] `translator`: the plan's text, the text as lent, the answer, the text as left
-abbrev pub PrintsLoops : List (List ℕ) → List ℕ → List ℕ → Printing → List ℕ → Type 0
+abbrev pub PrintsLoops : List (List ℕ) → List ℕ → List ℕ → Answer → List ℕ → Type 0
 PrintsLoops ws t lent r lent′ = PutInto (translatorText ws t) lent r lent′
 
 -- [11.7], [11.9] `runner`: the loops' text, the values' text, the store and the text as lent, the answer, the store and the text as left
-abbrev pub PrintsRun : List (List ℕ) → List ℕ → List ℕ → List ℤ → List ℕ → Printing → List ℤ → List ℕ → Type 0
+abbrev pub PrintsRun : List (List ℕ) → List ℕ → List ℕ → List ℤ → List ℕ → Answer → List ℤ → List ℕ → Type 0
 PrintsRun ws t v store lent r store′ lent′ = RunnerInto ws t v store lent r store′ lent′
 
 -- [11.5] `reads_values`: the loops' text and the answer

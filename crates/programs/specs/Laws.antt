@@ -9,26 +9,26 @@ use lib.Dec.{leb}
 use lib.IntN.{ℤ}
 use lib.ListN.{length, drop, length-append}
 use Rattle.refusals.specs.declared.Refusal.the-variants.{LentSize}
+use Rattle.refusals.specs.declared.Answer.{Answer}
+use Rattle.refusals.specs.declared.Answer.the-variants.{Told, Refused}
 use Rattle.lines.specs.Printing.{printing}
 use Rattle.lines.specs.Reading.{filled}
-use Rattle.lines.specs.declared.Printing.{Printing}
-use Rattle.lines.specs.declared.Printing.the-variants.{Bytes, Refused}
 use Rattle.programs.specs.Printed.{PutInto}
 use Rattle.programs.specs.Runner.{runnerText, roomForAll, RunnerInto}
 
-bytes-of : {m n : ℕ} (b : Bool) → Bytes n ≡ cond b (Bytes m) (Refused LentSize) → (b ≡ true) × (n ≡ m)
+bytes-of : {m n : ℕ} (b : Bool) → Told n ≡ cond b (Told m) (Refused LentSize) → (b ≡ true) × (n ≡ m)
 bytes-of true e = (refl, cc)
 bytes-of false e = absurd (let clash : _≡_ {A = ℕ} 0 1 = cc in omega arith)
 
 -- The bytes put are within the lent text.
-pub put-within : (text lent : List ℕ) {r : Printing} {lent′ : List ℕ} {n : ℕ} → PutInto text lent r lent′ → r ≡ Bytes n → n ≤ length lent
+pub put-within : (text lent : List ℕ) {r : Answer} {lent′ : List ℕ} {n : ℕ} → PutInto text lent r lent′ → r ≡ Told n → n ≤ length lent
 unfolding printing
 put-within text lent I e =
     let b = bytes-of (leb (length text) (length lent)) (sym e ∙ I .answer) in
     omega (arith, b .1, leb-true (length text) (length lent) (b .0))
 
-pub runner-within : (ws : List (List ℕ)) (t v : List ℕ) (s : List ℤ) (lent : List ℕ) {r : Printing} {s′ : List ℤ} {lent′ : List ℕ} {n : ℕ}
-    → RunnerInto ws t v s lent r s′ lent′ → length lent′ ≡ length lent → r ≡ Bytes n → n ≤ length lent
+pub runner-within : (ws : List (List ℕ)) (t v : List ℕ) (s : List ℤ) (lent : List ℕ) {r : Answer} {s′ : List ℤ} {lent′ : List ℕ} {n : ℕ}
+    → RunnerInto ws t v s lent r s′ lent′ → length lent′ ≡ length lent → r ≡ Told n → n ≤ length lent
 runner-within ws t v s lent {n = n} I h e =
     let b = bytes-of (roomForAll lent) (sym e ∙ I .answer) in
     let text = runnerText ws t v s in

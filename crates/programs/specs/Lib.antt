@@ -4,7 +4,7 @@
 pub mod Printed
 pub mod Runner
 -- What the contracts of parts say besides
-pub mod Steps
+pub mod Parts
 -- Their laws
 pub mod Laws
 pub mod NoInputs

@@ -4,7 +4,6 @@ use mathlib.Core.Bool.{Bool, true, false, not, cond, _&&_, true≢false}
 use mathlib.Core.Path.{_≡_, refl, sym, ap, _∙_}
 use mathlib.Core.List.{List, [], _∷_, _++_}
 use Prim.Native.Nat.{ℕ}
-use native.Mathlib.Omega.{arith}
 use borrow.Author.Tests.{eqb-true}
 use lib.Dec.{leb, eqb}
 use lib.IntN.{ℤ, pos}
@@ -12,7 +11,7 @@ use lib.ListN.{length}
 use Rattle.refusals.specs.declared.Refusal.the-variants.{StoreSize}
 use Rattle.words.specs.Kinds.{Row, word-loops}
 use Rattle.words.specs.Words.{bytes, table, words, sameLetters, lookFrom}
-use Rattle.numerals.specs.Numerals.{allDigits, value, leadingZero, unsigned, notBelowZero, belowZero, numberOf}
+use Rattle.numerals.specs.Numerals.{allDigits, value, leadingZero, unsigned, notBelowZero, belowZero, numeralOf}
 use Rattle.texts.specs.Texts.{linesOf, placeOf}
 use Rattle.lines.specs.Reading.{lineOf, rowsIn}
 use Rattle.lines.specs.Lent.{textRows}
@@ -21,9 +20,9 @@ use Rattle.meaning.specs.Layout.{allCells}
 use Rattle.syntax.specs.Reading.{loopsOf}
 use Rattle.loops.specs.declared.Checked.{Checked}
 use Rattle.loops.specs.declared.Checked.the-variants as check
-use Rattle.loops.specs.Check.{checkText}
-use Rattle.run.specs.Run.{Outcome, refused}
-use Rattle.programs.specs.Runner.{askValues, withValues, afterValues, valuesRun, afterCheck, runnerOutcome, begins, readsValues, outcomeText, runnerText}
+use Rattle.loops.specs.Check.{checkLoopsText}
+use Rattle.run.specs.Run.{Ran, refused}
+use Rattle.programs.specs.Runner.{askValues, withValues, afterValues, valuesRun, printChecked, runnerOutcome, begins, readsValues, outcomeText, runnerText}
 
 -- ---- the first row
 
@@ -41,7 +40,7 @@ front-of (a ∷ t) (b ∷ f) e = go (eqb a b) refl e (front-of t f)
     go false h e rest = absurd (true≢false (sym e))
 
 first-row : (u : List ℕ) → textRows words ((bytes "loops,0" ++ (10 ∷ [])) ++ u) ≡ (word-loops, pos 0) ∷ textRows words u
-unfolding linesOf placeOf lineOf rowsIn table words sameLetters lookFrom allDigits value leadingZero unsigned notBelowZero belowZero numberOf
+unfolding linesOf placeOf lineOf rowsIn table words sameLetters lookFrom allDigits value leadingZero unsigned notBelowZero belowZero numeralOf
 first-row u = refl
 
 pub no-inputs : (t : List ℕ) → readsValues t ≡ false → loopsOf (textRows words t) .inputs ≡ []
@@ -65,8 +64,8 @@ module _ (ws : List (List ℕ)) (v v′ : List ℕ) (L : Loops) (s : List ℤ) (
           ≡ afterValues (askValues ws x 0 (length s)) L s s
       with-none x = ap (λ (l : List ℕ). afterValues (askValues ws x (allCells l) (length s)) L (withValues ws x (allCells l) s) s) none
 
-  checked-alike : (c : Checked) → afterCheck c ws v L s ≡ afterCheck c ws v′ L s
-  checked-alike (check.Passes w n) = ap (λ (x : Outcome). cond (leb n (length s)) x (refused StoreSize s)) run-alike
+  checked-alike : (c : Checked) → printChecked c ws v L s ≡ printChecked c ws v′ L s
+  checked-alike (check.Passes w n) = ap (λ (x : Ran). cond (leb n (length s)) x (refused StoreSize s)) run-alike
   checked-alike (check.Refused q) = refl
 
 -- Where `reads_values` answers "no", the outcome and the text printed are the same whatever the values are.
@@ -74,5 +73,5 @@ pub values-play-no-part : (t v v′ : List ℕ) (s : List ℤ) → readsValues t
     → (runnerOutcome words t v s ≡ runnerOutcome words t v′ s) × (runnerText words t v s ≡ runnerText words t v′ s)
 unfolding runnerOutcome runnerText
 values-play-no-part t v v′ s e =
-    let alike = checked-alike words v v′ (loopsOf (textRows words t)) s (no-inputs t e) (checkText words t) in
+    let alike = checked-alike words v v′ (loopsOf (textRows words t)) s (no-inputs t e) (checkLoopsText words t) in
     (alike, ap (outcomeText (loopsOf (textRows words t))) alike)

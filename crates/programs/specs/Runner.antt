@@ -8,56 +8,52 @@ use lib.Dec.{eqb, leb}
 use lib.IntN.{ℤ, pos}
 use lib.ListN.{length, take, drop}
 use Rattle.refusals.specs.declared.Refusal.the-variants.{StoreSize, LentSize}
+use Rattle.refusals.specs.declared.Answer.{Answer}
+use Rattle.refusals.specs.declared.Answer.the-variants.{Told, Refused}
 use Rattle.words.specs.Words.{bytes}
 use Rattle.numerals.specs.Numerals.{decimal}
 use Rattle.lines.specs.Reading.{filled}
 use Rattle.lines.specs.Lent.{textRows}
-use Rattle.lines.specs.declared.Reading.{Reading}
-use Rattle.lines.specs.declared.Reading.the-variants.{Rows, Refused}
-use Rattle.lines.specs.declared.Printing.{Printing}
-use Rattle.lines.specs.declared.Printing.the-variants as print
 use Rattle.meaning.specs.Sequence.{upFrom}
 use Rattle.meaning.specs.Loops.{Loops}
 use Rattle.meaning.specs.Layout.{allCells}
 use Rattle.syntax.specs.Reading.{loopsOf}
-use Rattle.values.specs.Values.{filling, valueOf, valueRows}
+use Rattle.values.specs.Values.{filling, valueOf, valueLines}
 use Rattle.loops.specs.declared.Checked.{Checked}
 use Rattle.loops.specs.declared.Checked.the-variants as check
-use Rattle.loops.specs.Check.{checkText}
+use Rattle.loops.specs.Check.{checkLoopsText}
 use Rattle.interpreter.specs.Orders.{runOf}
-use Rattle.run.specs.declared.Ran.{Ran}
-use Rattle.run.specs.declared.Ran.the-variants as ran
-use Rattle.run.specs.Run.{Outcome, outcome, finished, refused}
-use Rattle.programs.specs.Printed.{refusalLine}
+use Rattle.run.specs.Run.{Ran, finished, refused}
+use Rattle.programs.specs.Printed.{refusalText}
 
 -- ---- the questions and the run
 
 -- [11.5] With no input cells the values play no part; else those of n input cells are asked, the store having so many cells.
-abbrev pub askValues : List (List ℕ) → List ℕ → ℕ → ℕ → Reading
-askValues ws v n store = cond (eqb n 0) (Rows 0) (filling ws v n store)
+abbrev pub askValues : List (List ℕ) → List ℕ → ℕ → ℕ → Answer
+askValues ws v n store = cond (eqb n 0) (Told 0) (filling ws v n store)
 
 -- The cells 0 to n − 1 hold their values, and the others what they held.
 abbrev pub withValues : List (List ℕ) → List ℕ → ℕ → List ℤ → List ℤ
-withValues ws v n s = map (valueOf (valueRows ws v)) (upFrom 0 n) ++ drop n s
+withValues ws v n s = map (valueOf (valueLines ws v)) (upFrom 0 n) ++ drop n s
 
 -- [11.6] The run is in order 0, on the store with its values, unless they were refused.
-abbrev pub afterValues : Reading → Loops → List ℤ → List ℤ → Outcome
-afterValues (Rows m) L held s = finished (runOf L 0 held)
+abbrev pub afterValues : Answer → Loops → List ℤ → List ℤ → Ran
+afterValues (Told m) L held s = finished (runOf L 0 held)
 afterValues (Refused q) L held s = refused q s
 
 -- `values.txt`, and then the run, of loops that pass
-unfoldable pub valuesRun : List (List ℕ) → List ℕ → Loops → List ℤ → Outcome
+unfoldable pub valuesRun : List (List ℕ) → List ℕ → Loops → List ℤ → Ran
 valuesRun ws v L s =
     afterValues (askValues ws v (allCells (L .inputs)) (length s)) L (withValues ws v (allCells (L .inputs)) s) s
 
 -- [10.16] The runner asks the loops their questions, 14 included, and then the values.
-abbrev pub afterCheck : Checked → List (List ℕ) → List ℕ → Loops → List ℤ → Outcome
-afterCheck (check.Passes w n) ws v L s = cond (leb n (length s)) (valuesRun ws v L s) (refused StoreSize s)
-afterCheck (check.Refused q) ws v L s = refused q s
+abbrev pub printChecked : Checked → List (List ℕ) → List ℕ → Loops → List ℤ → Ran
+printChecked (check.Passes w n) ws v L s = cond (leb n (length s)) (valuesRun ws v L s) (refused StoreSize s)
+printChecked (check.Refused q) ws v L s = refused q s
 
 -- t is the loops' text, v that of the values, s the store
-unfoldable pub runnerOutcome : List (List ℕ) → List ℕ → List ℕ → List ℤ → Outcome
-runnerOutcome ws t v s = afterCheck (checkText ws t) ws v (loopsOf (textRows ws t)) s
+unfoldable pub runnerOutcome : List (List ℕ) → List ℕ → List ℕ → List ℤ → Ran
+runnerOutcome ws t v s = printChecked (checkLoopsText ws t) ws v (loopsOf (textRows ws t)) s
 
 -- ---- the text
 
@@ -75,11 +71,11 @@ abbrev pub outputCells : Loops → List ℤ → List ℤ
 outputCells L s = take (L .output) (drop (allCells (L .inputs)) s)
 
 -- [11.8] Where there is a refusal its line is printed instead.
-abbrev pub ranText : Loops → Ran → List ℤ → List ℕ
-ranText L (ran.Finished w) s = finishedText (outputCells L s) w
-ranText L (ran.Refused q) s = refusalLine q
+abbrev pub ranText : Loops → Answer → List ℤ → List ℕ
+ranText L (Told w) s = finishedText (outputCells L s) w
+ranText L (Refused q) s = refusalText q
 
-abbrev pub outcomeText : Loops → Outcome → List ℕ
+abbrev pub outcomeText : Loops → Ran → List ℕ
 outcomeText L x = ranText L (x .answer) (x .store)
 
 unfoldable pub runnerText : List (List ℕ) → List ℕ → List ℕ → List ℤ → List ℕ
@@ -104,7 +100,7 @@ abbrev pub roomForAll : List ℕ → Bool
 roomForAll lent = leb 69648 (length lent)
 
 -- What is promised of the answer r, of the store and of the lent text, as lent and as left.
-pub record RunnerInto (ws : List (List ℕ)) (t v : List ℕ) (store : List ℤ) (lent : List ℕ) (r : Printing) (store′ : List ℤ) (lent′ : List ℕ) : Type 0 where
-  pub answer : r ≡ cond (roomForAll lent) (print.Bytes (length (runnerText ws t v store))) (print.Refused LentSize)
+pub record RunnerInto (ws : List (List ℕ)) (t v : List ℕ) (store : List ℤ) (lent : List ℕ) (r : Answer) (store′ : List ℤ) (lent′ : List ℕ) : Type 0 where
+  pub answer : r ≡ cond (roomForAll lent) (Told (length (runnerText ws t v store))) (Refused LentSize)
   pub store-left : store′ ≡ cond (roomForAll lent) (runnerOutcome ws t v store .store) store
   pub text-left : lent′ ≡ filled (roomForAll lent) (runnerText ws t v store) lent

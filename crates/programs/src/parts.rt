@@ -6,8 +6,8 @@ ghost use lib.IntN.{pos};
 ghost use lib.ListN.{length};
 ghost use lib.Seq.{sets};
 ghost use Rattle.numerals.specs.Numerals.{decimal};
-ghost use Rattle.programs.specs.Printed.{refusalLine, PutInto};
-use lines::Printing;
+ghost use Rattle.programs.specs.Printed.{refusalText, PutInto};
+use refusals::Answer;
 use refusals::Refusal;
 
 // Puts bytes from place `at` on.
@@ -36,7 +36,7 @@ pub fn put_natural(value: u64, closing: u8, text: &mut [u8], at: usize) -> usize
 
 // The bytes of a refusal's line.
 fn refusal_size(refusal: Refusal) -> usize
-    ensures { λ r. ⌜ (r ≡ length (refusalLine refusal)) × (r ≤ 45) ⌝ }
+    ensures { λ r. ⌜ (r ≡ length (refusalText refusal)) × (r ≤ 45) ⌝ }
 {
     let number = refusals::number(refusal) as u64;
     let line = refusals::line(refusal) as u64;
@@ -44,17 +44,17 @@ fn refusal_size(refusal: Refusal) -> usize
 }
 
 // Puts a refusal's line at the front of a text, if it has room for it.
-pub fn put_refusal(refusal: Refusal, text: &mut [u8]) -> Printing
-    ensures { λ r. ⌜ PutInto (refusalLine refusal) (now (text .entry)) r (now (text .exit)) × (length (refusalLine refusal) ≤ 45) ⌝ }
+pub fn put_refusal(refusal: Refusal, text: &mut [u8]) -> Answer
+    ensures { λ r. ⌜ PutInto (refusalText refusal) (now (text .entry)) r (now (text .exit)) × (length (refusalText refusal) ≤ 45) ⌝ }
 {
     let size = refusal_size(refusal);
     if text.len() < size {
-        return Printing::Refused(Refusal::LentSize);
+        return Answer::Refused(Refusal::LentSize);
     }
     let number = refusals::number(refusal) as u64;
     let line = refusals::line(refusal) as u64;
     put_bytes(b"no,", text, 0);
     let comma = put_natural(number, b',', text, 3);
     put_natural(line, b'\n', text, comma);
-    Printing::Bytes(size)
+    Answer::Told(size)
 }

@@ -9,17 +9,16 @@ ghost use Rattle.numerals.specs.Numerals.{decimal};
 ghost use Rattle.words.specs.Kinds.{rowsOf};
 ghost use Rattle.words.specs.Words.{words};
 ghost use Rattle.meaning.specs.Layout.{allCells};
-ghost use Rattle.syntax.specs.Ranges.{cellsOf};
+ghost use Rattle.syntax.specs.Ranges.{cellNumbers};
 ghost use Rattle.syntax.specs.Reading.{loopsOf};
 ghost use Rattle.loops.specs.Check.{checkTable};
 ghost use Rattle.interpreter.specs.Orders.{runOf};
 ghost use Rattle.run.specs.Run.{finished};
-ghost use Rattle.programs.specs.Runner.{finishedText, valuesRun, afterCheck};
-ghost use Rattle.programs.specs.Steps.{ValuesInto, Ready, LaidOut, OutcomeInto};
+ghost use Rattle.programs.specs.Runner.{finishedText, valuesRun, printChecked};
+ghost use Rattle.programs.specs.Parts.{ValuesInto, Ready, LaidOut, OutcomeInto};
 use crate::parts;
-use lines::Printing;
-use lines::Reading;
 use loops::Checked;
+use refusals::Answer;
 use refusals::Refusal;
 use syntax::ranges;
 
@@ -32,7 +31,7 @@ pub struct Layout {
 // The cells that rows name in all.
 fn cells_in(numbers: &[i32]) -> usize
     requires { ⌜ length (now numbers) ≤ 4096 ⌝ }
-    ensures { λ r. ⌜ r ≡ allCells (cellsOf (now (numbers .entry))) ⌝ }
+    ensures { λ r. ⌜ r ≡ allCells (cellNumbers (now (numbers .entry))) ⌝ }
 {
     let mut cells = 0;
     let mut i = 0;
@@ -56,11 +55,11 @@ fn layout_of(kinds: &[u8], numbers: &[i32], store: usize) -> Layout
 }
 
 // [11.5] The values of so many input cells; with none the values are not looked at.
-fn fill_inputs(values: &[u8], cells: usize, store: &mut [i32]) -> Reading
+fn fill_inputs(values: &[u8], cells: usize, store: &mut [i32]) -> Answer
     ensures { λ r. ⌜ ValuesInto words (now (values .entry)) cells (now (store .entry)) r (now (store .exit)) ⌝ }
 {
     if cells == 0 {
-        return Reading::Rows(0);
+        return Answer::Told(0);
     }
     values::fill(values, cells, store)
 }
@@ -103,7 +102,7 @@ fn print_run(
     output: usize,
     store: &mut [i32],
     lent: &mut [u8],
-) -> Printing
+) -> Answer
     requires { ⌜ Ready (now kinds) (now numbers) (length (now store)) × LaidOut (loopsOf (rowsOf (now kinds) (now numbers))) inputs output
         × (69648 ≤ length (now lent)) ⌝ }
     ensures { λ r. ⌜ OutcomeInto (loopsOf (rowsOf (now (kinds .entry)) (now (numbers .entry))))
@@ -113,7 +112,7 @@ fn print_run(
     let mut none = [0u8; 0];
     let writes = interpreter::run_loops(kinds, numbers, 0, store, &mut none);
     let bytes = put_output(&store[inputs..inputs + output], writes, lent);
-    Printing::Bytes(bytes)
+    Answer::Told(bytes)
 }
 
 // The values of loops that pass; then their run.
@@ -123,7 +122,7 @@ fn run_passing(
     values: &[u8],
     store: &mut [i32],
     lent: &mut [u8],
-) -> Printing
+) -> Answer
     requires { ⌜ Ready (now kinds) (now numbers) (length (now store)) × (69648 ≤ length (now lent)) ⌝ }
     ensures { λ r. ⌜ OutcomeInto (loopsOf (rowsOf (now (kinds .entry)) (now (numbers .entry))))
         (valuesRun words (now (values .entry)) (loopsOf (rowsOf (now (kinds .entry)) (now (numbers .entry)))) (now (store .entry)))
@@ -132,13 +131,10 @@ fn run_passing(
     let layout = layout_of(kinds, numbers, store.len());
     let inputs = layout.inputs;
     let filled = fill_inputs(values, inputs, store);
-    let Reading::Rows(_) = filled else {
-        let Reading::Refused(refusal) = filled else {
-            return Printing::Refused(Refusal::LentSize);
-        };
-        return parts::put_refusal(refusal, lent);
-    };
-    print_run(kinds, numbers, inputs, layout.output, store, lent)
+    match filled {
+        Answer::Refused(refusal) => parts::put_refusal(refusal, lent),
+        Answer::Told(_) => print_run(kinds, numbers, inputs, layout.output, store, lent),
+    }
 }
 
 // The check of a table that was read; then its values and its run.
@@ -148,22 +144,21 @@ pub fn run_table(
     values: &[u8],
     store: &mut [i32],
     lent: &mut [u8],
-) -> Printing
+) -> Answer
     requires { ⌜ (length (now kinds) ≡ length (now numbers)) × (length (now kinds) ≤ 4096) × (69648 ≤ length (now lent)) ⌝ }
     ensures { λ r. ⌜ OutcomeInto (loopsOf (rowsOf (now (kinds .entry)) (now (numbers .entry))))
-        (afterCheck (checkTable (rowsOf (now (kinds .entry)) (now (numbers .entry)))) words (now (values .entry))
+        (printChecked (checkTable (rowsOf (now (kinds .entry)) (now (numbers .entry)))) words (now (values .entry))
         (loopsOf (rowsOf (now (kinds .entry)) (now (numbers .entry)))) (now (store .entry)))
         (now (lent .entry)) r (now (store .exit)) (now (lent .exit)) ⌝ }
 {
     let checked = loops::check_table(kinds, numbers);
-    let Checked::Passes { writes: _, need } = checked else {
-        let Checked::Refused(refusal) = checked else {
-            return Printing::Refused(Refusal::LentSize);
-        };
-        return parts::put_refusal(refusal, lent);
-    };
-    if store.len() < need {
-        return parts::put_refusal(Refusal::StoreSize, lent);
+    match checked {
+        Checked::Refused(refusal) => parts::put_refusal(refusal, lent),
+        Checked::Passes { writes: _, need } => {
+            if store.len() < need {
+                return parts::put_refusal(Refusal::StoreSize, lent);
+            }
+            run_passing(kinds, numbers, values, store, lent)
+        }
     }
-    run_passing(kinds, numbers, values, store, lent)
 }

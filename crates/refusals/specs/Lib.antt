@@ -2,4 +2,5 @@
 -- Numbers in brackets, here and in every file, are those of the rules in docs/REQUIREMENTS.md.
 
 -- The definitions
+pub mod Answers
 pub mod Refusals

@@ -20,37 +20,37 @@ use Rattle.refusals.specs.declared.Refusal.the-variants.{
 }
 
 -- [10.17] A refusal is told by the number of its question,
-abbrev pub numberOf : Refusal → ℕ
-numberOf TextForm = 1
-numberOf (LineForm l) = 2
-numberOf LineCount = 3
-numberOf (RowDue l) = 4
-numberOf (NumberRange l) = 5
-numberOf (NameCount l) = 6
-numberOf (TypeMisfit l) = 7
-numberOf (TypeSize l) = 8
-numberOf (OffsetBound l) = 9
-numberOf LoopsLength = 10
-numberOf WriteCount = 11
-numberOf LentSize = 12
-numberOf UnknownOrder = 13
-numberOf StoreSize = 14
-numberOf ValueLines = 15
+abbrev pub refusalNumber : Refusal → ℕ
+refusalNumber TextForm = 1
+refusalNumber (LineForm l) = 2
+refusalNumber LineCount = 3
+refusalNumber (RowDue l) = 4
+refusalNumber (NumberRange l) = 5
+refusalNumber (NameCount l) = 6
+refusalNumber (TypeMisfit l) = 7
+refusalNumber (TypeSize l) = 8
+refusalNumber (OffsetBound l) = 9
+refusalNumber LoopsLength = 10
+refusalNumber WriteCount = 11
+refusalNumber LentSize = 12
+refusalNumber UnknownOrder = 13
+refusalNumber StoreSize = 14
+refusalNumber ValueLines = 15
 
 -- [10.17] and by a line: from 1, or 0 where the question is put to a whole.
-abbrev pub lineOf : Refusal → ℕ
-lineOf TextForm = 0
-lineOf (LineForm l) = l
-lineOf LineCount = 0
-lineOf (RowDue l) = l
-lineOf (NumberRange l) = l
-lineOf (NameCount l) = l
-lineOf (TypeMisfit l) = l
-lineOf (TypeSize l) = l
-lineOf (OffsetBound l) = l
-lineOf LoopsLength = 0
-lineOf WriteCount = 0
-lineOf LentSize = 0
-lineOf UnknownOrder = 0
-lineOf StoreSize = 0
-lineOf ValueLines = 0
+abbrev pub refusalLine : Refusal → ℕ
+refusalLine TextForm = 0
+refusalLine (LineForm l) = l
+refusalLine LineCount = 0
+refusalLine (RowDue l) = l
+refusalLine (NumberRange l) = l
+refusalLine (NameCount l) = l
+refusalLine (TypeMisfit l) = l
+refusalLine (TypeSize l) = l
+refusalLine (OffsetBound l) = l
+refusalLine LoopsLength = 0
+refusalLine WriteCount = 0
+refusalLine LentSize = 0
+refusalLine UnknownOrder = 0
+refusalLine StoreSize = 0
+refusalLine ValueLines = 0

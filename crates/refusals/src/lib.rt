@@ -1,6 +1,6 @@
-// The refusals: one case for each question, [10.1] to [10.15], that can be answered "no".
+// The refusals: one case for each question, [10.1] to [10.15], that can be answered "no"; and the answer of everything that may refuse.
 ghost use mathlib.Core.Path.{_≡_};
-ghost use Rattle.refusals.specs.Refusals.{numberOf, lineOf};
+ghost use Rattle.refusals.specs.Refusals.{refusalNumber, refusalLine};
 
 // Which question was answered "no"; where its rule gives a line, that line, counted from 1 [1.5].
 pub enum Refusal {
@@ -21,9 +21,15 @@ pub enum Refusal {
     ValueLines,
 }
 
+// [10.17] A number, or the first question that was answered "no".
+pub enum Answer {
+    Told(usize),
+    Refused(Refusal),
+}
+
 // [10.17] The refusal's number.
 pub fn number(refusal: Refusal) -> u8
-    ensures { λ r. ⌜ r ≡ numberOf refusal ⌝ }
+    ensures { λ r. ⌜ r ≡ refusalNumber refusal ⌝ }
 {
     match refusal {
         Refusal::TextForm => 1,
@@ -46,7 +52,7 @@ pub fn number(refusal: Refusal) -> u8
 
 // [10.17] The refusal's line: 0 where the question is put to a whole.
 pub fn line(refusal: Refusal) -> usize
-    ensures { λ r. ⌜ r ≡ lineOf refusal ⌝ }
+    ensures { λ r. ⌜ r ≡ refusalLine refusal ⌝ }
 {
     match refusal {
         Refusal::TextForm => 0,

@@ -10,15 +10,14 @@ use lib.IntN.{ℤ}
 use lib.ListN.{length, take}
 use Rattle.refusals.specs.declared.Refusal.{Refusal}
 use Rattle.refusals.specs.declared.Refusal.the-variants.{UnknownOrder, StoreSize}
+use Rattle.refusals.specs.declared.Answer.{Answer}
+use Rattle.refusals.specs.declared.Answer.the-variants.{Told, Refused}
 use Rattle.words.specs.Kinds.{Row, rowsOf}
 use Rattle.words.specs.Laws.{rows-length}
 use Rattle.texts.specs.Texts.{linesOf}
-use Rattle.lines.specs.Reading.{rowsIn, headOf, loopsLimits, ReadInto}
-use Rattle.lines.specs.TableLaws.{read-few, rows-held}
+use Rattle.lines.specs.Reading.{rowsIn, headOf, loopsLimits, reading}
 use Rattle.lines.specs.Laws.{rows-read}
 use Rattle.lines.specs.declared.Heads.the-variants.{Words}
-use Rattle.lines.specs.declared.Reading.{Reading}
-use Rattle.lines.specs.declared.Reading.the-variants as read
 use Rattle.meaning.specs.Loops.{Loops}
 use Rattle.meaning.specs.Rows.{loopsRows}
 use Rattle.meaning.specs.Counts.{commandWrites}
@@ -28,19 +27,17 @@ use Rattle.syntax.specs.Theorems.{loops-read}
 use Rattle.syntax.proofs.Tables.{rows-take}
 use Rattle.loops.specs.declared.Checked.{Checked}
 use Rattle.loops.specs.declared.Checked.the-variants as check
-use Rattle.loops.specs.Check.{afterReading, checkRows, checkTable, checkText}
+use Rattle.loops.specs.Check.{afterAnswer, checkLoopsRows, checkTable, checkLoopsText}
 use Rattle.loops.specs.Theorems.{passes-exactly}
 use Rattle.loops.specs.TableTheorems.{few-rows, table-passes-exactly}
 use Rattle.interpreter.specs.Orders.{runOf}
 use Rattle.interpreter.specs.Interpreter.{stateOf}
-use Rattle.run.specs.declared.Ran.{Ran}
-use Rattle.run.specs.declared.Ran.the-variants.{Finished, Refused}
-use Rattle.run.specs.Run.{Outcome, outcome, finished, refused, askedRun, afterCheck, runTable, runText}
+use Rattle.run.specs.Run.{Ran, outcome, finished, refused, askedRun, runChecked, runTable, runText}
 
 -- ---- questions 13 and 14, and the run
 
 module _ (L : Loops) (need order : ℕ) (s : List ℤ) where
-  abbrev enough : Bool → Outcome
+  abbrev enough : Bool → Ran
   enough b = cond b (finished (runOf L order s)) (refused StoreSize s)
 
   pub order-unknown : 2 < order → outcome (Refused UnknownOrder) s ≡ askedRun L need order s
@@ -55,11 +52,11 @@ module _ (L : Loops) (need order : ℕ) (s : List ℤ) where
   store-short h g = ap enough (sym (lt-leb need (length s) g)) ∙ order-known h
 
   pub run-finished : order ≤ 2 → need ≤ length s → (r : ℕ) (s′ : List ℤ) → stateOf s′ r ≡ runOf L order s
-      → outcome (Finished r) s′ ≡ askedRun L need order s
+      → outcome (Told r) s′ ≡ askedRun L need order s
   run-finished h g r s′ e = ap finished e ∙ ap enough (sym (le-leb need (length s) g)) ∙ order-known h
 
 -- the loops whose rows pass are those that the rows are read as
-pub passing-loops : (ks : List ℕ) (ns : List ℤ) (order w n r : ℕ) (s s′ : List ℤ) → checkRows (rowsOf ks ns) ≡ check.Passes w n
+pub passing-loops : (ks : List ℕ) (ns : List ℤ) (order w n r : ℕ) (s s′ : List ℤ) → checkLoopsRows (rowsOf ks ns) ≡ check.Passes w n
     → ((L : Loops) → rowsOf ks ns ≡ loopsRows L → LoopsPass L → commandWrites (L .command) ≤ 16777216 → stateOf s′ r ≡ runOf L order s)
     → stateOf s′ r ≡ runOf (loopsOf (rowsOf ks ns)) order s
 passing-loops ks ns order w n r s s′ e g =
@@ -75,46 +72,40 @@ module _ (ks : List ℕ) (ns : List ℤ) (order : ℕ) (s : List ℤ) (c : Check
 
   pub table-refused : (q : Refusal) → c ≡ check.Refused q → outcome (Refused q) s ≡ runTable R order s
   unfolding runTable
-  table-refused q f = ap (λ (x : Checked). afterCheck x (loopsOf R) order s) (sym f ∙ e)
+  table-refused q f = ap (λ (x : Checked). runChecked x (loopsOf R) order s) (sym f ∙ e)
 
   module _ (w n m : ℕ) (f : c ≡ check.Passes w n) (j : m ≡ min (length ks) (length ns)) where
     pub table-few : m ≤ 4096
     table-few = let a = table-passes-exactly R w n .0 (sym e ∙ f) in omega (arith, a .0, j, rows-length ks ns)
 
-    pub table-run : (r : Ran) (s′ : List ℤ)
-        → ((w : ℕ) → checkRows (rowsOf (take m ks) (take m ns)) ≡ check.Passes w n
+    pub table-run : (r : Answer) (s′ : List ℤ)
+        → ((w : ℕ) → checkLoopsRows (rowsOf (take m ks) (take m ns)) ≡ check.Passes w n
         → outcome r s′ ≡ askedRun (loopsOf (rowsOf (take m ks) (take m ns))) n order s)
         → outcome r s′ ≡ runTable R order s
     unfolding runTable
     table-run r s′ g =
         let t : rowsOf (take m ks) (take m ns) ≡ R = rows-take m ks ns j in
         let a = table-passes-exactly R w n .0 (sym e ∙ f) in
-        g w (ap checkRows t ∙ sym (few-rows R (a .0)) ∙ sym e ∙ f)
+        g w (ap checkLoopsRows t ∙ sym (few-rows R (a .0)) ∙ sym e ∙ f)
         ∙ ap (λ (x : List Row). askedRun (loopsOf x) n order s) t
-        ∙ ap (λ (x : Checked). afterCheck x (loopsOf R) order s) (sym f ∙ e)
+        ∙ ap (λ (x : Checked). runChecked x (loopsOf R) order s) (sym f ∙ e)
 
 -- ---- a text
 
-module _ (ws : List (List ℕ)) (t : List ℕ) (order : ℕ) (s : List ℤ) (ks ks′ : List ℕ) (ns ns′ : List ℤ) (d : Reading)
-    (i : ReadInto (headOf ws Words) loopsLimits t ks ns d ks′ ns′) where
+module _ (ws : List (List ℕ)) (t : List ℕ) (order : ℕ) (s : List ℤ) {d : Answer} (i : d ≡ reading (headOf ws Words) loopsLimits t) where
   abbrev rows : List Row
   rows = rowsIn (headOf ws Words) (linesOf t)
 
-  pub text-refused : (q : Refusal) → d ≡ read.Refused q → outcome (Refused q) s ≡ runText ws t order s
-  unfolding runText checkText
-  text-refused q f = ap (λ (x : Reading). afterCheck (afterReading x (checkRows rows)) (loopsOf rows) order s) (sym f ∙ i .answer)
+  pub text-refused : {q : Refusal} → d ≡ Refused q → outcome d s ≡ runText ws t order s
+  unfolding runText checkLoopsText
+  text-refused f =
+      ap (λ (x : Answer). outcome x s) f
+      ∙ ap (λ (x : Answer). runChecked (afterAnswer x (checkLoopsRows rows)) (loopsOf rows) order s) (sym f ∙ i)
 
-  module _ (n : ℕ) (f : d ≡ read.Rows n) where
-    pub rows-few : n ≤ 4096
-    rows-few = read-few (headOf ws Words) loopsLimits t n (sym (i .answer) ∙ f)
-
-    rows-counted : length rows ≡ n
-    rows-counted = rows-read (headOf ws Words) loopsLimits t n (sym (i .answer) ∙ f)
-
-    pub text-run : length ks ≡ 4096 → length ns ≡ 4096 → (r : Ran) (s′ : List ℤ)
-        → outcome r s′ ≡ runTable (rowsOf (take n ks′) (take n ns′)) order s → outcome r s′ ≡ runText ws t order s
-    unfolding runTable runText checkText
-    text-run h g r s′ e =
-        let few : length rows ≤ 4096 = omega (arith, rows-few, rows-counted) in
-        e ∙ ap (λ (z : List Row). runTable z order s) (rows-held (headOf ws Words) loopsLimits t d n ks ks′ ns ns′ f (omega (arith, h)) (omega (arith, g)) i)
-        ∙ ap (λ (z : Checked). afterCheck z (loopsOf rows) order s) (few-rows rows few ∙ ap (λ (z : Reading). afterReading z (checkRows rows)) (sym f ∙ i .answer))
+  pub text-run : {n : ℕ} {S : List Row} → d ≡ Told n → n ≤ 4096 → S ≡ rows → (r : Answer) (s′ : List ℤ)
+      → outcome r s′ ≡ runTable S order s → outcome r s′ ≡ runText ws t order s
+  unfolding runTable runText checkLoopsText
+  text-run {n} f h held r s′ e =
+      let few : length rows ≤ 4096 = omega (arith, h, rows-read (headOf ws Words) loopsLimits t n (sym i ∙ f)) in
+      e ∙ ap (λ (z : List Row). runTable z order s) held
+      ∙ ap (λ (z : Checked). runChecked z (loopsOf rows) order s) (few-rows rows few ∙ ap (λ (z : Answer). afterAnswer z (checkLoopsRows rows)) (sym f ∙ i))

@@ -4,9 +4,9 @@ use mathlib.Core.Path.{_≡_}
 use mathlib.Core.List.{List}
 use Prim.Native.Nat.{ℕ}
 use lib.IntN.{ℤ}
+use Rattle.refusals.specs.declared.Answer.{Answer}
 use Rattle.words.specs.Kinds.{rowsOf}
 use Rattle.store.specs.Store.{storeOf, frameOf}
-use Rattle.run.specs.declared.Ran.{Ran}
 use Rattle.run.specs.Run.{outcome, runTable, runText}
 
 -- [9.11] Both entries: as many cells and bytes as before, and the same left over
@@ -14,10 +14,10 @@ abbrev pub KeepsFrame : List ℤ → List ℕ → List ℤ → List ℕ → Type
 KeepsFrame cells bytes cells′ bytes′ = frameOf cells′ bytes′ ≡ frameOf cells bytes
 
 -- [10.16], [10.17] `run_rows`: the kinds, the numbers, the order, the store as lent, the answer, the store as left
-abbrev pub RunsRows : List ℕ → List ℤ → ℕ → List ℤ → List ℕ → Ran → List ℤ → List ℕ → Type 0
+abbrev pub RunsRows : List ℕ → List ℤ → ℕ → List ℤ → List ℕ → Answer → List ℤ → List ℕ → Type 0
 RunsRows kinds numbers order cells bytes r cells′ bytes′ =
     outcome r (storeOf cells′ bytes′) ≡ runTable (rowsOf kinds numbers) order (storeOf cells bytes)
 
 -- [10.16], [10.17] `run_text`: the text, the order, the store as lent, the answer, the store as left
-abbrev pub RunsText : List (List ℕ) → List ℕ → ℕ → List ℤ → List ℕ → Ran → List ℤ → List ℕ → Type 0
+abbrev pub RunsText : List (List ℕ) → List ℕ → ℕ → List ℤ → List ℕ → Answer → List ℤ → List ℕ → Type 0
 RunsText ws t order cells bytes r cells′ bytes′ = outcome r (storeOf cells′ bytes′) ≡ runText ws t order (storeOf cells bytes)

@@ -2,26 +2,20 @@
 // either of which may be empty.
 ghost use Rattle.words.specs.Words.{words};
 ghost use mathlib.Core.Path.{_≡_};
-ghost use Prim.Native.Nat.{ℕ, min, _≤_};
+ghost use Prim.Native.Nat.{ℕ, _≤_};
 ghost use lib.ListN.{length};
 ghost use Rattle.words.specs.Kinds.{rowsOf};
 ghost use Rattle.syntax.specs.Reading.{loopsOf};
 ghost use Rattle.loops.specs.declared.Checked.the-variants.{Passes};
-ghost use Rattle.loops.specs.Check.{checkRows};
+ghost use Rattle.loops.specs.Check.{checkLoopsRows};
 ghost use Rattle.store.specs.Store.{storeOf};
 ghost use Rattle.run.specs.Contracts.{KeepsFrame, RunsRows, RunsText};
 ghost use Rattle.run.specs.Run.{outcome, askedRun};
-use lines::Reading;
 use loops::Checked;
+use refusals::Answer;
 use refusals::Refusal;
 
-// The writes of a run; or the first "no".
-pub enum Ran {
-    Finished { writes: u32 },
-    Refused(Refusal),
-}
-
-// [10.13] and [10.14] of loops that pass and need so many cells; then their run.
+// [10.13] and [10.14] of loops that pass and need so many cells; then their run: the writes made, or the first "no".
 fn run_passing(
     kinds: &[u8],
     numbers: &[i32],
@@ -29,31 +23,21 @@ fn run_passing(
     order: u32,
     cells: &mut [i32],
     bytes: &mut [u8],
-) -> Ran
+) -> Answer
     requires { ⌜ (length (now kinds) ≡ length (now numbers)) × (length (now kinds) ≤ 4096) ⌝ }
     ensures frame { λ r. ⌜ KeepsFrame (now (cells .entry)) (now (bytes .entry)) (now (cells .exit)) (now (bytes .exit)) ⌝ }
-    ensures result { λ r. ⌜ ((w : ℕ) → checkRows (rowsOf (now (kinds .entry)) (now (numbers .entry))) ≡ Passes w need
+    ensures result { λ r. ⌜ ((w : ℕ) → checkLoopsRows (rowsOf (now (kinds .entry)) (now (numbers .entry))) ≡ Passes w need
         → outcome r (storeOf (now (cells .exit)) (now (bytes .exit)))
         ≡ askedRun (loopsOf (rowsOf (now (kinds .entry)) (now (numbers .entry)))) need order (storeOf (now (cells .entry)) (now (bytes .entry)))) ⌝ }
 {
     if 2 < order {
-        return Ran::Refused(Refusal::UnknownOrder);
+        return Answer::Refused(Refusal::UnknownOrder);
     }
     if store::count(cells, bytes) < need {
-        return Ran::Refused(Refusal::StoreSize);
+        return Answer::Refused(Refusal::StoreSize);
     }
     let writes = interpreter::run_loops(kinds, numbers, order, cells, bytes);
-    Ran::Finished { writes }
-}
-
-// [1.8] The number of rows of a lent table: as many as the shorter slice has.
-fn rows_lent(kinds: &[u8], numbers: &[i32]) -> usize
-    ensures { λ r. ⌜ r ≡ min (length (now (kinds .entry))) (length (now (numbers .entry))) ⌝ }
-{
-    if kinds.len() < numbers.len() {
-        return kinds.len();
-    }
-    numbers.len()
+    Answer::Told(writes as usize)
 }
 
 // [10.16] Runs the loops of a lent table.
@@ -63,41 +47,31 @@ pub fn run_rows(
     order: u32,
     cells: &mut [i32],
     bytes: &mut [u8],
-) -> Ran
+) -> Answer
     ensures frame { λ r. ⌜ KeepsFrame (now (cells .entry)) (now (bytes .entry)) (now (cells .exit)) (now (bytes .exit)) ⌝ }
     ensures result { λ r. ⌜ RunsRows (now (kinds .entry)) (now (numbers .entry)) order (now (cells .entry)) (now (bytes .entry)) r
         (now (cells .exit)) (now (bytes .exit)) ⌝ }
 {
     let checked = loops::check_table(kinds, numbers);
-    let Checked::Passes { writes: _, need } = checked else {
-        let Checked::Refused(refusal) = checked else {
-            return Ran::Refused(Refusal::LineCount);
-        };
-        return Ran::Refused(refusal);
-    };
-    let rows = rows_lent(kinds, numbers);
-    if 4096 < rows {
-        return Ran::Refused(Refusal::LineCount);
+    match checked {
+        Checked::Refused(refusal) => Answer::Refused(refusal),
+        Checked::Passes { writes: _, need } => {
+            let rows = words::row_count(kinds, numbers);
+            run_passing(&kinds[..rows], &numbers[..rows], need, order, cells, bytes)
+        }
     }
-    run_passing(&kinds[..rows], &numbers[..rows], need, order, cells, bytes)
 }
 
 // [10.16] Runs the loops of a text.
-pub fn run_text(text: &[u8], order: u32, cells: &mut [i32], bytes: &mut [u8]) -> Ran
+pub fn run_text(text: &[u8], order: u32, cells: &mut [i32], bytes: &mut [u8]) -> Answer
     ensures frame { λ r. ⌜ KeepsFrame (now (cells .entry)) (now (bytes .entry)) (now (cells .exit)) (now (bytes .exit)) ⌝ }
     ensures result { λ r. ⌜ RunsText words (now (text .entry)) order (now (cells .entry)) (now (bytes .entry)) r (now (cells .exit)) (now (bytes .exit)) ⌝ }
 {
     let mut kinds = [0u8; 4096];
     let mut numbers = [0i32; 4096];
     let read = lines::read_loops(text, &mut kinds, &mut numbers);
-    let Reading::Rows(count) = read else {
-        let Reading::Refused(unread) = read else {
-            return Ran::Refused(Refusal::TextForm);
-        };
-        return Ran::Refused(unread);
+    let Answer::Told(rows) = read else {
+        return read;
     };
-    if 4096 < count {
-        return Ran::Refused(Refusal::LineCount);
-    }
-    run_rows(&kinds[..count], &numbers[..count], order, cells, bytes)
+    run_rows(&kinds[..rows], &numbers[..rows], order, cells, bytes)
 }

@@ -2,7 +2,7 @@
 // 0 ([11.6], [13.16]); the output cells and the writes ([11.7]), or `no,number,line` ([11.8]), on standard output.
 ghost use Rattle.io.specs.Counts.{Counts};
 use libc::STDOUT_FILENO;
-use lines::Printing;
+use refusals::Answer;
 
 fn main() {
     // One byte more than each may have ([13.3]), so that a longer text is seen to be too long.
@@ -19,7 +19,7 @@ fn main() {
         &mut store,
         &mut text,
     );
-    let Printing::Bytes(bytes) = printed else {
+    let Answer::Told(bytes) = printed else {
         return;
     };
     io::write_all(STDOUT_FILENO, &text[..bytes]);

@@ -9,7 +9,7 @@ use lib.ListN.{length, getD, take, drop, length-drop, length-set, set as put}
 use lib.Seq.{drop-at, drop-cons, drop-set-lt, getD-set-same, drop-drop}
 use Rattle.words.specs.Kinds.{Row, rowsOf}
 use Rattle.syntax.specs.Standing.{Begins}
-use Rattle.syntax.proofs.Steps.{rows-part, part-all as part-whole}
+use Rattle.syntax.proofs.WalkSteps.{rows-part, part-all as part-whole}
 
 -- what a callee is lent: the part that starts at a
 abbrev pub part : {A : Type 0} → ℕ → List A → List A

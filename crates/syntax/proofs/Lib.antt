@@ -1,8 +1,9 @@
 pub mod Words
 pub mod Numbers
-pub mod Steps
+pub mod WalkSteps
 pub mod Front
 pub mod LoopsTable
 pub mod Tables
 pub mod TermRows
+pub mod Shapes
 pub mod Standing

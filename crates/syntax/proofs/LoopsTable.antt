@@ -10,7 +10,7 @@ use Rattle.words.specs.Kinds.{Row, rowsOf, word-loops, word-cells}
 use Rattle.words.specs.Laws.{rows-length}
 use Rattle.meaning.specs.Loops.{Loops}
 use Rattle.meaning.specs.Rows.{commandRows, allCellsRows, loopsRows}
-use Rattle.syntax.specs.Ranges.{asNatural, cellsOf}
+use Rattle.syntax.specs.Ranges.{asNatural, cellNumbers}
 use Rattle.syntax.specs.Standing.{Begins}
 use Rattle.syntax.proofs.Front as table
 use Rattle.syntax.proofs.Front.{part}
@@ -34,7 +34,7 @@ unfolding allCellsRows
 cells-length [] = refl
 cells-length (n ∷ l) = ap suc (cells-length l)
 
-cells-back : (l : List ℕ) → cellsOf (map pos l) ≡ l
+cells-back : (l : List ℕ) → cellNumbers (map pos l) ≡ l
 cells-back [] = refl
 cells-back (n ∷ l) = ap (λ (x : List ℕ). n ∷ x) (cells-back l)
 
@@ -77,11 +77,11 @@ module _ (ks : List ℕ) (ns : List ℤ) (same : length ks ≡ length ns) (L : L
       let l : i ≡ length a + 0 = omega (arith, j, length-map (L .inputs) pos) in
       q ∙ ap asNatural (ap₂ (λ (x : List ℤ) (y : ℕ). getD x y (pos 0)) numbers l ∙ getD-append-add a b 0 (pos 0))
 
-  pub inputs-there : (n : ℕ) → n ≡ K → cellsOf (take n (drop 1 ns)) ≡ L .inputs
+  pub inputs-there : (n : ℕ) → n ≡ K → cellNumbers (take n (drop 1 ns)) ≡ L .inputs
   inputs-there n j =
       let b : List ℤ = pos (L .output) ∷ map (λ (r : Row). r .1) (commandRows (L .command)) in
       let l : length (map pos (L .inputs)) ≡ n = omega (arith, j, length-map (L .inputs) pos) in
-      ap (λ (x : List ℤ). cellsOf (take n (drop 1 x))) numbers ∙ ap cellsOf (take-at (map pos (L .inputs)) b n l) ∙ cells-back (L .inputs)
+      ap (λ (x : List ℤ). cellNumbers (take n (drop 1 x))) numbers ∙ ap cellNumbers (take-at (map pos (L .inputs)) b n l) ∙ cells-back (L .inputs)
 
   pub command-there : (n : ℕ) → n ≡ 2 + K → Begins (part n ks) (part n ns) (commandRows (L .command))
   unfolding loopsRows

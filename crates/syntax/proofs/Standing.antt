@@ -1,167 +1,151 @@
 -- A term whose rows stand in front: its first row, and where its operands stand. Assumes nothing.
 use mathlib.Core.Path.{_≡_, refl, ap, sym, _∙_}
+use mathlib.Core.Bool.{true, false}
 use mathlib.Core.List.{List, _∷_, _++_, append-assoc}
-use Prim.Native.Nat.{ℕ, suc, _+_, _-_, _≤_, _<_}
+use Prim.Native.Nat.{ℕ, suc, _+_, _≤_}
 use native.Mathlib.Nat.{add-zero}
 use native.Mathlib.Omega.{arith}
+use borrow.Author.Tests.{eqb-true, eqb-false, ne-eqb}
+use lib.Dec.{eqb}
 use lib.IntN.{ℤ, pos}
 use lib.ListN.{length, getD, drop, length-append}
 use lib.Seq.{drop-at, drop-drop}
 use Rattle.arithmetic.specs.Arithmetic.{Operation}
-use Rattle.words.specs.Kinds.{Row, word-lit, word-neg, word-redseq, word-pair}
+use Rattle.words.specs.Kinds.{Row, word-lit, word-redseq}
+use Rattle.words.specs.Words.{table, operandsOf}
+use Rattle.words.specs.Groups.{counted, isLeaf, hasOneOperand}
+use Rattle.words.specs.declared.Sort.the-variants as sort
+use Rattle.words.specs.declared.Operands.the-variants.{Count}
 use Rattle.words.specs.Laws.{rows-length}
 use Rattle.meaning.specs.Terms.{LoopKind, Term}
 use Rattle.meaning.specs.Rows.{operationWord, mapWord, termRows}
 use Rattle.syntax.specs.Ranges.{asNatural}
 use Rattle.syntax.specs.InRange.{TermInRange}
-use Rattle.syntax.specs.Standing.{TermStands, termKind, termNumber, operandCount, firstOperand, secondOperand, thirdOperand, secondOpens}
-use Rattle.syntax.proofs.Steps.{rows-part}
+use Rattle.syntax.specs.Standing.{TermStands, Shape, none, one, two, three, viewOf, countIn, firstIn, secondIn, opensIn}
+use Rattle.syntax.specs.Standing.{termKind, termNumber, operandCount, firstOperand, secondOperand, thirdOperand, secondOpens}
+use Rattle.syntax.proofs.WalkSteps.{rows-part}
 use Rattle.syntax.proofs.Front.{part, part-length, head-row}
-use Rattle.syntax.proofs.TermRows.{headNumber, rowsBehind, term-head, number-head, behindFirst, first-rows, behindSecond, second-rows, third-rows, none-behind, one-behind, two-behind}
+use Rattle.syntax.proofs.Shapes.{Reduction, as-reduction}
+use Rattle.syntax.proofs.TermRows.{rowsIn, term-head, behindFirst, first-rows, behindSecond, second-rows, third-rows, none-behind, one-behind, two-behind}
 
--- ---- how many operands a word has
+-- ---- how many operands a term has: as many as the table lists for its first row's word
 
-operation-kind : (o : Operation) → (word-neg < operationWord o) × (operationWord o < word-redseq)
-operation-kind Operation.addition = (omega arith, omega arith)
-operation-kind Operation.subtraction = (omega arith, omega arith)
-operation-kind Operation.multiplication = (omega arith, omega arith)
-operation-kind Operation.division = (omega arith, omega arith)
-operation-kind Operation.minimum = (omega arith, omega arith)
-operation-kind Operation.maximum = (omega arith, omega arith)
+operation-listed : (o : Operation) → operandsOf (operationWord o) sort.Term ≡ Count 2
+unfolding operandsOf table
+operation-listed Operation.addition = refl
+operation-listed Operation.subtraction = refl
+operation-listed Operation.multiplication = refl
+operation-listed Operation.division = refl
+operation-listed Operation.minimum = refl
+operation-listed Operation.maximum = refl
 
-map-kind : (kind : LoopKind) → (word-neg < mapWord kind) × (mapWord kind < word-redseq)
-map-kind LoopKind.parallel = (omega arith, omega arith)
-map-kind LoopKind.sequential = (omega arith, omega arith)
+map-listed : (kind : LoopKind) → operandsOf (mapWord kind) sort.Term ≡ Count 2
+unfolding operandsOf table
+map-listed LoopKind.parallel = refl
+map-listed LoopKind.sequential = refl
 
--- `in`, `var` and `lit` have none
-pub leaf-kind : (e : Term) → termKind e ≤ word-lit → operandCount e ≡ 0
-leaf-kind (Term.input k) h = omega arith
-leaf-kind (Term.variable d) h = omega arith
-leaf-kind (Term.literal v) h = omega arith
-leaf-kind (Term.negate e) h = absurd (omega arith)
-leaf-kind (Term.operation o e f) h = absurd (omega (arith, operation-kind o))
-leaf-kind (Term.map kind a b) h = absurd (omega (arith, map-kind kind))
-leaf-kind (Term.reduce z a b) h = absurd (omega arith)
-leaf-kind (Term.zip a b) h = absurd (omega arith)
-leaf-kind (Term.pair a b) h = absurd (omega arith)
-leaf-kind (Term.split n e) h = absurd (omega arith)
-leaf-kind (Term.join e) h = absurd (omega arith)
-leaf-kind (Term.first e) h = absurd (omega arith)
-leaf-kind (Term.second e) h = absurd (omega arith)
-leaf-kind (Term.index k e) h = absurd (omega arith)
+pub operands-listed : (e : Term) → operandsOf (termKind e) sort.Term ≡ Count (operandCount e)
+unfolding operandsOf table
+operands-listed (Term.input k) = refl
+operands-listed (Term.variable d) = refl
+operands-listed (Term.literal v) = refl
+operands-listed (Term.negate e) = refl
+operands-listed (Term.operation o e f) = operation-listed o
+operands-listed (Term.map kind a b) = map-listed kind
+operands-listed (Term.reduce z a b) = refl
+operands-listed (Term.zip a b) = refl
+operands-listed (Term.pair a b) = refl
+operands-listed (Term.split n e) = refl
+operands-listed (Term.join e) = refl
+operands-listed (Term.first e) = refl
+operands-listed (Term.second e) = refl
+operands-listed (Term.index k e) = refl
 
--- the others have one
-pub some-operand : (e : Term) → word-lit < termKind e → 1 ≤ operandCount e
-some-operand (Term.input k) h = absurd (omega arith)
-some-operand (Term.variable d) h = absurd (omega arith)
-some-operand (Term.literal v) h = absurd (omega arith)
-some-operand (Term.negate e) h = omega arith
-some-operand (Term.operation o e f) h = omega (arith, operation-kind o)
-some-operand (Term.map kind a b) h = omega (arith, map-kind kind)
-some-operand (Term.reduce z a b) h = omega arith
-some-operand (Term.zip a b) h = omega arith
-some-operand (Term.pair a b) h = omega arith
-some-operand (Term.split n e) h = omega arith
-some-operand (Term.join e) h = omega arith
-some-operand (Term.first e) h = omega arith
-some-operand (Term.second e) h = omega arith
-some-operand (Term.index k e) h = omega arith
+-- what the tests of its word tell
+module _ (e : Term) where
+  its-count : (n : ℕ) → counted n (operandsOf (termKind e) sort.Term) ≡ eqb (operandCount e) n
+  its-count n = ap (counted n) (operands-listed e)
 
--- two, but for `neg` and the words behind `pair`
-pub two-operands : (e : Term) → word-lit < termKind e → (termKind e ≡ word-neg → ⊥) → termKind e ≤ word-pair → 2 ≤ operandCount e
-two-operands (Term.input k) h x g = absurd (omega arith)
-two-operands (Term.variable d) h x g = absurd (omega arith)
-two-operands (Term.literal v) h x g = absurd (omega arith)
-two-operands (Term.negate e) h x g = absurd (x refl)
-two-operands (Term.operation o e f) h x g = omega arith
-two-operands (Term.map kind a b) h x g = omega arith
-two-operands (Term.reduce z a b) h x g = omega arith
-two-operands (Term.zip a b) h x g = omega arith
-two-operands (Term.pair a b) h x g = omega arith
-two-operands (Term.split n e) h x g = absurd (omega arith)
-two-operands (Term.join e) h x g = absurd (omega arith)
-two-operands (Term.first e) h x g = absurd (omega arith)
-two-operands (Term.second e) h x g = absurd (omega arith)
-two-operands (Term.index k e) h x g = absurd (omega arith)
+  pub leaf-kind : isLeaf (termKind e) ≡ true → operandCount e ≡ 0
+  leaf-kind h = eqb-true (operandCount e) 0 (sym (its-count 0) ∙ h)
 
--- and `redseq` three
-pub three-operands : (e : Term) → termKind e ≡ word-redseq → 3 ≤ operandCount e
-three-operands (Term.input k) h = absurd (omega arith)
-three-operands (Term.variable d) h = absurd (omega arith)
-three-operands (Term.literal v) h = absurd (omega arith)
-three-operands (Term.negate e) h = absurd (omega arith)
-three-operands (Term.operation o e f) h = absurd (omega (arith, operation-kind o))
-three-operands (Term.map kind a b) h = absurd (omega (arith, map-kind kind))
-three-operands (Term.reduce z a b) h = omega arith
-three-operands (Term.zip a b) h = absurd (omega arith)
-three-operands (Term.pair a b) h = absurd (omega arith)
-three-operands (Term.split n e) h = absurd (omega arith)
-three-operands (Term.join e) h = absurd (omega arith)
-three-operands (Term.first e) h = absurd (omega arith)
-three-operands (Term.second e) h = absurd (omega arith)
-three-operands (Term.index k e) h = absurd (omega arith)
+  pub no-leaf : 1 ≤ operandCount e → isLeaf (termKind e) ≡ false
+  no-leaf h = its-count 0 ∙ ne-eqb (operandCount e) 0 (λ q. omega arith)
+
+  pub no-literal : 1 ≤ operandCount e → termKind e ≡ word-lit → ⊥
+  unfolding operandsOf table
+  no-literal h q =
+      let c : Count (operandCount e) ≡ Count 0 = sym (operands-listed e) ∙ ap (λ (k : ℕ). operandsOf k sort.Term) q in
+      let n : operandCount e ≡ 0 = cc in
+      omega arith
+
+  pub some-operand : isLeaf (termKind e) ≡ false → 1 ≤ operandCount e
+  some-operand h = let f = eqb-false (operandCount e) 0 (sym (its-count 0) ∙ h) in omega arith
+
+  pub one-operand : hasOneOperand (termKind e) ≡ true → operandCount e ≡ 1
+  one-operand h = eqb-true (operandCount e) 1 (sym (its-count 1) ∙ h)
+
+  pub two-operands : 1 ≤ operandCount e → hasOneOperand (termKind e) ≡ false → 2 ≤ operandCount e
+  two-operands h g = let f = eqb-false (operandCount e) 1 (sym (its-count 1) ∙ g) in omega arith
+
+  pub three-operands : termKind e ≡ word-redseq → 3 ≤ operandCount e
+  unfolding operandsOf table
+  three-operands h =
+      let q : Count (operandCount e) ≡ Count 3 = sym (operands-listed e) ∙ ap (λ (k : ℕ). operandsOf k sort.Term) h in
+      let n : operandCount e ≡ 3 = cc in
+      omega arith
 
 -- ---- numbers in range
 
-first-range : (K w : ℕ) (e : Term) → 1 ≤ operandCount e → TermInRange K w e → TermInRange K w (firstOperand e)
-first-range K w (Term.input k) h r = absurd (omega arith)
-first-range K w (Term.variable d) h r = absurd (omega arith)
-first-range K w (Term.literal v) h r = absurd (omega arith)
-first-range K w (Term.negate e) h r = r
-first-range K w (Term.operation o e f) h r = r .0
-first-range K w (Term.map kind a b) h r = r .1
-first-range K w (Term.reduce z a b) h r = r .1
-first-range K w (Term.zip a b) h r = r .0
-first-range K w (Term.pair a b) h r = r .0
-first-range K w (Term.split n e) h r = r .1
-first-range K w (Term.join e) h r = r
-first-range K w (Term.first e) h r = r
-first-range K w (Term.second e) h r = r
-first-range K w (Term.index k e) h r = r .1
+abbrev OperandsInRange : ℕ → ℕ → Shape → Type 0
+OperandsInRange K w none = Unit {0}
+OperandsInRange K w (one a) = TermInRange K w a
+OperandsInRange K w (two a m b) = TermInRange K w a × TermInRange K (w + m) b
+OperandsInRange K w (three a b m c) = TermInRange K w a × TermInRange K w b × TermInRange K (w + m) c
 
-second-range : (K w : ℕ) (e : Term) → 2 ≤ operandCount e → TermInRange K w e → TermInRange K (w + secondOpens e) (secondOperand e)
-second-range K w (Term.input k) h r = absurd (omega arith)
-second-range K w (Term.variable d) h r = absurd (omega arith)
-second-range K w (Term.literal v) h r = absurd (omega arith)
-second-range K w (Term.negate e) h r = absurd (omega arith)
-second-range K w (Term.operation o e f) h r = rw (add-zero w) (r .1)
-second-range K w (Term.map kind a b) h r = r .2
-second-range K w (Term.reduce z a b) h r = rw (add-zero w) (r .2)
-second-range K w (Term.zip a b) h r = rw (add-zero w) (r .1)
-second-range K w (Term.pair a b) h r = rw (add-zero w) (r .1)
-second-range K w (Term.split n e) h r = absurd (omega arith)
-second-range K w (Term.join e) h r = absurd (omega arith)
-second-range K w (Term.first e) h r = absurd (omega arith)
-second-range K w (Term.second e) h r = absurd (omega arith)
-second-range K w (Term.index k e) h r = absurd (omega arith)
+operands-in-range : (K w : ℕ) (e : Term) → TermInRange K w e → OperandsInRange K w (viewOf e .shape)
+operands-in-range K w (Term.input k) r = tt
+operands-in-range K w (Term.variable d) r = tt
+operands-in-range K w (Term.literal v) r = tt
+operands-in-range K w (Term.negate e) r = r
+operands-in-range K w (Term.operation o e f) r = (r .0, rw (add-zero w) (r .1))
+operands-in-range K w (Term.map kind a b) r = (r .1, r .2)
+operands-in-range K w (Term.reduce z a b) r = (r .1, r .2, r .3)
+operands-in-range K w (Term.zip a b) r = (r .0, rw (add-zero w) (r .1))
+operands-in-range K w (Term.pair a b) r = (r .0, rw (add-zero w) (r .1))
+operands-in-range K w (Term.split n e) r = r .1
+operands-in-range K w (Term.join e) r = r
+operands-in-range K w (Term.first e) r = r
+operands-in-range K w (Term.second e) r = r
+operands-in-range K w (Term.index k e) r = r .1
 
-third-range : (K w : ℕ) (e : Term) → 3 ≤ operandCount e → TermInRange K w e → TermInRange K (w + 2) (thirdOperand e)
-third-range K w (Term.input k) h r = absurd (omega arith)
-third-range K w (Term.variable d) h r = absurd (omega arith)
-third-range K w (Term.literal v) h r = absurd (omega arith)
-third-range K w (Term.negate e) h r = absurd (omega arith)
-third-range K w (Term.operation o e f) h r = absurd (omega arith)
-third-range K w (Term.map kind a b) h r = absurd (omega arith)
-third-range K w (Term.reduce z a b) h r = r .3
-third-range K w (Term.zip a b) h r = absurd (omega arith)
-third-range K w (Term.pair a b) h r = absurd (omega arith)
-third-range K w (Term.split n e) h r = absurd (omega arith)
-third-range K w (Term.join e) h r = absurd (omega arith)
-third-range K w (Term.first e) h r = absurd (omega arith)
-third-range K w (Term.second e) h r = absurd (omega arith)
-third-range K w (Term.index k e) h r = absurd (omega arith)
+module _ (K w : ℕ) (e : Term) where
+  first-range : (s : Shape) → 1 ≤ countIn s → OperandsInRange K w s → TermInRange K w (firstIn e s)
+  first-range none h r = absurd (omega arith)
+  first-range (one a) h r = r
+  first-range (two a m b) h r = r .0
+  first-range (three a b m c) h r = r .0
+
+  second-range : (s : Shape) → 2 ≤ countIn s → OperandsInRange K w s → TermInRange K (w + opensIn s) (secondIn e s)
+  second-range none h r = absurd (omega arith)
+  second-range (one a) h r = absurd (omega arith)
+  second-range (two a m b) h r = r .1
+  second-range (three a b m c) h r = rw (add-zero w) (r .1)
+
+third-range : (K w : ℕ) {e : Term} → Reduction e → TermInRange K w e → TermInRange K (w + 2) (thirdOperand e)
+third-range K w (Reduction.of z a b) r = r .3
 
 -- ---- what stands in front
 
 module _ (ks : List ℕ) (ns : List ℤ) (K v : ℕ) (e : Term) (S : TermStands ks ns K v e) where
-  heads : (getD ks 0 0 ≡ termKind e) × (getD ns 0 (pos 0) ≡ headNumber e)
+  heads : (getD ks 0 0 ≡ termKind e) × (getD ns 0 (pos 0) ≡ viewOf e .number)
   heads = head-row ks ns _ _ (S .rows ∙ ap (λ (R : List Row). R ++ S .rest) (term-head e))
 
   pub its-kind : getD ks 0 0 ≡ termKind e
   its-kind = heads .0
 
-  pub its-number : (termKind e ≡ word-lit → ⊥) → asNatural (getD ns 0 (pos 0)) ≡ termNumber e
-  its-number f = ap asNatural (heads .1) ∙ number-head e f
+  pub its-number : asNatural (getD ns 0 (pos 0)) ≡ termNumber e
+  its-number = ap asNatural (heads .1)
 
   pub rows-within : length (termRows e) ≤ length ks
   rows-within =
@@ -181,18 +165,18 @@ module _ (ks : List ℕ) (ns : List ℤ) (K v : ℕ) (e : Term) (S : TermStands 
   }
 
   -- behind the first row
-  behind-head : termRows e ++ S .rest ≡ (termKind e, headNumber e) ∷ (rowsBehind e ++ S .rest)
+  behind-head : termRows e ++ S .rest ≡ (termKind e, viewOf e .number) ∷ (rowsIn (viewOf e .shape) ++ S .rest)
   behind-head = ap (λ (R : List Row). R ++ S .rest) (term-head e)
 
   module _ (h : 1 ≤ operandCount e) where
-    behind-first : rowsBehind e ++ S .rest ≡ termRows (firstOperand e) ++ (behindFirst e ++ S .rest)
+    behind-first : rowsIn (viewOf e .shape) ++ S .rest ≡ termRows (firstOperand e) ++ (behindFirst e ++ S .rest)
     behind-first =
         ap (λ (R : List Row). R ++ S .rest) (first-rows e h)
         ∙ append-assoc (termRows (firstOperand e)) (behindFirst e) (S .rest)
 
     pub first-stands : TermStands (part 1 ks) (part 1 ns) K v (firstOperand e)
     first-stands =
-        rows-on 1 (firstOperand e) (behindFirst e ++ S .rest) (ap (drop 1) behind-head ∙ behind-first) v (first-range K v e h (S .inRange))
+        rows-on 1 (firstOperand e) (behindFirst e ++ S .rest) (ap (drop 1) behind-head ∙ behind-first) v (first-range K v e (viewOf e .shape) h (operands-in-range K v e (S .inRange)))
 
   module _ (h : 2 ≤ operandCount e) (a : ℕ) (ea : a ≡ length (termRows (firstOperand e))) where
     past-first : drop (1 + a) (termRows e ++ S .rest) ≡ termRows (secondOperand e) ++ (behindSecond e ++ S .rest)
@@ -206,7 +190,7 @@ module _ (ks : List ℕ) (ns : List ℤ) (K v : ℕ) (e : Term) (S : TermStands 
         ∙ append-assoc (termRows (secondOperand e)) (behindSecond e) (S .rest)
 
     pub second-stands : TermStands (part (1 + a) ks) (part (1 + a) ns) K (v + secondOpens e) (secondOperand e)
-    second-stands = rows-on (1 + a) (secondOperand e) (behindSecond e ++ S .rest) past-first (v + secondOpens e) (second-range K v e h (S .inRange))
+    second-stands = rows-on (1 + a) (secondOperand e) (behindSecond e ++ S .rest) past-first (v + secondOpens e) (second-range K v e (viewOf e .shape) h (operands-in-range K v e (S .inRange)))
 
   module _ (h : 3 ≤ operandCount e) (a b : ℕ) (ea : a ≡ length (termRows (firstOperand e))) (eb : b ≡ length (termRows (secondOperand e))) where
     pub third-stands : TermStands (part (1 + a + b) ks) (part (1 + a + b) ns) K (v + 2) (thirdOperand e)
@@ -216,7 +200,7 @@ module _ (ks : List ℕ) (ns : List ℤ) (K v : ℕ) (e : Term) (S : TermStands 
         ∙ ap (drop b) (past-first (omega arith) a ea)
         ∙ drop-at (termRows (secondOperand e)) (behindSecond e ++ S .rest) b (sym eb)
         ∙ ap (λ (R : List Row). R ++ S .rest) (third-rows e h))
-        (v + 2) (third-range K v e h (S .inRange))
+        (v + 2) (third-range K v (as-reduction e h) (S .inRange))
 
 -- ---- how many rows there are
 

@@ -6,18 +6,17 @@ use Prim.Native.Nat.{ℕ, zero, suc, _+_, _≤_, _<_, min}
 use native.Mathlib.Omega.{arith}
 use native.Mathlib.Nat.{zero-add}
 use native.Mathlib.Numerals.{add-one}
-use borrow.Author.Tests.{lt-ltb, le-ltb}
-use lib.Dec.{ltb}
 use lib.IntN.{ℤ}
 use lib.ListN.{length, getD, take, drop}
 use lib.Seq.{drop-cons, drop-length, length-take-le}
 use Rattle.refusals.specs.declared.Refusal.{Refusal}
 use Rattle.refusals.specs.declared.Refusal.the-variants.{LineForm, RowDue}
-use Rattle.words.specs.Kinds.{Row, rowsOf, word-rest}
+use Rattle.words.specs.Kinds.{Row, rowsOf}
+use Rattle.words.specs.Groups.{isListed}
+use Rattle.refusals.specs.declared.Answer.{Answer}
+use Rattle.refusals.specs.declared.Answer.the-variants.{Told, Refused}
 use Rattle.words.specs.Laws.{rows-length}
 use Rattle.words.specs.declared.Sort.{Sort}
-use Rattle.syntax.specs.declared.Answer.{Answer}
-use Rattle.syntax.specs.declared.Answer.the-variants.{Passed, Refused}
 use Rattle.syntax.specs.declared.operands.Due.{Due}
 use Rattle.syntax.specs.Names.{noNames}
 use Rattle.syntax.specs.Operands.{due}
@@ -32,16 +31,16 @@ unlisted-start [] = refl
 unlisted-start (k ∷ l) = sym (zero-add _)
 
 module _ (l : List ℕ) (i : ℕ) (inv : firstUnlisted l ≡ i + firstUnlisted (drop i l)) where
-  pub unlisted-here : i < length l → word-rest < getD l i 0 → i ≡ firstUnlisted l
+  pub unlisted-here : i < length l → isListed (getD l i 0) ≡ false → i ≡ firstUnlisted l
   unfolding firstUnlisted
   unlisted-here h g =
-      let e : firstUnlisted (drop i l) ≡ 0 = rw (drop-cons l i 0) (simp (lt-ltb word-rest (getD l i 0) g)) in
+      let e : firstUnlisted (drop i l) ≡ 0 = rw (drop-cons l i 0) (simp g) in
       omega (arith, inv, e)
 
-  pub unlisted-next : i < length l → getD l i 0 ≤ word-rest → firstUnlisted l ≡ (i + 1) + firstUnlisted (drop (i + 1) l)
+  pub unlisted-next : i < length l → isListed (getD l i 0) ≡ true → firstUnlisted l ≡ (i + 1) + firstUnlisted (drop (i + 1) l)
   unfolding firstUnlisted
   unlisted-next h g =
-      let e : firstUnlisted (drop i l) ≡ suc (firstUnlisted (drop (i + 1) l)) = rw (add-one, drop-cons l i 0) (simp (le-ltb word-rest (getD l i 0) g)) in
+      let e : firstUnlisted (drop i l) ≡ suc (firstUnlisted (drop (i + 1) l)) = rw (add-one, drop-cons l i 0) (simp g) in
       omega (arith, inv, e)
 
   pub unlisted-end : i ≡ length l → i ≡ firstUnlisted l
@@ -57,24 +56,24 @@ listed-no : (ks : List ℕ) (ns : List ℤ) (p : ℕ) (v : Answer) → length ks
 unfolding rowsOf listedFrom firstUnlisted
 listed-no [] ns p v e h = absurd (omega arith)
 listed-no (k ∷ ks) [] p v e h = absurd (omega arith)
-listed-no (k ∷ ks) (n ∷ ns) p v e h = go (ltb word-rest k) (λ g. listed-no ks ns (suc p) v (omega arith) g) h
+listed-no (k ∷ ks) (n ∷ ns) p v e h = go (isListed k) (λ g. listed-no ks ns (suc p) v (omega arith) g) h
   where
     go : (b : Bool) → (firstUnlisted ks < length ks → listedFrom (suc p) (rowsOf ks ns) v ≡ Refused (LineForm (suc (suc p + firstUnlisted ks))))
-        → cond b 0 (suc (firstUnlisted ks)) < suc (length ks)
-        → cond b (Refused (LineForm (suc p))) (listedFrom (suc p) (rowsOf ks ns) v) ≡ Refused (LineForm (suc (p + cond b 0 (suc (firstUnlisted ks)))))
-    go true f h = ap (λ (l : ℕ). Refused (LineForm l)) (omega arith)
-    go false f h = f (omega arith) ∙ ap (λ (l : ℕ). Refused (LineForm l)) (omega arith)
+        → cond b (suc (firstUnlisted ks)) 0 < suc (length ks)
+        → cond b (listedFrom (suc p) (rowsOf ks ns) v) (Refused (LineForm (suc p))) ≡ Refused (LineForm (suc (p + cond b (suc (firstUnlisted ks)) 0)))
+    go true f h = f (omega arith) ∙ ap (λ (l : ℕ). Refused (LineForm l)) (omega arith)
+    go false f h = ap (λ (l : ℕ). Refused (LineForm l)) (omega arith)
 
 listed-yes : (ks : List ℕ) (ns : List ℤ) (p : ℕ) (v : Answer) → length ks ≡ length ns → length ks ≤ firstUnlisted ks → listedFrom p (rowsOf ks ns) v ≡ v
 unfolding rowsOf listedFrom firstUnlisted
 listed-yes [] ns p v e h = refl
 listed-yes (k ∷ ks) [] p v e h = absurd (omega arith)
-listed-yes (k ∷ ks) (n ∷ ns) p v e h = go (ltb word-rest k) (λ g. listed-yes ks ns (suc p) v (omega arith) g) h
+listed-yes (k ∷ ks) (n ∷ ns) p v e h = go (isListed k) (λ g. listed-yes ks ns (suc p) v (omega arith) g) h
   where
-    go : (b : Bool) → (length ks ≤ firstUnlisted ks → listedFrom (suc p) (rowsOf ks ns) v ≡ v) → suc (length ks) ≤ cond b 0 (suc (firstUnlisted ks))
-        → cond b (Refused (LineForm (suc p))) (listedFrom (suc p) (rowsOf ks ns) v) ≡ v
-    go true f h = absurd (omega arith)
-    go false f h = f (omega arith)
+    go : (b : Bool) → (length ks ≤ firstUnlisted ks → listedFrom (suc p) (rowsOf ks ns) v ≡ v) → suc (length ks) ≤ cond b (suc (firstUnlisted ks)) 0
+        → cond b (listedFrom (suc p) (rowsOf ks ns) v) (Refused (LineForm (suc p))) ≡ v
+    go true f h = f (omega arith)
+    go false f h = absurd (omega arith)
 
 -- ---- the end of the walk
 
@@ -84,7 +83,7 @@ rows-left [] r p h = absurd (omega arith)
 rows-left (x ∷ R) zero p h = refl
 rows-left (x ∷ R) (suc r) p h = rows-left R r p (omega arith)
 
-none-left : (R : List Row) (r p : ℕ) → length R ≤ r → walkFrom p [] (drop r R) ≡ Passed p
+none-left : (R : List Row) (r p : ℕ) → length R ≤ r → walkFrom p [] (drop r R) ≡ Told p
 unfolding walkFrom
 none-left [] zero p h = refl
 none-left [] (suc r) p h = refl
@@ -117,29 +116,29 @@ module _ (ks : List ℕ) (ns : List ℤ) {m : ℕ} (em : m ≡ min (length ks) (
 
   module _ {at : ℕ} (ea : at ≡ firstUnlisted (take m ks)) where
     abbrev asked : Answer
-    asked = listedFrom 0 (rowsOf ks ns) (Passed (length (rowsOf ks ns)))
+    asked = listedFrom 0 (rowsOf ks ns) (Told (length (rowsOf ks ns)))
 
     pub rows-unlisted : at < m → Refused (LineForm (at + 1)) ≡ asked
     rows-unlisted h =
         let z : suc (0 + firstUnlisted (take m ks)) ≡ at + 1 = omega arith in
-        asked-part (Refused (LineForm (at + 1))) (Passed (length (rowsOf ks ns)))
-        (sym (listed-no (take m ks) (take m ns) 0 (Passed (length (rowsOf ks ns))) (kinds-length ∙ sym numbers-length) (omega (arith, kinds-length)) ∙ rw z))
+        asked-part (Refused (LineForm (at + 1))) (Told (length (rowsOf ks ns)))
+        (sym (listed-no (take m ks) (take m ns) 0 (Told (length (rowsOf ks ns))) (kinds-length ∙ sym numbers-length) (omega (arith, kinds-length)) ∙ rw z))
 
-    pub rows-listed : m ≤ at → Passed m ≡ asked
+    pub rows-listed : m ≤ at → Told m ≡ asked
     rows-listed h =
-        ap Passed (em ∙ sym (rows-length ks ns))
-        ∙ asked-part (Passed (length (rowsOf ks ns))) (Passed (length (rowsOf ks ns)))
-        (sym (listed-yes (take m ks) (take m ns) 0 (Passed (length (rowsOf ks ns))) (kinds-length ∙ sym numbers-length) (omega (arith, kinds-length))))
+        ap Told (em ∙ sym (rows-length ks ns))
+        ∙ asked-part (Told (length (rowsOf ks ns))) (Told (length (rowsOf ks ns)))
+        (sym (listed-yes (take m ks) (take m ns) 0 (Told (length (rowsOf ks ns))) (kinds-length ∙ sym numbers-length) (omega (arith, kinds-length))))
 
-module _ (ks : List ℕ) (ns : List ℤ) {l : Answer} (el : l ≡ listedFrom 0 (rowsOf ks ns) (Passed (length (rowsOf ks ns)))) where
+module _ (ks : List ℕ) (ns : List ℤ) {l : Answer} (el : l ≡ listedFrom 0 (rowsOf ks ns) (Told (length (rowsOf ks ns)))) where
   pub table-unlisted : (s : Sort) (q : Refusal) → l ≡ Refused q → l ≡ walkTable s (rowsOf ks ns)
   unfolding walkTable
   table-unlisted s q e = e ∙ sym (one-unlisted (rowsOf ks ns) 0 (length (rowsOf ks ns)) q _ (sym el ∙ e))
 
-  module _ (m : ℕ) (is : l ≡ Passed m) where
+  module _ (m : ℕ) (is : l ≡ Told m) where
     pub rows-shorter : m ≡ min (length ks) (length ns)
     rows-shorter =
-        let e : Passed (length (rowsOf ks ns)) ≡ Passed m = listed-walk (rowsOf ks ns) 0 m _ (sym el ∙ is) in
+        let e : Told (length (rowsOf ks ns)) ≡ Told m = listed-walk (rowsOf ks ns) 0 m _ (sym el ∙ is) in
         let n : length (rowsOf ks ns) ≡ m = cc in
         sym n ∙ rows-length ks ns
 
@@ -160,13 +159,13 @@ module _ (ks : List ℕ) (ns : List ℤ) {l : Answer} (el : l ≡ listedFrom 0 (
       pub table-no : (q : Refusal) → a ≡ Refused q → a ≡ walkTable s (rowsOf ks ns)
       table-no q e = table-walked a (rw e)
 
-      pub table-more : (end : ℕ) → a ≡ Passed end → end < m → Refused (RowDue (end + 1)) ≡ walkTable s (rowsOf ks ns)
+      pub table-more : (end : ℕ) → a ≡ Told end → end < m → Refused (RowDue (end + 1)) ≡ walkTable s (rowsOf ks ns)
       table-more end e l =
           let z : suc (0 + end) ≡ end + 1 = omega arith in
           let o : walkFrom (0 + end) [] (drop end S) ≡ Refused (RowDue (end + 1)) = rows-left S end (0 + end) (omega (arith, part-length)) ∙ rw z in
           table-walked (Refused (RowDue (end + 1))) (sym (rw e o))
 
-      pub table-passed : (end : ℕ) → a ≡ Passed end → m ≤ end → Passed end ≡ walkTable s (rowsOf ks ns)
+      pub table-passed : (end : ℕ) → a ≡ Told end → m ≤ end → Told end ≡ walkTable s (rowsOf ks ns)
       table-passed end e l =
-          let o : walkFrom (0 + end) [] (drop end S) ≡ Passed end = none-left S end (0 + end) (omega (arith, part-length)) ∙ rw zero-add in
-          table-walked (Passed end) (sym (rw e o))
+          let o : walkFrom (0 + end) [] (drop end S) ≡ Told end = none-left S end (0 + end) (omega (arith, part-length)) ∙ rw zero-add in
+          table-walked (Told end) (sym (rw e o))

@@ -3,18 +3,17 @@ use mathlib.Core.Path.{_≡_, refl, sym, _∙_, subst}
 use mathlib.Core.Bool.{Bool, true, false, not}
 use mathlib.Core.List.{List, [], _∷_}
 use mathlib.Core.Logic.{inl, inr}
-use Prim.Native.Nat.{ℕ, _+_, _≤_, _<_}
-use native.Mathlib.Omega.{arith}
+use Prim.Native.Nat.{ℕ, _+_}
 use borrow.Author.Tests.{ne-eqb, not-true, not-false}
 use lib.Dec.{eqb}
 use types.Run.{OneOf}
-use Rattle.words.specs.Kinds.{word-plan, word-arr, word-in, word-var, word-lit, word-mappar, word-mapseq, word-redseq, word-split, word-idx}
-use Rattle.words.specs.Kinds.{word-loops, word-cells, word-for, word-par, word-new, word-loc, word-ctr}
+use Rattle.words.specs.Kinds.{word-plan, word-in, word-var, word-lit, word-redseq, word-idx, word-loops, word-new, word-loc, word-ctr}
 use Rattle.words.specs.declared.Sort.{Sort}
 use Rattle.syntax.specs.declared.names.Names.{Names}
-use Rattle.syntax.specs.Ranges.{oneOf, sizes, inRange}
+use Rattle.words.specs.Groups.{oneOf, isMap, isLoop}
+use Rattle.syntax.specs.Ranges.{sizes, inRange}
 use Rattle.syntax.specs.Names.{names, openedBy}
-use Rattle.syntax.specs.Laws.Each.{Each, _also_, from-to}
+use Rattle.words.specs.Laws.{All}
 
 -- ---- tests that are the results of calls
 
@@ -26,10 +25,6 @@ flag-yes r t e h = sym e ∙ not-false r h
 
 -- ---- a word in a list of words
 
-abbrev pub All : List ℕ → (ℕ → Type 0) → Type 0
-All [] P = Unit {0}
-All (w ∷ ws) P = P w × All ws P
-
 pub at-one : (P : ℕ → Type 0) (k : ℕ) (ws : List ℕ) → OneOf ws k → All ws P → P k
 at-one P k [] h p = absurd h
 at-one P k (w ∷ []) h p = subst P (sym h) (p .0)
@@ -40,35 +35,6 @@ pub not-one : (k : ℕ) (ws : List ℕ) → All ws (λ w. k ≡ w → ⊥) → o
 unfolding oneOf
 not-one k [] p = refl
 not-one k (w ∷ ws) p = simp (ne-eqb k w (p .0)) (not-one k ws (p .1))
-
--- ---- `is_size`: `for`, `par`, `new` and `times`, `over`, `rest` are neighbours, which the code tests as ranges
-
-module _ (k : ℕ) where
-  pub size-one : OneOf (word-arr ∷ word-split ∷ word-cells ∷ []) k → true ≡ oneOf k sizes
-  unfolding oneOf
-  size-one h = at-one (λ w. true ≡ oneOf w sizes) k (word-arr ∷ word-split ∷ word-cells ∷ []) h (refl, (refl, (refl, tt)))
-
-  pub size-loop : 28 ≤ k → k < 31 → true ≡ oneOf k sizes
-  unfolding oneOf Each
-  size-loop h l = from-to 28 3 (λ w. true ≡ oneOf w sizes) (refl, (refl, (refl, tt))) k h (omega arith)
-
-  pub size-offset : 35 ≤ k → k < 38 → true ≡ oneOf k sizes
-  unfolding oneOf Each
-  size-offset h l = from-to 35 3 (λ w. true ≡ oneOf w sizes) (refl, (refl, (refl, tt))) k h (omega arith)
-
-  pub size-none : (OneOf (word-arr ∷ word-split ∷ word-cells ∷ []) k → ⊥) → (28 ≤ k → k < 31 → ⊥) → (35 ≤ k → k < 38 → ⊥) → false ≡ oneOf k sizes
-  size-none h f g =
-      sym (not-one k sizes
-      ((λ e. h (inl e))
-      also (λ e. h (inr (inl e)))
-      also (λ e. f (omega arith) (omega arith))
-      also (λ e. f (omega arith) (omega arith))
-      also (λ e. f (omega arith) (omega arith))
-      also (λ e. h (inr (inr e)))
-      also (λ e. g (omega arith) (omega arith))
-      also (λ e. g (omega arith) (omega arith))
-      also (λ e. g (omega arith) (omega arith))
-      also tt))
 
 -- ---- `in_range`
 
@@ -90,28 +56,22 @@ module _ (s : Sort) (names : Names) (k n : ℕ) where
         ne-eqb k word-lit lit,
       )
 
--- ---- `opened`: the two maps and the two loops are neighbours
+-- ---- `opened`
 
 module _ (k n : ℕ) (s : Names) where
+  pub opened-map : isMap k ≡ true → names (s .inputs) (s .variables + 1) (s .counters) (s .regions) ≡ openedBy k n s
+  unfolding openedBy
+  opened-map m = simp m
+
+  pub opened-loop : isMap k ≡ false → isLoop k ≡ true → names (s .inputs) (s .variables) (s .counters + 1) (s .regions) ≡ openedBy k n s
+  unfolding openedBy
+  opened-loop m l = simp (m, l)
+
   pub opened-head : OneOf (word-plan ∷ word-loops ∷ []) k → names n (s .variables) (s .counters) (s .regions) ≡ openedBy k n s
   unfolding openedBy oneOf
   opened-head h = at-one (λ w. names n (s .variables) (s .counters) (s .regions) ≡ openedBy w n s) k (word-plan ∷ word-loops ∷ []) h (refl, (refl, tt))
 
-  pub opened-map : 14 ≤ k → k < 16 → names (s .inputs) (s .variables + 1) (s .counters) (s .regions) ≡ openedBy k n s
-  unfolding openedBy oneOf Each
-  opened-map h l = from-to 14 2 (λ w. names (s .inputs) (s .variables + 1) (s .counters) (s .regions) ≡ openedBy w n s) (refl, (refl, tt)) k h (omega arith)
-
-  pub opened-loop : 28 ≤ k → k < 30 → names (s .inputs) (s .variables) (s .counters + 1) (s .regions) ≡ openedBy k n s
-  unfolding openedBy oneOf Each
-  opened-loop h l = from-to 28 2 (λ w. names (s .inputs) (s .variables) (s .counters + 1) (s .regions) ≡ openedBy w n s) (refl, (refl, tt)) k h (omega arith)
-
-  pub opened-none : (OneOf (word-plan ∷ word-loops ∷ []) k → ⊥) → (k ≡ word-redseq → ⊥) → (k ≡ word-new → ⊥) → (14 ≤ k → k < 16 → ⊥) → (28 ≤ k → k < 30 → ⊥) → s ≡ openedBy k n s
+  pub opened-none : isMap k ≡ false → isLoop k ≡ false → (OneOf (word-plan ∷ word-loops ∷ []) k → ⊥) → (k ≡ word-redseq → ⊥) → (k ≡ word-new → ⊥) → s ≡ openedBy k n s
   unfolding openedBy
-  opened-none h red new f g =
-      simp (
-        not-one k (word-plan ∷ word-loops ∷ []) ((λ e. h (inl e)), ((λ e. h (inr e)), tt)),
-        not-one k (word-mappar ∷ word-mapseq ∷ []) ((λ e. f (omega arith) (omega arith)), ((λ e. f (omega arith) (omega arith)), tt)),
-        ne-eqb k word-redseq red,
-        not-one k (word-for ∷ word-par ∷ []) ((λ e. g (omega arith) (omega arith)), ((λ e. g (omega arith) (omega arith)), tt)),
-        ne-eqb k word-new new,
-      )
+  opened-none m l h red new =
+      simp (m, l, not-one k (word-plan ∷ word-loops ∷ []) ((λ e. h (inl e)), ((λ e. h (inr e)), tt)), ne-eqb k word-redseq red, ne-eqb k word-new new)

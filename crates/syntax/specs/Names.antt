@@ -3,9 +3,9 @@ use mathlib.Core.Bool.{Bool, cond, _&&_}
 use mathlib.Core.List.{[], _∷_}
 use Prim.Native.Nat.{ℕ, _+_, _≤_}
 use lib.Dec.{eqb, leb}
-use Rattle.words.specs.Kinds.{word-plan, word-mappar, word-mapseq, word-redseq, word-loops, word-for, word-par, word-new}
+use Rattle.words.specs.Kinds.{word-plan, word-redseq, word-loops, word-new}
+use Rattle.words.specs.Groups.{oneOf, isMap, isLoop}
 use Rattle.syntax.specs.declared.names.Names.{Names}
-use Rattle.syntax.specs.Ranges.{oneOf}
 
 abbrev pub names : ℕ → ℕ → ℕ → ℕ → Names
 names i v c r = record { inputs = i; variables = v; counters = c; regions = r }
@@ -17,10 +17,10 @@ noNames = names 0 0 0 0
 -- [3.10], one counter of `for` and `par`, one region of `new` [3.13].
 unfoldable pub openedBy : ℕ → ℕ → Names → Names
 openedBy k n s =
-    cond (oneOf k (word-plan ∷ word-loops ∷ [])) (names n (s .variables) (s .counters) (s .regions))
-    (cond (oneOf k (word-mappar ∷ word-mapseq ∷ [])) (names (s .inputs) (s .variables + 1) (s .counters) (s .regions))
+    cond (isMap k) (names (s .inputs) (s .variables + 1) (s .counters) (s .regions))
+    (cond (isLoop k) (names (s .inputs) (s .variables) (s .counters + 1) (s .regions))
+    (cond (oneOf k (word-plan ∷ word-loops ∷ [])) (names n (s .variables) (s .counters) (s .regions))
     (cond (eqb k word-redseq) (names (s .inputs) (s .variables + 2) (s .counters) (s .regions))
-    (cond (oneOf k (word-for ∷ word-par ∷ [])) (names (s .inputs) (s .variables) (s .counters + 1) (s .regions))
     (cond (eqb k word-new) (names (s .inputs) (s .variables) (s .counters) (s .regions + 1))
     s))))
 

@@ -8,7 +8,7 @@ use Rattle.words.specs.declared.Sort.{Sort}
 use Rattle.words.specs.declared.Sort.the-variants.{Plan, DataType, Term, Loops, Cells, Command, Place, Value, Offset}
 use Rattle.syntax.specs.declared.names.Names.{Names}
 use Rattle.syntax.specs.declared.operands.Due.{Due}
-use Rattle.syntax.specs.Ranges.{oneOf}
+use Rattle.words.specs.Groups.{oneOf}
 use Rattle.syntax.specs.Names.{openedBy}
 
 -- [2.3] The K types behind `plan` [3.6] and the K `cells` behind `loops` [3.12] stand before the operands that the table lists.

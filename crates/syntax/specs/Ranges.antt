@@ -6,6 +6,7 @@ use lib.Dec.{eqb, ltb, leb}
 use lib.IntN.{ℤ, pos, negsuc}
 use Rattle.words.specs.Kinds.{word-plan, word-arr, word-in, word-var, word-lit, word-split, word-idx, word-loops, word-cells, word-for}
 use Rattle.words.specs.Kinds.{word-par, word-new, word-loc, word-ctr, word-times, word-over, word-rest}
+use Rattle.words.specs.Groups.{oneOf}
 use Rattle.words.specs.declared.Sort.{Sort}
 use Rattle.words.specs.declared.Sort.the-variants.{Plan, DataType, Term, Loops, Cells, Command, Place, Value, Offset}
 use Rattle.syntax.specs.declared.names.Names.{Names}
@@ -14,10 +15,6 @@ use Rattle.syntax.specs.declared.names.Names.{Names}
 abbrev pub asNatural : ℤ → ℕ
 asNatural (pos n) = n
 asNatural (negsuc n) = 2147483648
-
-unfoldable pub oneOf : ℕ → List ℕ → Bool
-oneOf k [] = false
-oneOf k (w ∷ ws) = cond (eqb k w) true (oneOf k ws)
 
 abbrev pub isOffset : Sort → Bool
 isOffset Plan = false
@@ -52,5 +49,5 @@ inRange s names k n =
     (eqb n 0))))))))
 
 -- the cells that stand in `cells` rows
-abbrev pub cellsOf : List ℤ → List ℕ
-cellsOf zs = map asNatural zs
+abbrev pub cellNumbers : List ℤ → List ℕ
+cellNumbers zs = map asNatural zs

@@ -3,11 +3,12 @@
 use mathlib.Core.Path.{_≡_}
 use mathlib.Core.List.{List, _++_}
 use Prim.Native.Nat.{ℕ}
-use lib.IntN.{ℤ}
+use lib.IntN.{ℤ, pos}
 use lib.ListN.{length}
 use Rattle.words.specs.Kinds.{Row, rowsOf, word-in, word-var, word-lit, word-neg, word-redseq, word-zip, word-pair, word-split, word-join, word-fst, word-snd, word-idx}
 use Rattle.meaning.specs.Terms.{Term}
 use Rattle.meaning.specs.Rows.{operationWord, mapWord, termRows}
+use Rattle.syntax.specs.Ranges.{asNatural}
 use Rattle.syntax.specs.InRange.{TermInRange}
 
 -- these rows stand at the front of a table
@@ -22,119 +23,90 @@ pub record TermStands (ks : List ℕ) (ns : List ℤ) (inputs variables : ℕ) (
   pub rows : rowsOf ks ns ≡ termRows e ++ rest
   pub inRange : TermInRange inputs variables e
 
--- the word of its first row
-abbrev pub termKind : Term → ℕ
-termKind (Term.input k) = word-in
-termKind (Term.variable d) = word-var
-termKind (Term.literal v) = word-lit
-termKind (Term.negate e) = word-neg
-termKind (Term.operation o e f) = operationWord o
-termKind (Term.map kind a b) = mapWord kind
-termKind (Term.reduce z a b) = word-redseq
-termKind (Term.zip a b) = word-zip
-termKind (Term.pair a b) = word-pair
-termKind (Term.split n e) = word-split
-termKind (Term.join e) = word-join
-termKind (Term.first e) = word-fst
-termKind (Term.second e) = word-snd
-termKind (Term.index k e) = word-idx
+-- ---- a term by its first row and its operands
 
--- its first row's number, where that is no literal's
+-- Its operands, in the order of their rows [1.7], and how many variables more are in force in the last of two or three.
+pub data Shape : Type 0 where
+  none : Shape
+  one : Term → Shape
+  two : Term → ℕ → Term → Shape
+  three : Term → Term → ℕ → Term → Shape
+
+-- Its first row's kind and number, and its operands.
+pub record View : Type 0 where
+  pub kind : ℕ
+  pub number : ℤ
+  pub shape : Shape
+
+abbrev row : ℕ → ℤ → Shape → View
+row k n s = record { kind = k; number = n; shape = s }
+
+-- [3.9] A map's body has one variable of its own, [3.10] that of a reduction two.
+abbrev pub viewOf : Term → View
+viewOf (Term.input k) = row word-in (pos k) none
+viewOf (Term.variable d) = row word-var (pos d) none
+viewOf (Term.literal v) = row word-lit v none
+viewOf (Term.negate e) = row word-neg (pos 0) (one e)
+viewOf (Term.operation o e f) = row (operationWord o) (pos 0) (two e 0 f)
+viewOf (Term.map kind a b) = row (mapWord kind) (pos 0) (two a 1 b)
+viewOf (Term.reduce z a b) = row word-redseq (pos 0) (three z a 2 b)
+viewOf (Term.zip a b) = row word-zip (pos 0) (two a 0 b)
+viewOf (Term.pair a b) = row word-pair (pos 0) (two a 0 b)
+viewOf (Term.split n e) = row word-split (pos n) (one e)
+viewOf (Term.join e) = row word-join (pos 0) (one e)
+viewOf (Term.first e) = row word-fst (pos 0) (one e)
+viewOf (Term.second e) = row word-snd (pos 0) (one e)
+viewOf (Term.index k e) = row word-idx (pos k) (one e)
+
+abbrev pub termKind : Term → ℕ
+termKind e = viewOf e .kind
+
 abbrev pub termNumber : Term → ℕ
-termNumber (Term.input k) = k
-termNumber (Term.variable d) = d
-termNumber (Term.literal v) = 0
-termNumber (Term.negate e) = 0
-termNumber (Term.operation o e f) = 0
-termNumber (Term.map kind a b) = 0
-termNumber (Term.reduce z a b) = 0
-termNumber (Term.zip a b) = 0
-termNumber (Term.pair a b) = 0
-termNumber (Term.split n e) = n
-termNumber (Term.join e) = 0
-termNumber (Term.first e) = 0
-termNumber (Term.second e) = 0
-termNumber (Term.index k e) = k
+termNumber e = asNatural (viewOf e .number)
+
+abbrev pub countIn : Shape → ℕ
+countIn none = 0
+countIn (one a) = 1
+countIn (two a m b) = 2
+countIn (three a b m c) = 3
 
 abbrev pub operandCount : Term → ℕ
-operandCount (Term.input k) = 0
-operandCount (Term.variable d) = 0
-operandCount (Term.literal v) = 0
-operandCount (Term.negate e) = 1
-operandCount (Term.operation o e f) = 2
-operandCount (Term.map kind a b) = 2
-operandCount (Term.reduce z a b) = 3
-operandCount (Term.zip a b) = 2
-operandCount (Term.pair a b) = 2
-operandCount (Term.split n e) = 1
-operandCount (Term.join e) = 1
-operandCount (Term.first e) = 1
-operandCount (Term.second e) = 1
-operandCount (Term.index k e) = 1
+operandCount e = countIn (viewOf e .shape)
 
--- its operands, in the order of their rows; of a term that has no such operand, the term itself
+-- its operands; of a term that has no such operand, the term itself
+abbrev pub firstIn : Term → Shape → Term
+firstIn e none = e
+firstIn e (one a) = a
+firstIn e (two a m b) = a
+firstIn e (three a b m c) = a
+
 abbrev pub firstOperand : Term → Term
-firstOperand (Term.input k) = Term.input k
-firstOperand (Term.variable d) = Term.variable d
-firstOperand (Term.literal v) = Term.literal v
-firstOperand (Term.negate e) = e
-firstOperand (Term.operation o e f) = e
-firstOperand (Term.map kind a b) = a
-firstOperand (Term.reduce z a b) = z
-firstOperand (Term.zip a b) = a
-firstOperand (Term.pair a b) = a
-firstOperand (Term.split n e) = e
-firstOperand (Term.join e) = e
-firstOperand (Term.first e) = e
-firstOperand (Term.second e) = e
-firstOperand (Term.index k e) = e
+firstOperand e = firstIn e (viewOf e .shape)
+
+abbrev pub secondIn : Term → Shape → Term
+secondIn e none = e
+secondIn e (one a) = e
+secondIn e (two a m b) = b
+secondIn e (three a b m c) = b
 
 abbrev pub secondOperand : Term → Term
-secondOperand (Term.input k) = Term.input k
-secondOperand (Term.variable d) = Term.variable d
-secondOperand (Term.literal v) = Term.literal v
-secondOperand (Term.negate e) = Term.negate e
-secondOperand (Term.operation o e f) = f
-secondOperand (Term.map kind a b) = b
-secondOperand (Term.reduce z a b) = a
-secondOperand (Term.zip a b) = b
-secondOperand (Term.pair a b) = b
-secondOperand (Term.split n e) = Term.split n e
-secondOperand (Term.join e) = Term.join e
-secondOperand (Term.first e) = Term.first e
-secondOperand (Term.second e) = Term.second e
-secondOperand (Term.index k e) = Term.index k e
+secondOperand e = secondIn e (viewOf e .shape)
 
--- the body of a reduction
+abbrev pub thirdIn : Term → Shape → Term
+thirdIn e none = e
+thirdIn e (one a) = e
+thirdIn e (two a m b) = e
+thirdIn e (three a b m c) = c
+
 abbrev pub thirdOperand : Term → Term
-thirdOperand (Term.input k) = Term.input k
-thirdOperand (Term.variable d) = Term.variable d
-thirdOperand (Term.literal v) = Term.literal v
-thirdOperand (Term.negate e) = Term.negate e
-thirdOperand (Term.operation o e f) = Term.operation o e f
-thirdOperand (Term.map kind a b) = Term.map kind a b
-thirdOperand (Term.reduce z a b) = b
-thirdOperand (Term.zip a b) = Term.zip a b
-thirdOperand (Term.pair a b) = Term.pair a b
-thirdOperand (Term.split n e) = Term.split n e
-thirdOperand (Term.join e) = Term.join e
-thirdOperand (Term.first e) = Term.first e
-thirdOperand (Term.second e) = Term.second e
-thirdOperand (Term.index k e) = Term.index k e
+thirdOperand e = thirdIn e (viewOf e .shape)
 
--- how many variables more are in force in the second operand: a map's body has one
+-- how many variables more are in force in the second operand
+abbrev pub opensIn : Shape → ℕ
+opensIn none = 0
+opensIn (one a) = 0
+opensIn (two a m b) = m
+opensIn (three a b m c) = 0
+
 abbrev pub secondOpens : Term → ℕ
-secondOpens (Term.input k) = 0
-secondOpens (Term.variable d) = 0
-secondOpens (Term.literal v) = 0
-secondOpens (Term.negate e) = 0
-secondOpens (Term.operation o e f) = 0
-secondOpens (Term.map kind a b) = 1
-secondOpens (Term.reduce z a b) = 0
-secondOpens (Term.zip a b) = 0
-secondOpens (Term.pair a b) = 0
-secondOpens (Term.split n e) = 0
-secondOpens (Term.join e) = 0
-secondOpens (Term.first e) = 0
-secondOpens (Term.second e) = 0
-secondOpens (Term.index k e) = 0
+secondOpens e = opensIn (viewOf e .shape)

@@ -6,13 +6,13 @@ use mathlib.Core.Logic.{_↔_}
 use Prim.Native.Nat.{ℕ}
 use native.Mathlib.Nat.{zero-add}
 use lib.ListN.{length}
+use Rattle.refusals.specs.declared.Answer.the-variants.{Told}
 use Rattle.words.specs.Kinds.{Row}
 use Rattle.words.specs.declared.Sort.{Sort}
 use Rattle.words.specs.declared.Sort.the-variants as sort
 use Rattle.meaning.specs.Terms.{Plan}
 use Rattle.meaning.specs.Loops.{Loops}
 use Rattle.meaning.specs.Rows.{planRows, loopsRows}
-use Rattle.syntax.specs.declared.Answer.the-variants.{Passed}
 use Rattle.syntax.specs.Names.{noNames}
 use Rattle.syntax.specs.Operands.{due}
 use Rattle.syntax.specs.Walk.{walkFrom, walkTable}
@@ -28,17 +28,17 @@ use Rattle.syntax.specs.Laws.Listed.{table-walk, walk-table, table-passe
 
 -- [10.2], of the kinds, [10.4], [10.5] and [10.6] are answered "yes" on every row
 abbrev pub WalksWell : Sort → List Row → Type 0
-WalksWell s R = walkTable s R ≡ Passed (length R)
+WalksWell s R = walkTable s R ≡ Told (length R)
 
 -- a walk that answers how many rows it passed has passed them all
-pub all-passed : (s : Sort) (R : List Row) (m : ℕ) → walkTable s R ≡ Passed m → WalksWell s R
-all-passed s R m e = e ∙ ap Passed (table-passed s R m e)
+pub all-passed : (s : Sort) (R : List Row) (m : ℕ) → walkTable s R ≡ Told m → WalksWell s R
+all-passed s R m e = e ∙ ap Told (table-passed s R m e)
 
 whole : (s : Sort) (a : List Row) → Passes (due s noNames ∷ []) a → WalksWell s a
 unfolding walkFrom
 whole s a f =
     walk-table s a (length a)
-    (ap (walkFrom 0 (due s noNames ∷ [])) (sym (append-nil a)) ∙ f 0 [] [] ∙ ap Passed (zero-add (length a)))
+    (ap (walkFrom 0 (due s noNames ∷ [])) (sym (append-nil a)) ∙ f 0 [] [] ∙ ap Told (zero-add (length a)))
 
 -- ---- plans
 

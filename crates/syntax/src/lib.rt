@@ -6,25 +6,20 @@ pub mod ranges;
 
 ghost use mathlib.Core.Path.{_≡_};
 ghost use mathlib.Core.List.{List, _∷_};
-ghost use Prim.Native.Nat.{_+_, _≤_, _<_, min};
+ghost use Prim.Native.Nat.{_+_, _≤_, _<_};
 ghost use lib.ListN.{length};
+ghost use Rattle.refusals.specs.declared.Answer.the-variants.{Told};
 ghost use Rattle.words.specs.Kinds.{rowsOf};
 ghost use Rattle.words.specs.declared.Sort.the-variants.{Plan as PlanSort, Loops as LoopsSort};
 ghost use Rattle.syntax.specs.Names.{Bounded};
 ghost use Rattle.syntax.specs.Walk.{askRow, walkFrom, resume, passed, firstUnlisted, listedFrom, walkTable};
-ghost use Rattle.syntax.specs.declared.Answer.the-variants.{Passed};
 ghost use Rattle.syntax.specs.declared.operands.Due.{Due};
 use crate::operands::Due;
+use refusals::Answer;
 use refusals::Refusal;
 use words::Operands;
 use words::Sort;
-use words::kinds::WORD_REST;
-
-// How many rows were passed, or how many operands are due behind a row; or the first "no".
-pub enum Answer {
-    Passed(usize),
-    Refused(Refusal),
-}
+use words::groups::is_listed;
 
 // [10.18] Questions 4, 5 and 6, in this order, put to a row: how many operands it has, or the first "no".
 fn ask(due: Due, kind: u8, number: usize, line: usize) -> Answer
@@ -43,7 +38,7 @@ fn ask(due: Due, kind: u8, number: usize, line: usize) -> Answer
     if !names::names_fit(names::opened(names, kind, number)) {
         return Answer::Refused(Refusal::NameCount(line));
     }
-    Answer::Passed(operands::inputs_counted(sort, number) + count)
+    Answer::Told(operands::inputs_counted(sort, number) + count)
 }
 
 // The row that is due and its operands: how many rows they are, or the first "no". `before` rows stand before them.
@@ -60,7 +55,7 @@ fn walk(kinds: &[u8], numbers: &[i32], before: usize, due: Due) -> Answer
     let kind = kinds[0];
     let number = ranges::natural(numbers[0]);
     let asked = ask(due, kind, number, line);
-    let Answer::Passed(count) = asked else {
+    let Answer::Told(count) = asked else {
         return asked;
     };
     let mut rows = 1;
@@ -68,13 +63,13 @@ fn walk(kinds: &[u8], numbers: &[i32], before: usize, due: Due) -> Answer
     while 0 < left {
         let next = operands::operand(due, kind, number, left == 1);
         let walked = walk(&kinds[rows..], &numbers[rows..], before + rows, next);
-        let Answer::Passed(more) = walked else {
+        let Answer::Told(more) = walked else {
             return walked;
         };
         rows += more;
         left -= 1;
     }
-    Answer::Passed(rows)
+    Answer::Told(rows)
 }
 
 // How many kinds stand before the first that is no word.
@@ -83,7 +78,7 @@ fn listed(kinds: &[u8]) -> usize
 {
     let mut i = 0;
     while i < kinds.len() {
-        if WORD_REST < kinds[i] {
+        if !is_listed(kinds[i]) {
             return i;
         }
         i += 1;
@@ -91,27 +86,18 @@ fn listed(kinds: &[u8]) -> usize
     i
 }
 
-fn shorter(a: usize, b: usize) -> usize
-    ensures { λ r. ⌜ r ≡ min a b ⌝ }
-{
-    if a <= b {
-        return a;
-    }
-    b
-}
-
 // [10.2] of a table that was not read from a text: how many rows it has, as many as the shorter slice [1.8]; or its first kind that is
 // no word.
 pub fn listed_rows(kinds: &[u8], numbers: &[i32]) -> Answer
     ensures bounds { λ r. ⌜ (passed r ≤ length (now (kinds .entry))) × (passed r ≤ length (now (numbers .entry))) ⌝ }
-    ensures result { λ r. ⌜ r ≡ listedFrom 0 (rowsOf (now (kinds .entry)) (now (numbers .entry))) (Passed (length (rowsOf (now (kinds .entry)) (now (numbers .entry))))) ⌝ }
+    ensures result { λ r. ⌜ r ≡ listedFrom 0 (rowsOf (now (kinds .entry)) (now (numbers .entry))) (Told (length (rowsOf (now (kinds .entry)) (now (numbers .entry))))) ⌝ }
 {
-    let rows = shorter(kinds.len(), numbers.len());
+    let rows = words::row_count(kinds, numbers);
     let words = listed(&kinds[..rows]);
     if words < rows {
         return Answer::Refused(Refusal::LineForm(words + 1));
     }
-    Answer::Passed(rows)
+    Answer::Told(rows)
 }
 
 // A table of which one row of this sort is due.
@@ -119,18 +105,18 @@ fn walk_table(kinds: &[u8], numbers: &[i32], sort: Sort) -> Answer
     ensures { λ r. ⌜ r ≡ walkTable sort (rowsOf (now (kinds .entry)) (now (numbers .entry))) ⌝ }
 {
     let listed = listed_rows(kinds, numbers);
-    let Answer::Passed(rows) = listed else {
+    let Answer::Told(rows) = listed else {
         return listed;
     };
     let names = names::in_force(0, 0, 0, 0);
     let walked = walk(&kinds[..rows], &numbers[..rows], 0, Due { sort, names });
-    let Answer::Passed(end) = walked else {
+    let Answer::Told(end) = walked else {
         return walked;
     };
     if end < rows {
         return Answer::Refused(Refusal::RowDue(end + 1));
     }
-    Answer::Passed(end)
+    Answer::Told(end)
 }
 
 // The rows of a plan's table: how many they are, or the first "no" to questions 2 (of the kinds), 4, 5 and 6.

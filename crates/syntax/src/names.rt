@@ -1,6 +1,8 @@
 // The names that rows open, and how many may be in force: [10.6].
 ghost use mathlib.Core.Path.{_≡_};
 ghost use Rattle.syntax.specs.Names.{names as namesOf, openedBy, namesFit, Bounded};
+use words::groups::is_loop;
+use words::groups::is_map;
 use words::kinds::*;
 
 // How many names of each kind are in force.
@@ -31,11 +33,15 @@ pub fn opened(names: Names, kind: u8, number: usize) -> Names
     let variables = names.variables;
     let counters = names.counters;
     let regions = names.regions;
+    if is_map(kind) {
+        return in_force(inputs, variables + 1, counters, regions);
+    }
+    if is_loop(kind) {
+        return in_force(inputs, variables, counters + 1, regions);
+    }
     match kind {
         WORD_PLAN | WORD_LOOPS => in_force(number, variables, counters, regions),
-        WORD_MAPPAR | WORD_MAPSEQ => in_force(inputs, variables + 1, counters, regions),
         WORD_REDSEQ => in_force(inputs, variables + 2, counters, regions),
-        WORD_FOR | WORD_PAR => in_force(inputs, variables, counters + 1, regions),
         WORD_NEW => in_force(inputs, variables, counters, regions + 1),
         _ => names,
     }

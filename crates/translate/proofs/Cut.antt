@@ -10,7 +10,7 @@ use Rattle.meaning.specs.Terms.{Term}
 use Rattle.type_table.specs.Table.{typeAt, SoundAt, Sound}
 use Rattle.type_table.specs.Columns.{Names, Noted}
 use Rattle.type_table.specs.Laws.{type-before}
-use Rattle.type_check.proofs.NotedLaws.{names-kept, noted-kept}
+use Rattle.row_typing.proofs.NotedLaws.{names-kept, noted-kept}
 
 module _ (T : List ℕ) (m : ℕ) (S : Sound T m) where
   pub cut-length : length (take m T) ≡ m

@@ -16,7 +16,7 @@ use Rattle.meaning.specs.Rows.{allTypeRows, termRows, planRows, allCellsRows, c
 use Rattle.meaning.specs.Translation.{writeTerm, planType, translation}
 use Rattle.syntax.specs.Ranges.{asNatural}
 use Rattle.syntax.specs.Standing.{TermStands}
-use Rattle.syntax.proofs.Steps.{part-all, rows-part}
+use Rattle.syntax.proofs.WalkSteps.{part-all, rows-part}
 use Rattle.syntax.proofs.Front.{part, part-length, head-row}
 use Rattle.type_table.specs.Table.{typeAt}
 use Rattle.type_table.specs.Columns.{Noted}
@@ -27,8 +27,8 @@ use Rattle.emission.specs.Laws.Nodes.{kind-node, type-node, left-node, right-no
 use Rattle.emission.specs.Growth.{Pushed}
 use Rattle.emission.specs.Laws.Growth.{node-pushed}
 use Rattle.emission.specs.Laws.Table.{put-append}
-use Rattle.steps.specs.declared.State.{State}
-use Rattle.walk.specs.Walk.{Stands, Room, nodesWritten, ReadyToWrite}
+use Rattle.clauses.specs.declared.State.{State}
+use Rattle.row_translation.specs.WriteAndUse.{Stands, Room, nodesWritten, ReadyToWrite}
 use Rattle.translate.specs.Entry.{madeRows}
 use Rattle.translate.specs.Making.{cellsAt, PlanNoted, SomePlanNoted}
 

@@ -12,11 +12,15 @@ use lib.ListN.{length, take, drop, set, length-set, length-map}
 use lib.Seq.{sets, sets-eq, take-at}
 use Rattle.refusals.specs.declared.Refusal.{Refusal}
 use Rattle.refusals.specs.declared.Refusal.the-variants.{LoopsLength}
+use Rattle.refusals.specs.declared.Answer.{Answer}
+use Rattle.refusals.specs.declared.Answer.the-variants.{Told, Refused}
+use Rattle.refusals.specs.Answers.{unlessRefused}
 use Rattle.words.specs.Kinds.{Row, rowsOf}
 use Rattle.words.specs.Laws.{rows-length}
 use Rattle.words.specs.declared.Sort.the-variants as sort
 use Rattle.lines.specs.Reading.{kindsOf, numbersOf}
-use Rattle.lines.specs.TableLaws.{rows-again}
+use Rattle.lines.specs.TableLaws.{rows-again, refused-into}
+use Rattle.lines.specs.Lent.{TableInto}
 use Rattle.meaning.specs.Types.{DataType}
 use Rattle.meaning.specs.Terms.{Plan}
 use Rattle.meaning.specs.Typing.{HasType}
@@ -24,8 +28,6 @@ use Rattle.meaning.specs.Limits.{PlanWithin}
 use Rattle.meaning.specs.Rows.{planRows}
 use Rattle.meaning.specs.Translation.{planType}
 use Rattle.meaning.specs.Laws.Typing.{well-typed}
-use Rattle.syntax.specs.declared.Answer.{Answer}
-use Rattle.syntax.specs.declared.Answer.the-variants as walk
 use Rattle.syntax.specs.Walk.{walkTable}
 use Rattle.syntax.specs.Reading.{planOf}
 use Rattle.syntax.specs.Theorems.{all-passed, plan-tree}
@@ -33,35 +35,22 @@ use Rattle.emission.specs.Table.{Table, table, putRow, putRows}
 use Rattle.emission.specs.Laws.Filled.{endOf, rows-fit, rows-too-many}
 use Rattle.loops.specs.Check.{checkTable}
 use Rattle.typing.specs.Check.{Verdict, typed, refused, checkPlan}
-use Rattle.typing.specs.Entry.{answered, checkRows}
-use Rattle.type_check.specs.Typed.{PlanStands, PlanTyped, PlanAnswered}
+use Rattle.typing.specs.Entry.{answered, checkPlanRows}
+use Rattle.row_typing.specs.Typed.{PlanStands, PlanTyped, PlanAnswered}
 use Rattle.typing.specs.Laws.Plans.{plan-accepted}
 use Rattle.typing.specs.Laws.Rows.{walked-rows, unwalked-rows}
-use Rattle.type_check.specs.declared.TypedPlan.{TypedPlan}
-use Rattle.type_check.specs.declared.Typing.the-variants as typing
-use Rattle.translate.specs.declared.Made.{Made}
-use Rattle.translate.specs.declared.Made.the-variants.{Refused}
-use Rattle.translate.specs.Entry.{madeRows, makePlan, afterCheck, lentTable, RowsInto}
+use Rattle.row_typing.specs.declared.TypedPlan.{TypedPlan}
+use Rattle.type_rules.specs.declared.Typing.the-variants as typing
+use Rattle.translate.specs.Entry.{madeRows, makePlan}
 use Rattle.translate.specs.Making.{PlanNoted, byCheck}
 use Rattle.translate.specs.Laws.Answers.{plan-long, writes-asked}
 use Rattle.translate.proofs.Cut.{cut-sound, cut-names, cut-noted}
 
--- a refusal puts no rows
-pub refused-into : (v : Made) (R : List Row) (q : Refusal) (ks : List ℕ) (ns : List ℤ) → Refused q ≡ v → RowsInto v R ks ns (Refused q) ks ns
-refused-into v R q ks ns e = record {
-  answer = ap (λ (x : Made). lentTable x (length ks) (length ns)) e;
-  kinds-left = refl;
-  numbers-left = refl;
-}
-
-pub refused-as : (v : Made) (R : List Row) (r : Made) (q : Refusal) (ks : List ℕ) (ns : List ℤ) → r ≡ Refused q → r ≡ v → RowsInto v R ks ns r ks ns
-refused-as v R r q ks ns f e = subst (λ (x : Made). RowsInto v R ks ns x ks ns) (sym f) (refused-into v R q ks ns (sym f ∙ e))
-
 -- the same answer and the same rows
-pub into-as : {v w : Made} {R S : List Row} {ks ks′ : List ℕ} {ns ns′ : List ℤ} {r : Made} → v ≡ w → R ≡ S
-    → RowsInto v R ks ns r ks′ ns′ → RowsInto w S ks ns r ks′ ns′
+pub into-as : {v w : Answer} {R S : List Row} {ks ks′ : List ℕ} {ns ns′ : List ℤ} {r : Answer} → v ≡ w → R ≡ S
+    → TableInto v R ks ns r ks′ ns′ → TableInto w S ks ns r ks′ ns′
 into-as {v} {w} {R} {S} {ks} {ks′} {ns} {ns′} {r} e f I =
-    subst (λ (T : List Row). RowsInto w T ks ns r ks′ ns′) f (subst (λ (x : Made). RowsInto x R ks ns r ks′ ns′) e I)
+    subst (λ (T : List Row). TableInto w T ks ns r ks′ ns′) f (subst (λ (x : Answer). TableInto x R ks ns r ks′ ns′) e I)
 
 -- ---- rows that stand at the front
 
@@ -113,10 +102,9 @@ module _ (ks : List ℕ) (ns : List ℤ) (T C U D : List ℕ) (r : TypedPlan) (A
           absurd (let clash : _≡_ {A = ℕ} 0 1 = cc in omega arith)
 
   pub plan-refused : (q : Refusal) (lk : List ℕ) (ln : List ℤ) → r .typing ≡ typing.Refused q
-      → RowsInto (afterCheck (answered (length ks) (checkPlan P)) (makePlan P)) (madeRows P) lk ln (Refused q) lk ln
+      → TableInto (unlessRefused (answered (length ks) (checkPlan P)) (makePlan P)) (madeRows P) lk ln (Refused q) lk ln
   plan-refused q lk ln e =
-      refused-into _ (madeRows P) q lk ln
-      (ap (λ (v : Verdict). afterCheck (answered (length ks) v) (makePlan P)) (sym (types-refused q e)))
+      refused-into (madeRows P) lk ln (ap (λ (v : Verdict). unlessRefused (answered (length ks) v) (makePlan P)) (sym (types-refused q e))) refl
 
   pub types-found : (p m l : ℕ) → r .typing ≡ typing.Typed p m l
       → (t : DataType) × (checkPlan P ≡ typed t) × PlanTyped T C U D P t (r .inputs) (r .row) p l
@@ -162,8 +150,8 @@ module _ (ks : List ℕ) (ns : List ℤ) (P : Plan) (S : PlanStands ks ns P) (si
     abbrev R : List Row
     R = madeRows P
 
-    limits : (v : Made) → v ≡ makePlan P → v ≡ afterCheck (answered (length ks) (checkPlan P)) (makePlan P)
-    limits v h = h ∙ ap (λ (x : Verdict). afterCheck (answered (length ks) x) (makePlan P)) (sym e)
+    limits : (v : Answer) → v ≡ makePlan P → v ≡ unlessRefused (answered (length ks) (checkPlan P)) (makePlan P)
+    limits v h = h ∙ ap (λ (x : Verdict). unlessRefused (answered (length ks) x) (makePlan P)) (sym e)
 
     -- they fit, or the end is past the last row
     fits-end : length R ≤ 4096 → end ≡ length R
@@ -180,10 +168,9 @@ module _ (ks : List ℕ) (ns : List ℤ) (P : Plan) (S : PlanStands ks ns P) (si
         go (no h) = f (omega (arith, h))
 
     pub loops-long : (lk : List ℕ) (ln : List ℤ) → 4096 < end
-        → RowsInto (afterCheck (answered (length ks) (checkPlan P)) (makePlan P)) R lk ln (Refused LoopsLength) lk ln
+        → TableInto (unlessRefused (answered (length ks) (checkPlan P)) (makePlan P)) R lk ln (Refused LoopsLength) lk ln
     loops-long lk ln h =
-        refused-into _ R LoopsLength lk ln
-        (by-length (λ g. absurd (omega (arith, h, fits-end g))) (λ g. limits (Refused LoopsLength) (sym (plan-long P g))))
+        refused-into R lk ln (by-length (λ g. absurd (omega (arith, h, fits-end g))) (λ g. limits (Refused LoopsLength) (sym (plan-long P g)))) refl
 
     module _ (h : end ≤ 4096) where
       short : length R ≤ 4096
@@ -204,9 +191,9 @@ module _ (ks : List ℕ) (ns : List ℤ) (P : Plan) (S : PlanStands ks ns P) (si
           let l : length (numbersOf R) ≡ length R = length-map R (λ (r : Row). r .1) in
           ap₂ take (fits-end short ∙ sym l) c ∙ front n (numbersOf R) (omega (arith, l, ln, short))
 
-      pub loops-made : {lk lk′ : List ℕ} {ln ln′ : List ℤ} {r : Made}
-          → RowsInto (byCheck (length (take end k′)) (checkTable (rowsOf (take end k′) (take end n′)))) (rowsOf (take end k′) (take end n′)) lk ln r lk′ ln′
-          → RowsInto (afterCheck (answered (length ks) (checkPlan P)) (makePlan P)) R lk ln r lk′ ln′
+      pub loops-made : {lk lk′ : List ℕ} {ln ln′ : List ℤ} {r : Answer}
+          → TableInto (byCheck (length (take end k′)) (checkTable (rowsOf (take end k′) (take end n′)))) (rowsOf (take end k′) (take end n′)) lk ln r lk′ ln′
+          → TableInto (unlessRefused (answered (length ks) (checkPlan P)) (makePlan P)) R lk ln r lk′ ln′
       loops-made I =
           let l : length (take end k′) ≡ length R = ap length kinds-front ∙ length-map R (λ (x : Row). x .0) in
           let a : rowsOf (take end k′) (take end n′) ≡ R = ap₂ rowsOf kinds-front numbers-front ∙ rows-again R in
@@ -219,23 +206,23 @@ module _ (ks : List ℕ) (ns : List ℤ) (sizes : length ks ≡ length ns) (a : 
   abbrev rows : List Row
   rows = rowsOf ks ns
 
-  abbrev verdict : Made
-  verdict = afterCheck (checkRows rows) (makePlan (planOf rows))
+  abbrev verdict : Answer
+  verdict = unlessRefused (checkPlanRows rows) (makePlan (planOf rows))
 
-  pub rows-refused : (q : Refusal) (lk : List ℕ) (ln : List ℤ) → a ≡ walk.Refused q → RowsInto verdict (madeRows (planOf rows)) lk ln (Refused q) lk ln
+  pub rows-refused : (q : Refusal) (lk : List ℕ) (ln : List ℤ) → a ≡ Refused q → TableInto verdict (madeRows (planOf rows)) lk ln a lk ln
   rows-refused q lk ln f =
-      refused-into verdict (madeRows (planOf rows)) q lk ln
-      (ap (λ (x : Answer). afterCheck x (makePlan (planOf rows))) (sym (unwalked-rows rows q (sym e ∙ f))))
+      refused-into (madeRows (planOf rows)) lk ln
+      (f ∙ ap (λ (x : Answer). unlessRefused x (makePlan (planOf rows))) (sym (unwalked-rows rows q (sym e ∙ f)))) f
 
-  module _ (m : ℕ) (f : a ≡ walk.Passed m) where
+  module _ (m : ℕ) (f : a ≡ Told m) where
     pub rows-stand : PlanStands ks ns (planOf rows)
     rows-stand = let p = plan-tree rows (all-passed sort.Plan rows m (sym e ∙ f)) in (p .1, p .0)
 
-    pub rows-made : {lk lk′ : List ℕ} {ln ln′ : List ℤ} {r : Made}
-        → RowsInto (afterCheck (answered (length ks) (checkPlan (planOf rows))) (makePlan (planOf rows))) (madeRows (planOf rows)) lk ln r lk′ ln′
-        → RowsInto verdict (madeRows (planOf rows)) lk ln r lk′ ln′
+    pub rows-made : {lk lk′ : List ℕ} {ln ln′ : List ℤ} {r : Answer}
+        → TableInto (unlessRefused (answered (length ks) (checkPlan (planOf rows))) (makePlan (planOf rows))) (madeRows (planOf rows)) lk ln r lk′ ln′
+        → TableInto verdict (madeRows (planOf rows)) lk ln r lk′ ln′
     rows-made I =
         let l : length ks ≡ length rows = omega (arith, rows-length ks ns, sizes) in
-        let c : answered (length ks) (checkPlan (planOf rows)) ≡ checkRows rows =
+        let c : answered (length ks) (checkPlan (planOf rows)) ≡ checkPlanRows rows =
         ap (λ (i : ℕ). answered i (checkPlan (planOf rows))) l ∙ sym (walked-rows rows (all-passed sort.Plan rows m (sym e ∙ f))) in
-        into-as (ap (λ (x : Answer). afterCheck x (makePlan (planOf rows))) c) refl I
+        into-as (ap (λ (x : Answer). unlessRefused x (makePlan (planOf rows))) c) refl I

@@ -5,6 +5,8 @@ use mathlib.Core.List.{List, [], map}
 use Prim.Native.Nat.{ℕ, _+_, _≤_, _<_}
 use lib.IntN.{ℤ}
 use lib.ListN.{length, getD, drop}
+use Rattle.refusals.specs.declared.Answer.{Answer}
+use Rattle.refusals.specs.declared.Answer.the-variants.{Told, Refused}
 use Rattle.meaning.specs.Types.{number, cells}
 use Rattle.meaning.specs.Terms.{Plan}
 use Rattle.meaning.specs.Rows.{allTypeRows}
@@ -14,9 +16,7 @@ use Rattle.type_table.specs.Columns.{Names, Noted}
 use Rattle.loops.specs.declared.Checked.{Checked}
 use Rattle.loops.specs.declared.Checked.the-variants as check
 use Rattle.loops.specs.declared.Checked.the-variants.{Passes}
-use Rattle.type_check.specs.Typed.{PlanStands}
-use Rattle.translate.specs.declared.Made.{Made}
-use Rattle.translate.specs.declared.Made.the-variants.{Rows, Refused}
+use Rattle.row_typing.specs.Typed.{PlanStands}
 
 -- the cells of the types at places of the table Y
 abbrev pub cellsAt : List ℕ → List ℕ → List ℕ
@@ -41,6 +41,6 @@ pub record SomePlanNoted (ks : List ℕ) (ns : List ℤ) (C Y I : List ℕ) (row
   pub noted : PlanNoted ks ns C Y I row place plan
 
 -- so many rows, if the check of loops lets them pass
-abbrev pub byCheck : ℕ → Checked → Made
-byCheck n (Passes writes need) = Rows n
+abbrev pub byCheck : ℕ → Checked → Answer
+byCheck n (Passes writes need) = Told n
 byCheck n (check.Refused q) = Refused q

@@ -2,47 +2,33 @@
 // touched before the last "no" has been ruled out ([10.17]).
 ghost use Rattle.words.specs.Words.{words};
 ghost use Rattle.translate.specs.Contracts.{TranslatesRows, TranslatesText};
-use lines::Printing;
-use lines::Reading;
-use refusals::Refusal;
+use refusals::Answer;
 
 mod making;
 mod tables;
 
-// How many rows the loops have that were made from a plan; or the first "no".
-pub enum Made {
-    Rows(usize),
-    Refused(Refusal),
-}
-
-// [10.16] Translates a plan's text; the rows of the loops go to the front of the lent table.
-pub fn translate_rows(text: &[u8], kinds: &mut [u8], numbers: &mut [i32]) -> Made
+// [10.16] Translates a plan's text; the rows of the loops go to the front of the lent table: how many they are, or the first "no".
+pub fn translate_rows(text: &[u8], kinds: &mut [u8], numbers: &mut [i32]) -> Answer
     ensures { λ r. ⌜ TranslatesRows words (now (text .entry)) (now (kinds .entry)) (now (numbers .entry)) r (now (kinds .exit)) (now (numbers .exit)) ⌝ }
 {
     let mut plan_kinds = [0u8; 256];
     let mut plan_numbers = [0i32; 256];
     let read = lines::read_plan(text, &mut plan_kinds, &mut plan_numbers);
-    let Reading::Rows(rows) = read else {
-        let Reading::Refused(refusal) = read else {
-            return Made::Refused(Refusal::TextForm);
-        };
-        return Made::Refused(refusal);
+    let Answer::Told(rows) = read else {
+        return read;
     };
     making::make_rows(&plan_kinds[..rows], &plan_numbers[..rows], kinds, numbers)
 }
 
-// [10.16] Translates a plan's text; the text of the loops goes to the front of the lent one.
-pub fn translate_text(text: &[u8], lent: &mut [u8]) -> Printing
+// [10.16] Translates a plan's text; the text of the loops goes to the front of the lent one: how many bytes it has, or the first "no".
+pub fn translate_text(text: &[u8], lent: &mut [u8]) -> Answer
     ensures { λ r. ⌜ TranslatesText words (now (text .entry)) (now (lent .entry)) r (now (lent .exit)) ⌝ }
 {
     let mut kinds = [0u8; 4096];
     let mut numbers = [0i32; 4096];
     let made = translate_rows(text, &mut kinds, &mut numbers);
-    let Made::Rows(rows) = made else {
-        let Made::Refused(refusal) = made else {
-            return Printing::Refused(Refusal::LoopsLength);
-        };
-        return Printing::Refused(refusal);
+    let Answer::Told(rows) = made else {
+        return made;
     };
     lines::print(&kinds[..rows], &numbers[..rows], lent)
 }

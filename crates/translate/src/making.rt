@@ -3,7 +3,9 @@ ghost use mathlib.Core.Path.{_≡_};
 ghost use Prim.Native.Nat.{ℕ, _≤_, _<_};
 ghost use lib.IntN.{pos};
 ghost use lib.ListN.{length, getD};
+ghost use Rattle.refusals.specs.Answers.{unlessRefused};
 ghost use Rattle.words.specs.Kinds.{rowsOf, word-cells};
+ghost use Rattle.lines.specs.Lent.{TableInto};
 ghost use Rattle.meaning.specs.Types.{cells as cellsOf};
 ghost use Rattle.meaning.specs.Terms.{Plan};
 ghost use Rattle.meaning.specs.Rows.{allCellsRows};
@@ -12,22 +14,21 @@ ghost use Rattle.type_table.specs.Table.{typeAt, Sound};
 ghost use Rattle.emission.specs.Table.{table, putRow, putRows};
 ghost use Rattle.loops.specs.Check.{checkTable};
 ghost use Rattle.typing.specs.Check.{checkPlan};
-ghost use Rattle.typing.specs.Entry.{answered, checkRows};
-ghost use Rattle.type_check.specs.Typed.{PlanStands};
-ghost use Rattle.translate.specs.Entry.{madeRows, makePlan, afterCheck, RowsInto};
+ghost use Rattle.typing.specs.Entry.{answered, checkPlanRows};
+ghost use Rattle.row_typing.specs.Typed.{PlanStands};
+ghost use Rattle.translate.specs.Entry.{madeRows, makePlan};
 ghost use Rattle.translate.specs.Making.{cellsAt, PlanNoted, SomePlanNoted, byCheck};
-use crate::Made;
 use crate::tables;
+use clauses::State;
 use emission::references;
 use emission::rows::MOST_ROWS;
 use emission::rows::put_count;
 use loops::Checked;
+use refusals::Answer;
 use refusals::Refusal;
-use steps::State;
-use syntax::Answer;
+use row_translation::writes;
 use syntax::ranges;
-use type_check::Typing;
-use walk::writes;
+use type_rules::Typing;
 use words::kinds::*;
 
 // Node 0 stands for nothing; node 1 is the output.
@@ -95,8 +96,8 @@ fn put_loops(
     let first = put_count(outkinds, outnumbers, 0, WORD_LOOPS, count as u16);
     let last = put_inputs(types, &inputs[..count], outkinds, outnumbers, first);
     let to = put_cells(types, outkinds, outnumbers, place, last);
-    let mut nodes = [0u64; 4096];
-    references::push_stored(&mut nodes, OUTPUT, WORD_OUT, 0, place);
+    let mut references = [0u64; 4096];
+    references::push_stored(&mut references, OUTPUT, WORD_OUT, 0, place);
     let state = State {
         counters: 0,
         regions: 0,
@@ -111,7 +112,7 @@ fn put_loops(
         &column[row..],
         types,
         numbers,
-        &mut nodes,
+        &mut references,
         outkinds,
         outnumbers,
         OUTPUT,
@@ -121,85 +122,78 @@ fn put_loops(
 }
 
 // [10.11], put to made rows: their writes are counted by the check of loops ([7.3]).
-fn ask_writes(kinds: &[u8], numbers: &[i32]) -> Made
+fn ask_writes(kinds: &[u8], numbers: &[i32]) -> Answer
     ensures { λ r. ⌜ r ≡ byCheck (length (now (kinds .entry))) (checkTable (rowsOf (now (kinds .entry)) (now (numbers .entry)))) ⌝ }
 {
     let checked = loops::check_table(kinds, numbers);
-    let Checked::Passes { writes: _, need: _ } = checked else {
-        let Checked::Refused(refusal) = checked else {
-            return Made::Refused(Refusal::WriteCount);
-        };
-        return Made::Refused(refusal);
-    };
-    Made::Rows(kinds.len())
+    match checked {
+        Checked::Refused(refusal) => Answer::Refused(refusal),
+        Checked::Passes { writes: _, need: _ } => Answer::Told(kinds.len()),
+    }
 }
 
 // [10.11] and [10.12] of made rows; then they are put at the front of the lent table.
-fn hand_over(kinds: &[u8], numbers: &[i32], lentkinds: &mut [u8], lentnumbers: &mut [i32]) -> Made
+fn hand_over(kinds: &[u8], numbers: &[i32], lentkinds: &mut [u8], lentnumbers: &mut [i32]) -> Answer
     requires { ⌜ length (now kinds) ≡ length (now numbers) ⌝ }
-    ensures { λ r. ⌜ RowsInto (byCheck (length (now (kinds .entry))) (checkTable (rowsOf (now (kinds .entry)) (now (numbers .entry))))) (rowsOf (now (kinds .entry)) (now (numbers .entry)))
+    ensures { λ r. ⌜ TableInto (byCheck (length (now (kinds .entry))) (checkTable (rowsOf (now (kinds .entry)) (now (numbers .entry))))) (rowsOf (now (kinds .entry)) (now (numbers .entry)))
         (now (lentkinds .entry)) (now (lentnumbers .entry)) r (now (lentkinds .exit)) (now (lentnumbers .exit)) ⌝ }
 {
-    let asked = ask_writes(kinds, numbers);
-    let Made::Rows(rows) = asked else {
+    let asked = lines::ask_room(
+        ask_writes(kinds, numbers),
+        lentkinds.len(),
+        lentnumbers.len(),
+    );
+    let Answer::Told(_) = asked else {
         return asked;
     };
-    if lentkinds.len() < rows {
-        return Made::Refused(Refusal::LentSize);
-    }
-    if lentnumbers.len() < rows {
-        return Made::Refused(Refusal::LentSize);
-    }
     tables::put_kinds(kinds, lentkinds);
     tables::put_numbers(numbers, lentnumbers);
     asked
 }
 
 // Questions 7, 8 and 10 to 12 of rows that walk well.
-fn make_plan(kinds: &[u8], numbers: &[i32], lentkinds: &mut [u8], lentnumbers: &mut [i32]) -> Made
+fn make_plan(kinds: &[u8], numbers: &[i32], lentkinds: &mut [u8], lentnumbers: &mut [i32]) -> Answer
     requires { ⌜ (length (now kinds) ≡ length (now numbers)) × (length (now kinds) ≤ 256) × ((P : Plan) × PlanStands (now kinds) (now numbers) P) ⌝ }
     ensures { λ r. ⌜ ((P : Plan) → PlanStands (now (kinds .entry)) (now (numbers .entry)) P
-        → RowsInto (afterCheck (answered (length (now (kinds .entry))) (checkPlan P)) (makePlan P)) (madeRows P)
+        → TableInto (unlessRefused (answered (length (now (kinds .entry))) (checkPlan P)) (makePlan P)) (madeRows P)
         (now (lentkinds .entry)) (now (lentnumbers .entry)) r (now (lentkinds .exit)) (now (lentnumbers .exit))) ⌝ }
 {
-    let mut nodes = [0u64; 512];
+    let mut types = [0u64; 512];
     let mut column = [0u16; 256];
-    let plan = type_check::type_plan(kinds, numbers, &mut nodes, &mut column);
+    let plan = row_typing::type_plan(kinds, numbers, &mut types, &mut column);
     let typing = plan.typing;
-    let Typing::Typed {
-        place,
-        rows: _,
-        len,
-    } = typing
-    else {
-        let Typing::Refused(refusal) = typing else {
-            return Made::Refused(Refusal::LoopsLength);
-        };
-        return Made::Refused(refusal);
-    };
-    let inputs = plan.inputs;
-    let mut made_kinds = [0u8; 4096];
-    let mut made_numbers = [0i32; 4096];
-    let end = put_loops(
-        kinds,
-        numbers,
-        &column,
-        &nodes[..len],
-        &inputs,
-        plan.row,
-        place,
-        &mut made_kinds,
-        &mut made_numbers,
-    );
-    if MOST_ROWS < end {
-        return Made::Refused(Refusal::LoopsLength);
+    match typing {
+        Typing::Refused(refusal) => Answer::Refused(refusal),
+        Typing::Typed {
+            place,
+            rows: _,
+            len,
+        } => {
+            let inputs = plan.inputs;
+            let mut made_kinds = [0u8; 4096];
+            let mut made_numbers = [0i32; 4096];
+            let end = put_loops(
+                kinds,
+                numbers,
+                &column,
+                &types[..len],
+                &inputs,
+                plan.row,
+                place,
+                &mut made_kinds,
+                &mut made_numbers,
+            );
+            if MOST_ROWS < end {
+                return Answer::Refused(Refusal::LoopsLength);
+            }
+            hand_over(
+                &made_kinds[..end],
+                &made_numbers[..end],
+                lentkinds,
+                lentnumbers,
+            )
+        }
     }
-    hand_over(
-        &made_kinds[..end],
-        &made_numbers[..end],
-        lentkinds,
-        lentnumbers,
-    )
 }
 
 // Questions 4 to 8 and 10 to 12 of a plan's rows.
@@ -208,18 +202,15 @@ pub fn make_rows(
     numbers: &[i32],
     lentkinds: &mut [u8],
     lentnumbers: &mut [i32],
-) -> Made
+) -> Answer
     requires { ⌜ (length (now kinds) ≡ length (now numbers)) × (length (now kinds) ≤ 256) ⌝ }
-    ensures { λ r. ⌜ RowsInto (afterCheck (checkRows (rowsOf (now (kinds .entry)) (now (numbers .entry)))) (makePlan (planOf (rowsOf (now (kinds .entry)) (now (numbers .entry))))))
+    ensures { λ r. ⌜ TableInto (unlessRefused (checkPlanRows (rowsOf (now (kinds .entry)) (now (numbers .entry)))) (makePlan (planOf (rowsOf (now (kinds .entry)) (now (numbers .entry))))))
         (madeRows (planOf (rowsOf (now (kinds .entry)) (now (numbers .entry)))))
         (now (lentkinds .entry)) (now (lentnumbers .entry)) r (now (lentkinds .exit)) (now (lentnumbers .exit)) ⌝ }
 {
     let walked = syntax::walk_plan(kinds, numbers);
-    let Answer::Passed(_) = walked else {
-        let Answer::Refused(refusal) = walked else {
-            return Made::Refused(Refusal::LoopsLength);
-        };
-        return Made::Refused(refusal);
+    let Answer::Told(_) = walked else {
+        return walked;
     };
     make_plan(kinds, numbers, lentkinds, lentnumbers)
 }

@@ -60,36 +60,36 @@ fn right_in(node: u64) -> usize
 }
 
 // [3.2] The cells of the type at a place.
-pub fn cells(nodes: &[u64], place: usize) -> usize
-    requires { ⌜ Sound (now nodes) (suc place) ⌝ }
-    ensures { λ r. ⌜ r ≡ cellsOf (typeAt (now (nodes .entry)) place) ⌝ }
+pub fn cells(types: &[u64], place: usize) -> usize
+    requires { ⌜ Sound (now types) (suc place) ⌝ }
+    ensures { λ r. ⌜ r ≡ cellsOf (typeAt (now (types .entry)) place) ⌝ }
 {
-    (nodes[place] / 4294967296 % 65536) as usize
+    (types[place] / 4294967296 % 65536) as usize
 }
 
 // [3.3] Its levels.
-pub fn levels(nodes: &[u64], place: usize) -> usize
-    requires { ⌜ Sound (now nodes) (suc place) ⌝ }
-    ensures { λ r. ⌜ r ≡ levelsOf (typeAt (now (nodes .entry)) place) ⌝ }
+pub fn levels(types: &[u64], place: usize) -> usize
+    requires { ⌜ Sound (now types) (suc place) ⌝ }
+    ensures { λ r. ⌜ r ≡ levelsOf (typeAt (now (types .entry)) place) ⌝ }
 {
-    (nodes[place] / 281474976710656 % 256) as usize
+    (types[place] / 281474976710656 % 256) as usize
 }
 
 // Whether it is the type of numbers.
-pub fn is_number(nodes: &[u64], place: usize) -> bool
-    requires { ⌜ Sound (now nodes) (suc place) ⌝ }
-    ensures yes { λ r. ⌜ (r ≡ true → typeAt (now (nodes .entry)) place ≡ number) ⌝ }
-    ensures not { λ r. ⌜ (r ≡ false → typeAt (now (nodes .entry)) place ≡ number → ⊥) ⌝ }
+pub fn is_number(types: &[u64], place: usize) -> bool
+    requires { ⌜ Sound (now types) (suc place) ⌝ }
+    ensures yes { λ r. ⌜ (r ≡ true → typeAt (now (types .entry)) place ≡ number) ⌝ }
+    ensures not { λ r. ⌜ (r ≡ false → typeAt (now (types .entry)) place ≡ number → ⊥) ⌝ }
 {
-    kind_in(nodes[place]) == NUMBER
+    kind_in(types[place]) == NUMBER
 }
 
 // Its length and element, where it is an array.
-pub fn as_array(nodes: &[u64], place: usize) -> ArrayShape
-    requires { ⌜ Sound (now nodes) (suc place) ⌝ }
-    ensures { λ r. ⌜ ArrayTold (now (nodes .entry)) place r ⌝ }
+pub fn as_array(types: &[u64], place: usize) -> ArrayShape
+    requires { ⌜ Sound (now types) (suc place) ⌝ }
+    ensures { λ r. ⌜ ArrayTold (now (types .entry)) place r ⌝ }
 {
-    let node = nodes[place];
+    let node = types[place];
     if kind_in(node) != ARRAY {
         return ArrayShape::NoArray;
     }
@@ -100,11 +100,11 @@ pub fn as_array(nodes: &[u64], place: usize) -> ArrayShape
 }
 
 // Its two types, where it is a pair.
-pub fn as_pair(nodes: &[u64], place: usize) -> PairShape
-    requires { ⌜ Sound (now nodes) (suc place) ⌝ }
-    ensures { λ r. ⌜ PairTold (now (nodes .entry)) place r ⌝ }
+pub fn as_pair(types: &[u64], place: usize) -> PairShape
+    requires { ⌜ Sound (now types) (suc place) ⌝ }
+    ensures { λ r. ⌜ PairTold (now (types .entry)) place r ⌝ }
 {
-    let node = nodes[place];
+    let node = types[place];
     if kind_in(node) < PAIR {
         return PairShape::NoPair;
     }
@@ -115,17 +115,17 @@ pub fn as_pair(nodes: &[u64], place: usize) -> PairShape
 }
 
 // [3.5] Whether the types at two places are the same.
-pub fn same(nodes: &[u64], a: usize, b: usize) -> bool
-    requires { ⌜ Sound (now nodes) (suc a) × Sound (now nodes) (suc b) ⌝ }
-    ensures yes { λ r. ⌜ (r ≡ true → typeAt (now (nodes .entry)) a ≡ typeAt (now (nodes .entry)) b) ⌝ }
-    ensures not { λ r. ⌜ (r ≡ false → typeAt (now (nodes .entry)) a ≡ typeAt (now (nodes .entry)) b → ⊥) ⌝ }
+pub fn same(types: &[u64], a: usize, b: usize) -> bool
+    requires { ⌜ Sound (now types) (suc a) × Sound (now types) (suc b) ⌝ }
+    ensures yes { λ r. ⌜ (r ≡ true → typeAt (now (types .entry)) a ≡ typeAt (now (types .entry)) b) ⌝ }
+    ensures not { λ r. ⌜ (r ≡ false → typeAt (now (types .entry)) a ≡ typeAt (now (types .entry)) b → ⊥) ⌝ }
 {
-    let arrays = as_array(nodes, a);
+    let arrays = as_array(types, a);
     if let ArrayShape::Array {
         length: m,
         element: s,
     } = arrays {
-        let other = as_array(nodes, b);
+        let other = as_array(types, b);
         let ArrayShape::Array {
             length: n,
             element: t,
@@ -136,14 +136,14 @@ pub fn same(nodes: &[u64], a: usize, b: usize) -> bool
         if m != n {
             return false;
         }
-        return same(nodes, s, t);
+        return same(types, s, t);
     }
-    let pairs = as_pair(nodes, a);
+    let pairs = as_pair(types, a);
     if let PairShape::Pair {
         first: s,
         second: t,
     } = pairs {
-        let other = as_pair(nodes, b);
+        let other = as_pair(types, b);
         let PairShape::Pair {
             first: u,
             second: v,
@@ -151,12 +151,12 @@ pub fn same(nodes: &[u64], a: usize, b: usize) -> bool
         else {
             return false;
         };
-        if !same(nodes, s, u) {
+        if !same(types, s, u) {
             return false;
         }
-        return same(nodes, t, v);
+        return same(types, t, v);
     }
-    is_number(nodes, b)
+    is_number(types, b)
 }
 
 fn greater(a: usize, b: usize) -> usize
@@ -169,11 +169,11 @@ fn greater(a: usize, b: usize) -> usize
 }
 
 // Puts the type of numbers at the table's first place.
-pub fn put_number(nodes: &mut [u64])
-    requires { ⌜ 0 < length (now nodes) ⌝ }
-    ensures { λ _. ⌜ Put (now (nodes .entry)) (now (nodes .exit)) 0 number ⌝ }
+pub fn put_number(types: &mut [u64])
+    requires { ⌜ 0 < length (now types) ⌝ }
+    ensures { λ _. ⌜ Put (now (types .entry)) (now (types .exit)) 0 number ⌝ }
 {
-    nodes[NUMBER_TYPE] = node(NUMBER, 1, 1, 0, 0);
+    types[NUMBER_TYPE] = node(NUMBER, 1, 1, 0, 0);
 }
 
 fn array_cells(count: usize, each: usize) -> usize
@@ -184,24 +184,24 @@ fn array_cells(count: usize, each: usize) -> usize
 }
 
 // Puts the type of arrays of this length and element at place `len`, the first that is free.
-pub fn put_array(nodes: &mut [u64], len: usize, count: usize, element: usize)
-    requires { ⌜ Sound (now nodes) len × (len < length (now nodes)) × (len < 65536) × (element < len)
-        × (1 ≤ count) × (count * cellsOf (typeAt (now nodes) element) ≤ 4096) × (levelsOf (typeAt (now nodes) element) < 8) ⌝ }
-    ensures { λ _. ⌜ Put (now (nodes .entry)) (now (nodes .exit)) len (arrayType count (typeAt (now (nodes .entry)) element)) ⌝ }
+pub fn put_array(types: &mut [u64], len: usize, count: usize, element: usize)
+    requires { ⌜ Sound (now types) len × (len < length (now types)) × (len < 65536) × (element < len)
+        × (1 ≤ count) × (count * cellsOf (typeAt (now types) element) ≤ 4096) × (levelsOf (typeAt (now types) element) < 8) ⌝ }
+    ensures { λ _. ⌜ Put (now (types .entry)) (now (types .exit)) len (arrayType count (typeAt (now (types .entry)) element)) ⌝ }
 {
-    let levels = 1 + levels(nodes, element);
-    let cells = array_cells(count, cells(nodes, element));
-    nodes[len] = node(ARRAY, levels, cells, count, element);
+    let levels = 1 + levels(types, element);
+    let cells = array_cells(count, cells(types, element));
+    types[len] = node(ARRAY, levels, cells, count, element);
 }
 
 // Puts the type of pairs of these two at place `len`, the first that is free.
-pub fn put_pair(nodes: &mut [u64], len: usize, first: usize, second: usize)
-    requires { ⌜ Sound (now nodes) len × (len < length (now nodes)) × (len < 65536) × (first < len) × (second < len)
-        × (cellsOf (typeAt (now nodes) first) + cellsOf (typeAt (now nodes) second) ≤ 4096)
-        × (max (levelsOf (typeAt (now nodes) first)) (levelsOf (typeAt (now nodes) second)) < 8) ⌝ }
-    ensures { λ _. ⌜ Put (now (nodes .entry)) (now (nodes .exit)) len (DataType.pair (typeAt (now (nodes .entry)) first) (typeAt (now (nodes .entry)) second)) ⌝ }
+pub fn put_pair(types: &mut [u64], len: usize, first: usize, second: usize)
+    requires { ⌜ Sound (now types) len × (len < length (now types)) × (len < 65536) × (first < len) × (second < len)
+        × (cellsOf (typeAt (now types) first) + cellsOf (typeAt (now types) second) ≤ 4096)
+        × (max (levelsOf (typeAt (now types) first)) (levelsOf (typeAt (now types) second)) < 8) ⌝ }
+    ensures { λ _. ⌜ Put (now (types .entry)) (now (types .exit)) len (DataType.pair (typeAt (now (types .entry)) first) (typeAt (now (types .entry)) second)) ⌝ }
 {
-    let levels = 1 + greater(levels(nodes, first), levels(nodes, second));
-    let cells = cells(nodes, first) + cells(nodes, second);
-    nodes[len] = node(PAIR, levels, cells, first, second);
+    let levels = 1 + greater(levels(types, first), levels(types, second));
+    let cells = cells(types, first) + cells(types, second);
+    types[len] = node(PAIR, levels, cells, first, second);
 }

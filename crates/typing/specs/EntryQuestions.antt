@@ -1,12 +1,13 @@
 -- Questions 1 to 8 as one list for a text, and 2 and 4 to 8 as one for rows, in the order in which they are put: [10.16]. That the check
 -- of a text or of rows is the first "no" of this list is said by `Theorems`. Definitions only; assumes nothing.
-use mathlib.Core.Bool.{Bool, true, false, not}
+use mathlib.Core.Bool.{Bool, true, false}
 use mathlib.Core.List.{List, [], _∷_, _++_}
 use Prim.Native.Nat.{ℕ, suc, _+_}
-use lib.Dec.{leb, ltb}
+use lib.Dec.{leb}
 use lib.ListN.{length}
 use Rattle.refusals.specs.declared.Refusal.the-variants.{TextForm, LineForm, LineCount, RowDue, NumberRange, NameCount}
-use Rattle.words.specs.Kinds.{Row, word-rest}
+use Rattle.words.specs.Kinds.{Row}
+use Rattle.words.specs.Groups.{isListed}
 use Rattle.words.specs.Words.{lookUp, operandsOf}
 use Rattle.words.specs.declared.Found.{Found}
 use Rattle.words.specs.declared.Operands.{Operands}
@@ -72,7 +73,7 @@ walkQuestions p (d ∷ ds) (r ∷ rs) =
 -- [10.2] of a table that was not read from a text: a text's kinds are words'
 unfoldable pub kindQuestions : ℕ → List Row → List Question
 kindQuestions p [] = []
-kindQuestions p (r ∷ rs) = question (not (ltb word-rest (r .0))) (LineForm (suc p)) ∷ kindQuestions (suc p) rs
+kindQuestions p (r ∷ rs) = question (isListed (r .0)) (LineForm (suc p)) ∷ kindQuestions (suc p) rs
 
 -- ---- all of them
 

@@ -1,4 +1,4 @@
--- The cards that the check of a plan answers [15.2], and examples of questions 7 and 8, computed on `checkText` from their texts.
+-- The cards that the check of a plan answers [15.2], and examples of questions 7 and 8, computed on `checkPlanText` from their texts.
 -- Facts about the definitions, none of them a definition to believe; assumes nothing.
 use mathlib.Core.Path.{_≡_, refl}
 use mathlib.Core.Bool.{cond}
@@ -6,21 +6,22 @@ use mathlib.Core.List.{List, [], _∷_, _++_, map}
 use Prim.Native.Nat.{ℕ}
 use Prim.Native.String.{String}
 use lib.Dec.{eqb}
-use Rattle.refusals.specs.Refusals.{numberOf, lineOf}
+use Rattle.refusals.specs.Refusals.{refusalNumber, refusalLine}
+use Rattle.refusals.specs.declared.Answer.{Answer}
+use Rattle.refusals.specs.declared.Answer.the-variants.{Told, Refused}
 use Rattle.words.specs.Words.{bytes, table, words, sameLetters, lookFrom, operandsOf}
-use Rattle.numerals.specs.Numerals.{allDigits, value, leadingZero, unsigned, notBelowZero, belowZero, numberOf as numeralOf}
+use Rattle.numerals.specs.Numerals.{allDigits, value, leadingZero, unsigned, notBelowZero, belowZero, numeralOf as numeralOf}
 use Rattle.texts.specs.Texts.{linesOf, placeOf}
 use Rattle.lines.specs.Reading.{lineOf as rowOf, rowsIn, formed, reading}
 use Rattle.meaning.specs.Rows.{typeRows, allTypeRows, termRows}
-use Rattle.syntax.specs.declared.Answer.{Answer}
-use Rattle.syntax.specs.declared.Answer.the-variants.{Passed, Refused}
-use Rattle.syntax.specs.Ranges.{oneOf, inRange}
+use Rattle.words.specs.Groups.{oneOf}
+use Rattle.syntax.specs.Ranges.{inRange}
 use Rattle.syntax.specs.Names.{openedBy}
 use Rattle.syntax.specs.Operands.{operandOf, operandsDue}
 use Rattle.syntax.specs.Walk.{askRow, walkFrom, listedFrom, walkTable}
 use Rattle.syntax.specs.Reading.{operandsAmong, readRows, choose, planOf}
 use Rattle.typing.specs.Check.{check, checkType, checkTypes, checkPlan}
-use Rattle.typing.specs.Entry.{checkRows, checkText}
+use Rattle.typing.specs.Entry.{checkPlanRows, checkPlanText}
 
 -- a text's lines, written with blanks between them
 abbrev text : String → List ℕ
@@ -28,15 +29,15 @@ text s = map (λ (b : ℕ). cond (eqb b 32) 10 b) (bytes s) ++ (10 ∷ [])
 
 -- a refusal as number and line; 0 and the rows of a plan that passes
 abbrev shown : Answer → ℕ × ℕ
-shown (Passed n) = (0, n)
-shown (Refused q) = (numberOf q, lineOf q)
+shown (Told n) = (0, n)
+shown (Refused q) = (refusalNumber q, refusalLine q)
 
 -- The text of a plan, and how it is answered.
 abbrev pub Card : Type 0
 Card = String × ℕ × ℕ
 
 abbrev answers : List Card → List (ℕ × ℕ)
-answers cs = map (λ (c : Card). shown (checkText words (text (c .0)))) cs
+answers cs = map (λ (c : Card). shown (checkPlanText words (text (c .0)))) cs
 
 abbrev expected : List Card → List (ℕ × ℕ)
 expected cs = map (λ (c : Card). (c .1, c .2)) cs
@@ -111,19 +112,19 @@ pub cards-answered : answers cards ≡ expected cards
 unfolding words table sameLetters lookFrom operandsOf allDigits value leadingZero unsigned notBelowZero belowZero
     numeralOf linesOf placeOf rowOf rowsIn formed reading typeRows allTypeRows termRows oneOf inRange openedBy
     operandOf operandsDue askRow walkFrom listedFrom walkTable operandsAmong readRows choose planOf check checkType
-    checkTypes checkPlan checkRows checkText
+    checkTypes checkPlan checkPlanRows checkPlanText
 cards-answered = refl
 
 order-answered : answers order ≡ expected order
 unfolding words table sameLetters lookFrom operandsOf allDigits value leadingZero unsigned notBelowZero belowZero
     numeralOf linesOf placeOf rowOf rowsIn formed reading typeRows allTypeRows termRows oneOf inRange openedBy
     operandOf operandsDue askRow walkFrom listedFrom walkTable operandsAmong readRows choose planOf check checkType
-    checkTypes checkPlan checkRows checkText
+    checkTypes checkPlan checkPlanRows checkPlanText
 order-answered = refl
 
 examples-answered : answers (types ++ others) ≡ expected (types ++ others)
 unfolding words table sameLetters lookFrom operandsOf allDigits value leadingZero unsigned notBelowZero belowZero
     numeralOf linesOf placeOf rowOf rowsIn formed reading typeRows allTypeRows termRows oneOf inRange openedBy
     operandOf operandsDue askRow walkFrom listedFrom walkTable operandsAmong readRows choose planOf check checkType
-    checkTypes checkPlan checkRows checkText
+    checkTypes checkPlan checkPlanRows checkPlanText
 examples-answered = refl

@@ -5,7 +5,7 @@ use mathlib.Core.List.{List, [], _∷_, _++_}
 use Prim.Native.Nat.{ℕ}
 use lib.Dec.{T}
 use Rattle.refusals.specs.declared.Refusal.{Refusal}
-use Rattle.refusals.specs.Refusals.{numberOf}
+use Rattle.refusals.specs.Refusals.{refusalNumber}
 
 -- how a question is answered, and the refusal that a "no" gives
 pub record Question : Type 0 where
@@ -27,7 +27,7 @@ AllYes (q ∷ qs) = T (q .answer) × AllYes qs
 -- those of one number are answered "yes"
 abbrev pub AllYesTo : ℕ → List Question → Type 0
 AllYesTo n [] = Unit {0}
-AllYesTo n (q ∷ qs) = (numberOf (q .refusal) ≡ n → T (q .answer)) × AllYesTo n qs
+AllYesTo n (q ∷ qs) = (refusalNumber (q .refusal) ≡ n → T (q .answer)) × AllYesTo n qs
 
 -- A refusal is the first "no" of questions: all before it are answered "yes".
 pub record FirstNo (qs : List Question) (r : Refusal) : Type 0 where

@@ -1,4 +1,4 @@
--- What is proved of the check of a plan, in one place. It rests on `check`, `checkPlan` (Check), `checkRows`, `checkText` (Entry), the
+-- What is proved of the check of a plan, in one place. It rests on `check`, `checkPlan` (Check), `checkPlanRows`, `checkPlanText` (Entry), the
 -- list of questions in order (Questions), what is to be accepted (Accepted), and on `HasType`, `TermWithin`, `PlanWithin` and
 -- `planRows` of `meaning`, `PlanInRange` and `walkTable` of `syntax`, `reading` and `textOf` of `lines`. The proofs stand in Laws.
 use mathlib.Core.Path.{_≡_, sym, subst}
@@ -8,6 +8,7 @@ use Prim.Native.Nat.{ℕ, _≤_, _<_, _*_, _/_}
 use lib.ListN.{length}
 use Rattle.refusals.specs.declared.Refusal.{Refusal}
 use Rattle.refusals.specs.declared.Refusal.the-variants.{TypeMisfit, TypeSize}
+use Rattle.refusals.specs.declared.Answer.the-variants.{Told, Refused}
 use Rattle.words.specs.Kinds.{Row}
 use Rattle.words.specs.Words.{words, lookUp}
 use Rattle.words.specs.Good.{Good}
@@ -15,13 +16,11 @@ use Rattle.words.specs.Laws.{words-good}
 use Rattle.words.specs.declared.Sort.{Sort}
 use Rattle.texts.specs.Texts.{linesOf}
 use Rattle.lines.specs.Reading.{rowsIn, reading, planLimits}
-use Rattle.lines.specs.declared.Reading.the-variants as read
 use Rattle.meaning.specs.Types.{DataType, number, array}
 use Rattle.meaning.specs.Terms.{Term, Plan}
 use Rattle.meaning.specs.Typing.{HasType, typeOf}
 use Rattle.meaning.specs.Limits.{TermWithin, PlanWithin}
 use Rattle.meaning.specs.Rows.{planRows}
-use Rattle.syntax.specs.declared.Answer.the-variants.{Passed, Refused}
 use Rattle.syntax.specs.InRange.{TermInRange, PlanInRange}
 use Rattle.syntax.specs.Names.{noNames}
 use Rattle.syntax.specs.Operands.{due}
@@ -30,7 +29,7 @@ use Rattle.typing.specs.Check.{typed, refused, check, checkPlan}
 use Rattle.typing.specs.Questions.{ask, AllYes, FirstNo}
 use Rattle.typing.specs.TypeQuestions.{termQuestions, planQuestions}
 use Rattle.typing.specs.EntryQuestions.{readQuestions, kindQuestions, walkQuestions, rowQuestions, textQuestions}
-use Rattle.typing.specs.Entry.{checkRows, checkText}
+use Rattle.typing.specs.Entry.{checkPlanRows, checkPlanText}
 use Rattle.typing.specs.Accepted.{AllNonempty, AcceptedRows, AcceptedText}
 use Rattle.typing.specs.Laws.TypeQuestions.{check-asks, plan-asks, planType}
 use Rattle.typing.specs.Laws.EntryQuestions.{reading-asks, table-asks, rows-ask, text-asks, asked-refused, asked-passed}
@@ -86,53 +85,53 @@ cells-any-length = table-decided
 
 -- [10.21] Demand 2 for rows: they are at most 256 and pass exactly when they are the rows of a plan that is well typed and within the
 -- limits; it is the only one.
-pub rows-accepted : (R : List Row) → ((checkRows R ≡ Passed (length R)) × (length R ≤ 256)) ↔ AcceptedRows R
+pub rows-accepted : (R : List Row) → ((checkPlanRows R ≡ Told (length R)) × (length R ≤ 256)) ↔ AcceptedRows R
 rows-accepted R = (
   (λ h. accepted-rows R (h .1) (h .0)),
-  (λ a. subst (λ (S : List Row). (checkRows S ≡ Passed (length S)) × (length S ≤ 256)) (sym (a .rows))
+  (λ a. subst (λ (S : List Row). (checkPlanRows S ≡ Told (length S)) × (length S ≤ 256)) (sym (a .rows))
       (admitted-rows (a .plan) (a .admitted), a .admitted .within .rowsFew)),
 )
 
 -- [10.18] The walk is the first "no" of questions 2 (of kinds) and 4 to 6, of plans and of loops.
 pub walk-first-no : (s : Sort) (R : List Row)
-    → walkTable s R ≡ ask Refused (kindQuestions 0 R ++ walkQuestions 0 (due s noNames ∷ []) R) (Passed (length R))
+    → walkTable s R ≡ ask Refused (kindQuestions 0 R ++ walkQuestions 0 (due s noNames ∷ []) R) (Told (length R))
 walk-first-no = table-asks
 
 -- [10.17] Demand 1 for rows: their check is the first "no" of questions 2 (of kinds) and 4 to 8 in order. So each refusal is given exactly
 -- when it is the first "no", and rows pass exactly when every answer is "yes".
-pub rows-first-no : (R : List Row) → checkRows R ≡ ask Refused (rowQuestions R) (Passed (length R))
+pub rows-first-no : (R : List Row) → checkPlanRows R ≡ ask Refused (rowQuestions R) (Told (length R))
 rows-first-no = rows-ask
 
-pub rows-refused : (R : List Row) (q : Refusal) → (checkRows R ≡ Refused q) ↔ FirstNo (rowQuestions R) q
-rows-refused R = asked-refused (checkRows R) (rowQuestions R) (length R) (rows-ask R)
+pub rows-refused : (R : List Row) (q : Refusal) → (checkPlanRows R ≡ Refused q) ↔ FirstNo (rowQuestions R) q
+rows-refused R = asked-refused (checkPlanRows R) (rowQuestions R) (length R) (rows-ask R)
 
-pub rows-passed : (R : List Row) → (checkRows R ≡ Passed (length R)) ↔ AllYes (rowQuestions R)
-rows-passed R = asked-passed (checkRows R) (rowQuestions R) (length R) (rows-ask R)
+pub rows-passed : (R : List Row) → (checkPlanRows R ≡ Told (length R)) ↔ AllYes (rowQuestions R)
+rows-passed R = asked-passed (checkPlanRows R) (rowQuestions R) (length R) (rows-ask R)
 
 -- ---- texts, with any good table of words
 
 module _ (ws : List (List ℕ)) (good : Good ws) where
   -- [10.21] Demand 2 for texts.
-  pub text-check : (t : List ℕ) (n : ℕ) → (checkText ws t ≡ Passed n) ↔ AcceptedText ws t n
+  pub text-check : (t : List ℕ) (n : ℕ) → (checkPlanText ws t ≡ Told n) ↔ AcceptedText ws t n
   text-check t n = (accepted-text ws good t n, text-accepted ws good t n)
 
 -- [10.21] Demand 2 for texts in the words of [2.2].
-pub plan-text-check : (t : List ℕ) (n : ℕ) → (checkText words t ≡ Passed n) ↔ AcceptedText words t n
+pub plan-text-check : (t : List ℕ) (n : ℕ) → (checkPlanText words t ≡ Told n) ↔ AcceptedText words t n
 plan-text-check = text-check words words-good
 
 -- [10.17] The reading is the first "no" of questions 1 to 3.
 pub reading-first-no : (ws : List (List ℕ)) (t : List ℕ)
-    → reading (lookUp ws) planLimits t ≡ ask read.Refused (readQuestions (lookUp ws) planLimits t) (read.Rows (length (linesOf t)))
+    → reading (lookUp ws) planLimits t ≡ ask Refused (readQuestions (lookUp ws) planLimits t) (Told (length (linesOf t)))
 reading-first-no ws t = reading-asks (lookUp ws) planLimits t
 
 -- [10.17] Demand 1 for texts, with any table of words: the check is the first "no" of questions 1 to 8 in order.
 pub text-first-no : (ws : List (List ℕ)) (t : List ℕ)
-    → checkText ws t ≡ ask Refused (textQuestions ws t) (Passed (length (rowsIn (lookUp ws) (linesOf t))))
+    → checkPlanText ws t ≡ ask Refused (textQuestions ws t) (Told (length (rowsIn (lookUp ws) (linesOf t))))
 text-first-no = text-asks
 
-pub text-refused : (ws : List (List ℕ)) (t : List ℕ) (q : Refusal) → (checkText ws t ≡ Refused q) ↔ FirstNo (textQuestions ws t) q
-text-refused ws t = asked-refused (checkText ws t) (textQuestions ws t) _ (text-asks ws t)
+pub text-refused : (ws : List (List ℕ)) (t : List ℕ) (q : Refusal) → (checkPlanText ws t ≡ Refused q) ↔ FirstNo (textQuestions ws t) q
+text-refused ws t = asked-refused (checkPlanText ws t) (textQuestions ws t) _ (text-asks ws t)
 
 pub text-passed : (ws : List (List ℕ)) (t : List ℕ)
-    → (checkText ws t ≡ Passed (length (rowsIn (lookUp ws) (linesOf t)))) ↔ AllYes (textQuestions ws t)
-text-passed ws t = asked-passed (checkText ws t) (textQuestions ws t) _ (text-asks ws t)
+    → (checkPlanText ws t ≡ Told (length (rowsIn (lookUp ws) (linesOf t)))) ↔ AllYes (textQuestions ws t)
+text-passed ws t = asked-passed (checkPlanText ws t) (textQuestions ws t) _ (text-asks ws t)

@@ -11,32 +11,33 @@ use lib.ListN.{length, take, length-map}
 use lib.Seq.{length-take-le}
 use Rattle.refusals.specs.declared.Refusal.{Refusal}
 use Rattle.refusals.specs.declared.Refusal.the-variants.{StoreSize, ValueLines}
+use Rattle.refusals.specs.declared.Answer.{Answer}
+use Rattle.refusals.specs.declared.Answer.the-variants.{Told, Refused}
+use Rattle.refusals.specs.Answers.{after, isTold}
 use Rattle.words.specs.Kinds.{Row, rowsOf}
 use Rattle.lines.specs.Reading.{headOf, reading, valuesLimits, roomFor, kindsOf, filled, ReadInto}
 use Rattle.lines.specs.Laws.{rows-read}
 use Rattle.lines.specs.TableLaws.{in-front, rows-in-front}
 use Rattle.lines.specs.declared.Heads.the-variants.{Cells}
-use Rattle.lines.specs.declared.Reading.{Reading}
-use Rattle.lines.specs.declared.Reading.the-variants.{Rows, Refused}
 use Rattle.meaning.specs.Sequence.{upFrom}
-use Rattle.values.specs.Values.{oneLineEach, asked, afterReading, valueRows, filling, valueOf, accepted, FillInto}
-use Rattle.values.specs.Steps.{stored}
+use Rattle.values.specs.Values.{oneLineEach, asked, valueLines, filling, valueOf, FillInto}
+use Rattle.values.specs.Stored.{stored}
 use Rattle.values.specs.Laws.{test-says}
 use Rattle.values.proofs.Sizes.{few-rows}
 use Rattle.values.proofs.Stored.{values-stored}
 
-module _ (ws : List (List ℕ)) (t : List ℕ) {r : Reading} (cells : List ℕ) (values : List ℤ) {cells′ : List ℕ} {values′ : List ℤ}
+module _ (ws : List (List ℕ)) (t : List ℕ) {r : Answer} (cells : List ℕ) (values : List ℤ) {cells′ : List ℕ} {values′ : List ℤ}
     (read : ReadInto (headOf ws Cells) valuesLimits t cells values r cells′ values′) where
   abbrev R : List Row
-  R = valueRows ws t
+  R = valueLines ws t
 
-  read-so : {m : ℕ} → r ≡ Rows m → reading (headOf ws Cells) valuesLimits t ≡ Rows m
+  read-so : {m : ℕ} → r ≡ Told m → reading (headOf ws Cells) valuesLimits t ≡ Told m
   read-so is = sym (read .answer) ∙ is
 
-  pub rows-few : {m : ℕ} → r ≡ Rows m → m ≤ 16384
+  pub rows-few : {m : ℕ} → r ≡ Told m → m ≤ 16384
   rows-few {m} is = few-rows ws t m (read-so is)
 
-  module _ {A : Type 0} (column : List A) (long : length column ≡ 16384) {m : ℕ} (is : r ≡ Rows m) where
+  module _ {A : Type 0} (column : List A) (long : length column ≡ 16384) {m : ℕ} (is : r ≡ Told m) where
     pub rows-fit : m ≤ length column
     rows-fit = omega (arith, rows-few is)
 
@@ -44,27 +45,27 @@ module _ (ws : List (List ℕ)) (t : List ℕ) {r : Reading} (cells : List ℕ) 
     rows-front = length-take-le m column rows-fit
 
   module _ (n : ℕ) (store : List ℤ) where
-    abbrev next : Reading → Reading
+    abbrev next : ℕ → Answer
     next = asked n (length store) (kindsOf R)
 
     pub text-refused : {q : Refusal} → r ≡ Refused q → FillInto ws t n store r store
     unfolding filling
     text-refused is =
         record {
-          answer = is ∙ ap (λ (x : Reading). afterReading x next) (sym is ∙ read .answer);
-          store-left = ap (λ (x : Reading). filled (accepted x) (map (valueOf R) (upFrom 0 n)) store) (sym is);
+          answer = is ∙ ap (λ (x : Answer). after x next) (sym is ∙ read .answer);
+          store-left = ap (λ (x : Answer). filled (isTold x) (map (valueOf R) (upFrom 0 n)) store) (sym is);
         }
 
-    module _ {m : ℕ} (is : r ≡ Rows m) where
+    module _ {m : ℕ} (is : r ≡ Told m) where
       -- question 15's answer, and question 14's
-      abbrev by-lines : Bool → Reading
-      by-lines b = cond b (Rows m) (Refused ValueLines)
+      abbrev by-lines : Bool → Answer
+      by-lines b = cond b (Told m) (Refused ValueLines)
 
       by-store : {b : Bool} → b ≡ leb n (length store) → cond b (by-lines (oneLineEach n (kindsOf R))) (Refused StoreSize) ≡ filling ws t n (length store)
       unfolding filling
       by-store e =
           ap (λ (x : Bool). cond x (by-lines (oneLineEach n (kindsOf R))) (Refused StoreSize)) e
-          ∙ ap (λ (x : Reading). afterReading x next) (sym (read-so is))
+          ∙ ap (λ (x : Answer). after x next) (sym (read-so is))
 
       pub store-short : length store < n → FillInto ws t n store (Refused StoreSize) store
       store-short h = record { answer = by-store (sym (lt-leb n (length store) h)); store-left = refl }
@@ -93,7 +94,7 @@ module _ (ws : List (List ℕ)) (t : List ℕ) {r : Reading} (cells : List ℕ) 
           lines-wrong e = record { answer = tested (sym e ∙ test); store-left = refl }
 
           pub values-put : {store′ : List ℤ} → b ≡ true → store′ ≡ stored (rowsOf (take m cells′) (take m values′)) store
-              → FillInto ws t n store (Rows m) store′
+              → FillInto ws t n store (Told m) store′
           values-put e put =
               record {
                 answer = tested (sym e ∙ test);

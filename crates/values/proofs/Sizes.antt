@@ -10,30 +10,30 @@ use lib.IntN.{ℤ, pos, negsuc}
 use lib.Ieee.Fits.{and-l, and-r}
 use lib.ListN.{length, getD, length-append}
 use Rattle.refusals.specs.declared.Refusal.the-variants.{TextForm}
+use Rattle.refusals.specs.declared.Answer.the-variants.{Told, Refused}
 use Rattle.words.specs.declared.Found.{Found}
 use Rattle.words.specs.declared.Found.the-variants.{At}
-use Rattle.numerals.specs.Numerals.{numberOf}
+use Rattle.numerals.specs.Numerals.{numeralOf}
 use Rattle.numerals.specs.Laws.{one-way, decimal-nonempty}
 use Rattle.numerals.specs.declared.Numeral.{Numeral}
 use Rattle.numerals.specs.declared.Numeral.the-variants.{Is, Malformed}
 use Rattle.texts.specs.Texts.{begin, linesOf, beforeComma, afterComma}
-use Rattle.lines.specs.Reading.{cellOf, headOf, lineOf, addRow, rowsIn, closed, formed, limited, reading, valuesLimits}
+use Rattle.lines.specs.Reading.{cellNamed, headOf, lineOf, addRow, rowsIn, closed, formed, limited, reading, valuesLimits}
 use Rattle.texts.specs.Laws.{place-split, together}
 use Rattle.lines.specs.Laws.{paired-row, rows-read}
 use Rattle.lines.specs.declared.Heads.the-variants.{Cells}
 use Rattle.lines.specs.declared.Limits.{Limits}
 use Rattle.lines.specs.declared.Line.{Line}
 use Rattle.lines.specs.declared.Line.the-variants.{IsRow, NoRow}
-use Rattle.lines.specs.declared.Reading.the-variants.{Rows, Refused}
 
 -- ---- a line with a cell and a value
 
-cell-number : (d : Numeral) (k : ℕ) → cellOf d ≡ At k → (z : ℤ) × (d ≡ Is z)
+cell-number : (d : Numeral) (k : ℕ) → cellNamed d ≡ At k → (z : ℤ) × (d ≡ Is z)
 cell-number (Is (pos n)) k e = (pos n, refl)
 cell-number (Is (negsuc n)) k e = absurd (let clash : _≡_ {A = ℕ} 0 1 = cc in omega arith)
 cell-number Malformed k e = absurd (let clash : _≡_ {A = ℕ} 0 1 = cc in omega arith)
 
-some-bytes : (bs : List ℕ) {z : ℤ} → numberOf bs ≡ Is z → 0 < length bs
+some-bytes : (bs : List ℕ) {z : ℤ} → numeralOf bs ≡ Is z → 0 < length bs
 some-bytes bs {z} e = subst (λ (cs : List ℕ). 0 < length cs) (one-way bs e) (decimal-nonempty z)
 
 module _ (ws : List (List ℕ)) where
@@ -43,8 +43,8 @@ module _ (ws : List (List ℕ)) where
   row-bytes : (l : List ℕ) (k : ℕ) (z : ℤ) → lineOf head l ≡ IsRow k z → 3 ≤ length l
   unfolding lineOf
   row-bytes l k z e =
-      let both = paired-row (head (beforeComma l)) (numberOf (afterComma l)) k z e in
-      let before = some-bytes (beforeComma l) (cell-number (numberOf (beforeComma l)) k (both .0) .1) in
+      let both = paired-row (head (beforeComma l)) (numeralOf (afterComma l)) k z e in
+      let before = some-bytes (beforeComma l) (cell-number (numeralOf (beforeComma l)) k (both .0) .1) in
       let after = some-bytes (afterComma l) (both .1) in
       omega (arith, before, after, length-append (beforeComma l) (44 ∷ afterComma l), ap length (place-split 44 l after))
 
@@ -76,11 +76,11 @@ lines-bytes (b ∷ bs) = go (eqb b 10) (lines-bytes bs)
     go true h = omega arith
     go false h = begun-bytes b (linesOf bs) (length bs) h
 
-within : (f : List ℕ → Found) (limits : Limits) (t : List ℕ) (m : ℕ) → reading f limits t ≡ Rows m → length t ≤ limits .bytes
+within : (f : List ℕ → Found) (limits : Limits) (t : List ℕ) (m : ℕ) → reading f limits t ≡ Told m → length t ≤ limits .bytes
 unfolding reading
 within f limits t m e = go (closed (limits .bytes) t) refl e
   where
-    go : (b : Bool) → closed (limits .bytes) t ≡ b → cond b (limited (limits .lines) (formed f 0 (linesOf t))) (Refused TextForm) ≡ Rows m
+    go : (b : Bool) → closed (limits .bytes) t ≡ b → cond b (limited (limits .lines) (formed f 0 (linesOf t))) (Refused TextForm) ≡ Told m
         → length t ≤ limits .bytes
     go true c g =
         let last : Bool = eqb (getD t (length t - 1) 0) 10 in
@@ -89,7 +89,7 @@ within f limits t m e = go (closed (limits .bytes) t) refl e
     go false c g = absurd (let clash : _≡_ {A = ℕ} 0 1 = cc in omega arith)
 
 -- 65,536 bytes are at most 16,384 lines.
-pub few-rows : (ws : List (List ℕ)) (t : List ℕ) (m : ℕ) → reading (headOf ws Cells) valuesLimits t ≡ Rows m → m ≤ 16384
+pub few-rows : (ws : List (List ℕ)) (t : List ℕ) (m : ℕ) → reading (headOf ws Cells) valuesLimits t ≡ Told m → m ≤ 16384
 few-rows ws t m e =
     omega (
       arith,

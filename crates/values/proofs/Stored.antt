@@ -16,7 +16,7 @@ use Rattle.lines.specs.Reading.{kindsOf}
 use Rattle.meaning.specs.Sequence.{upFrom}
 use Rattle.meaning.specs.Laws.Orders.{upFrom-length}
 use Rattle.values.specs.Values.{linesFor, valueOf}
-use Rattle.values.specs.Steps.{stored}
+use Rattle.values.specs.Stored.{stored}
 use Rattle.values.specs.Laws.{OneLineEach, cell-cases, lines-here, lines-other}
 
 -- ---- a turn of the loop, and its end

@@ -2,9 +2,9 @@
 use mathlib.Core.List.{List}
 use Prim.Native.Nat.{ℕ}
 use lib.IntN.{ℤ}
-use Rattle.lines.specs.declared.Reading.{Reading}
+use Rattle.refusals.specs.declared.Answer.{Answer}
 use Rattle.values.specs.Values.{FillInto}
 
 -- [10.16] `fill`: the text, how many cells it is to fill, the store as lent, the answer, the store as left
-abbrev pub FillsStore : List (List ℕ) → List ℕ → ℕ → List ℤ → Reading → List ℤ → Type 0
+abbrev pub FillsStore : List (List ℕ) → List ℕ → ℕ → List ℤ → Answer → List ℤ → Type 0
 FillsStore ws t count store r store′ = FillInto ws t count store r store′

@@ -3,7 +3,7 @@
 -- The definitions
 pub mod Values
 -- What the contracts of parts say besides
-pub mod Steps
+pub mod Stored
 -- Their laws
 pub mod Laws
 -- The contracts of the entries

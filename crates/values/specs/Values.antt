@@ -1,5 +1,5 @@
 -- The values file: [11.3], and the questions that it is asked, [10.14] and [10.15]. Definitions only; assumes nothing.
-use mathlib.Core.Bool.{Bool, true, false, cond, _&&_}
+use mathlib.Core.Bool.{Bool, true, cond, _&&_}
 use mathlib.Core.Path.{_≡_}
 use mathlib.Core.List.{List, [], _∷_, map}
 use Prim.Native.Nat.{ℕ, zero, suc}
@@ -7,12 +7,13 @@ use lib.Dec.{eqb, leb, ltb}
 use lib.IntN.{ℤ, pos}
 use lib.ListN.{length}
 use Rattle.refusals.specs.declared.Refusal.the-variants.{StoreSize, ValueLines}
+use Rattle.refusals.specs.declared.Answer.{Answer}
+use Rattle.refusals.specs.declared.Answer.the-variants.{Told, Refused}
+use Rattle.refusals.specs.Answers.{after, isTold}
 use Rattle.words.specs.Kinds.{Row}
 use Rattle.texts.specs.Texts.{linesOf}
 use Rattle.lines.specs.Reading.{rowsIn, headOf, reading, valuesLimits, kindsOf, filled}
 use Rattle.lines.specs.declared.Heads.the-variants.{Cells}
-use Rattle.lines.specs.declared.Reading.{Reading}
-use Rattle.lines.specs.declared.Reading.the-variants.{Rows, Refused}
 use Rattle.meaning.specs.Sequence.{upFrom}
 
 -- ---- [10.15] every input cell has exactly one line, and there is no other line
@@ -37,23 +38,18 @@ oneLineEach n cs = oneEach n cs && noOther n cs
 
 -- ---- the answer
 
--- [10.14], of n input cells and a store of so many cells; then [10.15], of the cells that the lines name. The runner has asked 14
--- before: there it is never the "no".
-abbrev pub asked : ℕ → ℕ → List ℕ → Reading → Reading
-asked n store cs yes′ = cond (leb n store) (cond (oneLineEach n cs) yes′ (Refused ValueLines)) (Refused StoreSize)
-
--- [10.1] and [10.2], by the reading of `lines`; then the next.
-abbrev pub afterReading : Reading → (Reading → Reading) → Reading
-afterReading (Rows m) next = next (Rows m)
-afterReading (Refused q) next = Refused q
+-- [10.14], of n input cells and a store of so many cells; then [10.15], of the cells that the lines name; how many lines there are is
+-- told. The runner has asked 14 before: there it is never the "no".
+abbrev pub asked : ℕ → ℕ → List ℕ → ℕ → Answer
+asked n store cs lines = cond (leb n store) (cond (oneLineEach n cs) (Told lines) (Refused ValueLines)) (Refused StoreSize)
 
 -- The cell and the value of each line. ws is the table of words.
-abbrev pub valueRows : List (List ℕ) → List ℕ → List Row
-valueRows ws t = rowsIn (headOf ws Cells) (linesOf t)
+abbrev pub valueLines : List (List ℕ) → List ℕ → List Row
+valueLines ws t = rowsIn (headOf ws Cells) (linesOf t)
 
--- [10.16] Filling a store from values asks 1, 2, 14, 15: how many lines there are, or the first "no".
-unfoldable pub filling : List (List ℕ) → List ℕ → ℕ → ℕ → Reading
-filling ws t n store = afterReading (reading (headOf ws Cells) valuesLimits t) (asked n store (kindsOf (valueRows ws t)))
+-- [10.16] Filling a store from values asks 1 and 2, by the reading of `lines`, then 14 and 15: how many lines there are, or the first "no".
+unfoldable pub filling : List (List ℕ) → List ℕ → ℕ → ℕ → Answer
+filling ws t n store = after (reading (headOf ws Cells) valuesLimits t) (asked n store (kindsOf (valueLines ws t)))
 
 -- ---- the store
 
@@ -62,12 +58,8 @@ unfoldable pub valueOf : List Row → ℕ → ℤ
 valueOf [] k = pos 0
 valueOf (r ∷ rs) k = cond (eqb (r .0) k) (r .1) (valueOf rs k)
 
-abbrev pub accepted : Reading → Bool
-accepted (Rows m) = true
-accepted (Refused q) = false
-
 -- What `fill` promises of its answer r and of the store, as lent and as left. Accepted: the cells 0 to n − 1 hold their values and
 -- the others what they held. Refused: all hold what they held ([10.17]).
-pub record FillInto (ws : List (List ℕ)) (t : List ℕ) (n : ℕ) (store : List ℤ) (r : Reading) (store′ : List ℤ) : Type 0 where
+pub record FillInto (ws : List (List ℕ)) (t : List ℕ) (n : ℕ) (store : List ℤ) (r : Answer) (store′ : List ℤ) : Type 0 where
   pub answer : r ≡ filling ws t n (length store)
-  pub store-left : store′ ≡ filled (accepted r) (map (valueOf (valueRows ws t)) (upFrom 0 n)) store
+  pub store-left : store′ ≡ filled (isTold r) (map (valueOf (valueLines ws t)) (upFrom 0 n)) store

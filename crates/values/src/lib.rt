@@ -6,8 +6,8 @@ ghost use lib.ListN.{length};
 ghost use Rattle.words.specs.Kinds.{rowsOf};
 ghost use Rattle.values.specs.Contracts.{FillsStore};
 ghost use Rattle.values.specs.Values.{oneLineEach};
-ghost use Rattle.values.specs.Steps.{stored};
-use lines::Reading;
+ghost use Rattle.values.specs.Stored.{stored};
+use refusals::Answer;
 use refusals::Refusal;
 
 // The number of a cell as a place of a slice.
@@ -54,21 +54,21 @@ fn put_values(cells: &[u32], values: &[i32], store: &mut [i32])
 }
 
 // Fills the cells below the count from a values file: how many lines it has, or the first "no".
-pub fn fill(text: &[u8], count: usize, store: &mut [i32]) -> Reading
+pub fn fill(text: &[u8], count: usize, store: &mut [i32]) -> Answer
     ensures { λ r. ⌜ FillsStore words (now (text .entry)) count (now (store .entry)) r (now (store .exit)) ⌝ }
 {
     let mut cells = [0u32; 16384];
     let mut values = [0i32; 16384];
     let answer = lines::read_values(text, &mut cells, &mut values);
-    let Reading::Rows(rows) = answer else {
+    let Answer::Told(rows) = answer else {
         return answer;
     };
     if store.len() < count {
-        return Reading::Refused(Refusal::StoreSize);
+        return Answer::Refused(Refusal::StoreSize);
     }
     let named = &cells[..rows];
     if !one_line_each(named, count) {
-        return Reading::Refused(Refusal::ValueLines);
+        return Answer::Refused(Refusal::ValueLines);
     }
     put_values(named, &values[..rows], store);
     answer

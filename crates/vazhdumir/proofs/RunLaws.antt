@@ -4,12 +4,12 @@ use mathlib.Core.List.{List, [], _∷_}
 use Prim.Native.Nat.{ℕ}
 use lib.IntN.{ℤ}
 use lib.ListN.{length, drop}
+use Rattle.refusals.specs.declared.Answer.{Answer}
 use Rattle.store.specs.Cells.{cellsOf}
 use Rattle.store.specs.Store.{storeOf, frameOf}
 use Rattle.store.specs.Laws.{store-of-bytes, parts-of-store}
-use Rattle.run.specs.declared.Ran.{Ran}
-use Rattle.run.specs.Run.{Outcome, outcome}
-use Rattle.vazhdumir.specs.Codes.{ranCode, RunCoded}
+use Rattle.run.specs.Run.{Ran, outcome}
+use Rattle.vazhdumir.specs.Codes.{answerCode, RunCoded}
 
 drop-none : {A : Type 0} (l : List A) → drop 0 l ≡ l
 drop-none [] = refl
@@ -20,14 +20,14 @@ module _ (bs bs′ : List ℕ) (cs′ : List ℤ) (f : frameOf cs′ bs′ ≡ f
   unfolding frameOf
   size-kept = ap (λ (x : ℕ × ℕ × List ℕ). x .1) f
 
-  pub run-coded : (does : List ℤ → Outcome) (a : Ran) (r : ℕ) → r ≡ ranCode a → outcome a (storeOf cs′ bs′) ≡ does (storeOf [] bs)
+  pub run-coded : (does : List ℤ → Ran) (a : Answer) (r : ℕ) → r ≡ answerCode a → outcome a (storeOf cs′ bs′) ≡ does (storeOf [] bs)
       → RunCoded (does (cellsOf bs)) bs r bs′
   run-coded does a r c e =
       let all : outcome a (storeOf cs′ bs′) ≡ does (cellsOf bs) = e ∙ ap does (store-of-bytes bs) in
       let parts = parts-of-store [] cs′ bs bs′ (storeOf cs′ bs′) refl f in
       record {
-        answer = c ∙ ap (λ (x : Outcome). ranCode (x .answer)) all;
-        cells-left = parts .1 ∙ drop-none (storeOf cs′ bs′) ∙ ap (λ (x : Outcome). x .store) all;
+        answer = c ∙ ap (λ (x : Ran). answerCode (x .answer)) all;
+        cells-left = parts .1 ∙ drop-none (storeOf cs′ bs′) ∙ ap (λ (x : Ran). x .store) all;
         others-left = parts .2;
         length-left = size-kept;
       }

@@ -6,10 +6,10 @@ use Prim.Native.Nat.{ℕ}
 use lib.IntN.{ℤ}
 use Rattle.words.specs.Kinds.{rowsOf}
 use Rattle.store.specs.Cells.{cellsOf}
-use Rattle.typing.specs.Entry.{checkText as checkPlanText}
-use Rattle.loops.specs.Check.{checkText, needOf}
+use Rattle.typing.specs.Entry.{checkPlanText as checkPlanText}
+use Rattle.loops.specs.Check.{checkLoopsText, writesOf, needOf}
 use Rattle.run.specs.Run.{runText, runTable}
-use Rattle.vazhdumir.specs.Codes.{acceptedCode, checkedCode, neededCode, ReadCoded, TextCoded, RunCoded}
+use Rattle.vazhdumir.specs.Codes.{answerCode, acceptedCode, ReadCoded, TextCoded, RunCoded}
 
 -- `vazhdumir_check_plan`: the text and the number told
 abbrev pub ChecksPlanForC : List (List ℕ) → List ℕ → ℕ → Type 0
@@ -21,10 +21,10 @@ TranslatesForC ws t lent r lent′ = TextCoded ws t lent r lent′
 
 -- `vazhdumir_check_loops` and `vazhdumir_need`: the text and the number told
 abbrev pub ChecksLoopsForC : List (List ℕ) → List ℕ → ℕ → Type 0
-ChecksLoopsForC ws t r = r ≡ checkedCode (checkText ws t)
+ChecksLoopsForC ws t r = r ≡ answerCode (writesOf (checkLoopsText ws t))
 
 abbrev pub TellsNeedForC : List (List ℕ) → List ℕ → ℕ → Type 0
-TellsNeedForC ws t r = r ≡ neededCode (needOf (checkText ws t))
+TellsNeedForC ws t r = r ≡ answerCode (needOf (checkLoopsText ws t))
 
 -- `vazhdumir_read_loops`: the text, the two slices as lent, the number told, the two slices as left
 abbrev pub ReadsLoopsForC : List (List ℕ) → List ℕ → List ℕ → List ℤ → ℕ → List ℕ → List ℤ → Type 0

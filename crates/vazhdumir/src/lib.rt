@@ -2,21 +2,17 @@
 // nothing is allocated or kept ([12.5]).
 ghost use Rattle.words.specs.Words.{words};
 ghost use mathlib.Core.Path.{_≡_};
-ghost use Rattle.vazhdumir.specs.Codes.{refusalCode, acceptedCode, checkedCode, neededCode, readCode, printedCode, ranCode};
+ghost use Rattle.vazhdumir.specs.Codes.{refusalCode, answerCode, acceptedCode};
 ghost use Rattle.vazhdumir.specs.Contracts.{ChecksPlanForC, TranslatesForC, ChecksLoopsForC, TellsNeedForC};
 ghost use Rattle.vazhdumir.specs.Contracts.{ReadsLoopsForC, RunsTextForC, RunsRowsForC};
-use lines::Printing;
-use lines::Reading;
 use loops::Checked;
-use loops::Needed;
+use refusals::Answer;
 use refusals::Refusal;
-use run::Ran;
-use syntax::Answer;
 
 // [12.2] The greatest line that an answer holds.
 const MOST_LINE: usize = 72057594037927935;
 
-fn code(refusal: Refusal) -> u64
+fn refusal_code(refusal: Refusal) -> u64
     ensures { λ r. ⌜ r ≡ refusalCode refusal ⌝ }
 {
     let number = refusals::number(refusal) as u64;
@@ -27,57 +23,21 @@ fn code(refusal: Refusal) -> u64
     number * 72057594037927936 + line as u64
 }
 
+fn code(answer: Answer) -> u64
+    ensures { λ r. ⌜ r ≡ answerCode answer ⌝ }
+{
+    match answer {
+        Answer::Told(number) => number as u64,
+        Answer::Refused(refusal) => refusal_code(refusal),
+    }
+}
+
 fn accepted_code(answer: Answer) -> u64
     ensures { λ r. ⌜ r ≡ acceptedCode answer ⌝ }
 {
     match answer {
-        Answer::Passed(_) => 0,
-        Answer::Refused(refusal) => code(refusal),
-    }
-}
-
-fn checked_code(checked: Checked) -> u64
-    ensures { λ r. ⌜ r ≡ checkedCode checked ⌝ }
-{
-    match checked {
-        Checked::Passes { writes, need: _ } => writes as u64,
-        Checked::Refused(refusal) => code(refusal),
-    }
-}
-
-fn needed_code(needed: Needed) -> u64
-    ensures { λ r. ⌜ r ≡ neededCode needed ⌝ }
-{
-    match needed {
-        Needed::Cells(cells) => cells as u64,
-        Needed::Refused(refusal) => code(refusal),
-    }
-}
-
-fn read_code(read: Reading) -> u64
-    ensures { λ r. ⌜ r ≡ readCode read ⌝ }
-{
-    match read {
-        Reading::Rows(rows) => rows as u64,
-        Reading::Refused(refusal) => code(refusal),
-    }
-}
-
-fn printed_code(printed: Printing) -> u64
-    ensures { λ r. ⌜ r ≡ printedCode printed ⌝ }
-{
-    match printed {
-        Printing::Bytes(bytes) => bytes as u64,
-        Printing::Refused(refusal) => code(refusal),
-    }
-}
-
-fn ran_code(ran: Ran) -> u64
-    ensures { λ r. ⌜ r ≡ ranCode ran ⌝ }
-{
-    match ran {
-        Ran::Finished { writes } => writes as u64,
-        Ran::Refused(refusal) => code(refusal),
+        Answer::Told(_) => 0,
+        Answer::Refused(refusal) => refusal_code(refusal),
     }
 }
 
@@ -94,7 +54,7 @@ pub extern "C" fn vazhdumir_check_plan(text: &[u8]) -> u64
 pub extern "C" fn vazhdumir_translate(text: &[u8], lent: &mut [u8]) -> u64
     ensures { λ r. ⌜ TranslatesForC words (now (text .entry)) (now (lent .entry)) r (now (lent .exit)) ⌝ }
 {
-    printed_code(translate::translate_text(text, lent))
+    code(translate::translate_text(text, lent))
 }
 
 // Checks a text of loops: the writes that every run of them makes.
@@ -102,7 +62,11 @@ pub extern "C" fn vazhdumir_translate(text: &[u8], lent: &mut [u8]) -> u64
 pub extern "C" fn vazhdumir_check_loops(text: &[u8]) -> u64
     ensures { λ r. ⌜ ChecksLoopsForC words (now (text .entry)) r ⌝ }
 {
-    checked_code(loops::check_text(text))
+    let checked = loops::check_text(text);
+    match checked {
+        Checked::Passes { writes, need: _ } => code(Answer::Told(writes)),
+        Checked::Refused(refusal) => code(Answer::Refused(refusal)),
+    }
 }
 
 // The cells that a text of loops needs.
@@ -110,7 +74,7 @@ pub extern "C" fn vazhdumir_check_loops(text: &[u8]) -> u64
 pub extern "C" fn vazhdumir_need(text: &[u8]) -> u64
     ensures { λ r. ⌜ TellsNeedForC words (now (text .entry)) r ⌝ }
 {
-    needed_code(loops::need_text(text))
+    code(loops::need_text(text))
 }
 
 // Reads a text of loops into a lent table: how many rows were put.
@@ -118,7 +82,7 @@ pub extern "C" fn vazhdumir_need(text: &[u8]) -> u64
 pub extern "C" fn vazhdumir_read_loops(text: &[u8], kinds: &mut [u8], numbers: &mut [i32]) -> u64
     ensures { λ r. ⌜ ReadsLoopsForC words (now (text .entry)) (now (kinds .entry)) (now (numbers .entry)) r (now (kinds .exit)) (now (numbers .exit)) ⌝ }
 {
-    read_code(loops::read_text(text, kinds, numbers))
+    code(loops::read_text(text, kinds, numbers))
 }
 
 // Runs a text of loops on a store in bytes, every `par` in the order named: how many writes were made.
@@ -127,7 +91,7 @@ pub extern "C" fn vazhdumir_run(text: &[u8], order: u32, bytes: &mut [u8]) -> u6
     ensures { λ r. ⌜ RunsTextForC words (now (text .entry)) order (now (bytes .entry)) r (now (bytes .exit)) ⌝ }
 {
     let mut none = [0i32; 0];
-    ran_code(run::run_text(text, order, &mut none, bytes))
+    code(run::run_text(text, order, &mut none, bytes))
 }
 
 // The same of a lent table.
@@ -141,5 +105,5 @@ pub extern "C" fn vazhdumir_run_rows(
     ensures { λ r. ⌜ RunsRowsForC (now (kinds .entry)) (now (numbers .entry)) order (now (bytes .entry)) r (now (bytes .exit)) ⌝ }
 {
     let mut none = [0i32; 0];
-    ran_code(run::run_rows(kinds, numbers, order, &mut none, bytes))
+    code(run::run_rows(kinds, numbers, order, &mut none, bytes))
 }

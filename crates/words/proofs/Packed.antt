@@ -9,6 +9,7 @@ use lib.Dec.{T, leb, leb→le}
 use lib.Ieee.Fits.{and-l, and-r}
 use lib.ListN.{length, getD, take, length-append, List·getD-map, List·getD-eq-default, List·getD-append}
 use lib.Seq.{getD-take, getD-append-add, length-take-le}
+use Rattle.words.specs.Laws.{table-length}
 use Rattle.words.specs.Packed.{packed, columnFor, sorts}
 use Rattle.words.specs.Words.{Entry, entry, table, words, wordAt, entryAt, bytes, columnOf, operandsAs, operandsOf}
 use Rattle.words.specs.declared.Sort.{Sort}
@@ -18,20 +19,16 @@ use Rattle.words.specs.declared.Operands.the-variants.{Count, NotOfSort}
 
 -- ---- a place of the table, and past it
 
-table-count : length table ≡ 38
-unfolding table
-table-count = refl
-
-pub past-table : (k : ℕ) → 38 ≤ k → packed (entry "" []) ≡ packed (entryAt k)
-past-table k h = ap packed (sym (List·getD-eq-default table (entry "" []) (omega (arith, table-count))))
+pub past-table : (k : ℕ) → length words ≤ k → packed (entry "" []) ≡ packed (entryAt k)
+past-table k h = ap packed (sym (List·getD-eq-default table (entry "" []) (omega (arith, table-length))))
 
 getD-mapped : {A B : Type 0} (f : A → B) (l : List A) (k : ℕ) (d : B) (e : A) → k < length l → getD (map f l) k d ≡ f (getD l k e)
 getD-mapped f [] k d e h = absurd (not-suc-le-zero h)
 getD-mapped f (x ∷ l) zero d e h = refl
 getD-mapped f (x ∷ l) (suc k) d e h = getD-mapped f l k d e (le-of-suc-le-suc h)
 
-pub in-table : (k : ℕ) → k < 38 → getD (map packed table) k [] ≡ packed (entryAt k)
-in-table k h = getD-mapped packed table k [] (entry "" []) (omega (arith, table-count))
+pub in-table : (k : ℕ) → k < length words → getD (map packed table) k [] ≡ packed (entryAt k)
+in-table k h = getD-mapped packed table k [] (entry "" []) (omega (arith, table-length))
 
 -- ---- the parts of a packed entry
 

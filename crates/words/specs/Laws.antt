@@ -11,7 +11,8 @@ use native.Mathlib.Numerals.{add-one}
 use native.Mathlib.Omega.{arith}
 use lib.Dec.{T, T-not, eqb, leb, eqb→eq, eqb-refl, leb→le}
 use lib.Ieee.Fits.{and-i, and-l, and-r}
-use lib.ListN.{length, getD, drop, drop-of-length-le}
+use borrow.Author.Tests.{ltb-false, eqb-true}
+use lib.ListN.{length, getD, drop, drop-of-length-le, List·getD-eq-default}
 use lib.Seq.{drop-cons}
 use Rattle.words.specs.Kinds.{Row, rowsOf, word-plan, word-num, word-arr, word-two, word-in, word-var, word-lit, word-neg, word-add}
 use Rattle.words.specs.Kinds.{word-sub, word-mul, word-div, word-min, word-max, word-mappar, word-mapseq, word-redseq, word-zip}
@@ -19,7 +20,10 @@ use Rattle.words.specs.Kinds.{word-pair, word-split, word-join, word-fst
 use Rattle.words.specs.Kinds.{word-seq, word-for, word-par, word-new, word-out, word-loc, word-ctr, word-plus, word-times, word-over}
 use Rattle.words.specs.Kinds.{word-rest}
 use Rattle.words.specs.Good.{absent, distinct, lowerCase, wellFormed, Good}
-use Rattle.words.specs.Words.{bytes, table, words, wordAt, sameLetters, lookFrom, lookUp}
+use Rattle.words.specs.Words.{Entry, bytes, entry, table, words, wordAt, sameLetters, lookFrom, lookUp, operandsAs, operandsOf}
+use Rattle.words.specs.Groups.{oneOf, isListed}
+use Rattle.words.specs.declared.Sort.{Sort}
+use Rattle.words.specs.declared.Operands.the-variants.{Count}
 use Rattle.words.specs.declared.Found.{Found}
 use Rattle.words.specs.declared.Found.the-variants.{At, NotListed}
 
@@ -139,9 +143,40 @@ pub words-count : length words ≡ 38
 unfolding words table
 words-count = refl
 
+pub table-length : length table ≡ length words
+unfolding words table
+table-length = refl
+
+-- a kind that makes rows of some sort is a word's
+pub word-listed : (k : ℕ) (s : Sort) (m : ℕ) → operandsOf k s ≡ Count m → isListed k ≡ true
+unfolding operandsOf
+word-listed k s m e = go (isListed k) refl
+  where
+    go : (b : Bool) → isListed k ≡ b → b ≡ true
+    go true p = refl
+    go false p =
+        let h : length table ≤ k = omega (arith, ltb-false k (length words) p, table-length) in
+        let n = ap (λ (x : Entry). operandsAs s (x .uses)) (List·getD-eq-default table (entry "" []) h) in
+        absurd (let y : _≡_ {A = ℕ} 0 1 = cc in omega arith)
+
 pub words-good : Good words
 unfolding words table distinct absent sameLetters wellFormed
 words-good = record { count = refl; apart = tt; formed = tt; literal = omega arith }
+
+-- ---- groups of words: what holds of each word of a list, given as one tuple, holds of a kind that stands in it
+
+abbrev pub All : List ℕ → (ℕ → Type 0) → Type 0
+All [] P = Unit {0}
+All (w ∷ ws) P = P w × All ws P
+
+pub at-member : (P : ℕ → Type 0) (k : ℕ) (ws : List ℕ) → oneOf k ws ≡ true → All ws P → P k
+unfolding oneOf
+at-member P k [] h f = absurd (let z : _≡_ {A = ℕ} 0 1 = cc in omega arith)
+at-member P k (w ∷ ws) h f = go (eqb k w) refl h (λ q. at-member P k ws q (f .1))
+  where
+    go : (b : Bool) → eqb k w ≡ b → cond b true (oneOf k ws) ≡ true → (oneOf k ws ≡ true → P k) → P k
+    go true e q later = subst P (sym (eqb-true k w e)) (f .0)
+    go false e q later = later q
 
 -- ---- the rows of a table that is lent as kinds and numbers
 

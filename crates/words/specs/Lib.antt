@@ -1,9 +1,10 @@
--- The table of the 38 words, and looking a word up: [2.1] to [2.3], [1.3].
+-- The table of words, and looking a word up: [2.1] to [2.3], [1.3].
 -- Numbers in brackets, here and in every file, are those of the rules in docs/REQUIREMENTS.md.
 
 -- The definitions
 pub mod Kinds
 pub mod Words
+pub mod Groups
 pub mod Good
 -- What the contracts of parts say besides
 pub mod Packed

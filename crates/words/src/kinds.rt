@@ -74,3 +74,6 @@ pub const WORD_TIMES: u8 = 35;
 pub const WORD_OVER: u8 = 36;
 
 pub const WORD_REST: u8 = 37;
+
+// [2.2] How many words there are.
+pub const WORD_COUNT: usize = 38;

@@ -1,11 +1,14 @@
 // The words of plans and loops: one table, and looking a word up in it: [2.1] to [2.3], [1.3].
+pub mod groups;
 pub mod kinds;
 
 ghost use mathlib.Core.Path.{_≡_};
 ghost use Prim.Native.Nat.{ℕ, _-_, _≤_, _<_};
 ghost use lib.ListN.{length, getD};
+ghost use Rattle.words.specs.Kinds.{rowsOf};
 ghost use Rattle.words.specs.Packed.{packed, packedTable};
 ghost use Rattle.words.specs.Words.{words, wordAt, entryAt, sameLetters, lookUp, columnOf, operandsOf};
+use crate::kinds::WORD_COUNT;
 
 // [2.1] The sorts of rows.
 pub enum Sort {
@@ -35,7 +38,7 @@ pub enum Operands {
 // [2.2] A row for each word: its letters, how many they are, and its operands as a row of each sort, '-' where it makes none: plan,
 // type, term, loops, cells, command, place, value, offset. [2.3] The operands of `plan` and `loops` stand behind the inputs that their
 // number counts.
-const WORDS: [[u8; 18]; 38] = [
+const WORDS: [[u8; 18]; WORD_COUNT] = [
     *b"plan   4 1--------",
     *b"num    3 -0-------",
     *b"arr    3 -1-------",
@@ -94,22 +97,21 @@ fn column(sort: Sort) -> usize
 }
 
 // The row of the word of this kind in the table; one with no letters where the kind is no word's.
-fn row_in(table: &[[u8; 18]; 38], kind: u8) -> [u8; 18]
+fn row_in(table: &[[u8; 18]; WORD_COUNT], kind: usize) -> [u8; 18]
     requires { ⌜ now table ≡ packedTable ⌝ }
     ensures { λ r. ⌜ r ≡ packed (entryAt kind) ⌝ }
 {
-    let at = kind as usize;
-    if 38 <= at {
+    if WORD_COUNT <= kind {
         return *b"       0 ---------";
     }
-    table[at]
+    table[kind]
 }
 
 fn word_at(kind: u8) -> [u8; 18]
     ensures { λ r. ⌜ r ≡ packed (entryAt kind) ⌝ }
 {
     let table = WORDS;
-    row_in(&table, kind)
+    row_in(&table, kind as usize)
 }
 
 // The number that a digit stands for.
@@ -175,13 +177,23 @@ pub fn look_up(letters: &[u8]) -> Found
     ensures { λ r. ⌜ r ≡ lookUp words (now (letters .entry)) ⌝ }
 {
     let table = WORDS;
-    let mut kind: u8 = 0;
-    while kind < 38 {
+    let mut kind = 0;
+    while kind < WORD_COUNT {
         let word = row_in(&table, kind);
         if same(letters, word) {
-            return Found::At(kind as usize);
+            return Found::At(kind);
         }
         kind += 1;
     }
     Found::NotListed
+}
+
+// [1.8] How many rows a lent table has: as many as the shorter of its slices.
+pub fn row_count(kinds: &[u8], numbers: &[i32]) -> usize
+    ensures { λ r. ⌜ (r ≡ length (rowsOf (now (kinds .entry)) (now (numbers .entry)))) × (r ≤ length (now (kinds .entry))) × (r ≤ length (now (numbers .entry))) ⌝ }
+{
+    if kinds.len() < numbers.len() {
+        return kinds.len();
+    }
+    numbers.len()
 }

@@ -6,6 +6,7 @@ use native.Mathlib.Omega.{arith}
 use native.Mathlib.Numerals.{add-one}
 use lib.IntN.{ℤ, pos}
 use Rattle.words.specs.Kinds.{Row, word-set, word-seq, word-par, word-ctr, word-fst, word-snd}
+use Rattle.words.specs.Groups.{oneOf}
 use Rattle.meaning.specs.Types.{DataType, number, array, levels}
 use Rattle.meaning.specs.Loops.{Offset}
 use Rattle.meaning.specs.Paths.{Path}
@@ -89,7 +90,7 @@ module _ (Y : List ℕ) (N : List ℤ) (T : List ℕ) (t v q c r : ℕ) (o o′ 
         → BothPushed T U len word-ctr c v q
         → o′ ≡ putRows (assignRows (typeAt Y e) (expressionAt Y N U len) (acceptorAt Y U (len + 1)) (c + 1) r) o₁
         → o′ ≡ putRows (assignRows (typeAt Y t) (expressionAt Y N T v) (acceptorAt Y T q) c r) o
-    unfolding putRows assign commandRows
+    unfolding putRows assign commandRows oneOf
     assign-array U n e o₁ hc is p B h =
         let s : DataType = typeAt Y e in
         h
@@ -104,7 +105,7 @@ module _ (Y : List ℕ) (N : List ℤ) (T : List ℕ) (t v q c r : ℕ) (o o′ 
         → BothPushed W X len word-snd 0 v q
         → o′ ≡ putRows (assignRows (typeAt Y b) (expressionAt Y N X len) (acceptorAt Y X (len + 1)) c r) o₂
         → o′ ≡ putRows (assignRows (typeAt Y t) (expressionAt Y N T v) (acceptorAt Y T q) c r) o
-    unfolding putRows assign commandRows
+    unfolding putRows assign commandRows oneOf
     assign-pair U W X a b o₁ o₂ is p B h g D m =
         let E : Expression = expressionAt Y N T v in
         let P : Acceptor = acceptorAt Y T q in

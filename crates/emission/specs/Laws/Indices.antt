@@ -13,7 +13,7 @@ use Rattle.meaning.specs.Rows.{offsetRows}
 use Rattle.emission.specs.Table.{Table, putRow, putRows}
 use Rattle.emission.specs.Changes.{pathOf}
 use Rattle.emission.specs.Laws.Table.{put-append}
-use Rattle.emission.specs.Laws.Steps.{foundAt, indexOf, isSecond, depthIn, found-right}
+use Rattle.emission.specs.Laws.PathSteps.{foundAt, indexOf, isSecond, depthIn, found-right}
 use Rattle.emission.specs.declared.paths.Found.{Found}
 use Rattle.emission.specs.declared.paths.Found.the-variants.{CounterAt, Same, OfGroup, Quotient, Remainder}
 

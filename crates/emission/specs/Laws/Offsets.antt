@@ -17,7 +17,7 @@ use Rattle.meaning.specs.Limits.{CellsWithin}
 use Rattle.type_table.specs.Table.{typeAt, typesFrom, typesOf, nodeType, Sound}
 use Rattle.emission.specs.Table.{Table, putRow, putRows}
 use Rattle.emission.specs.Laws.Table.{put-append}
-use Rattle.emission.specs.Laws.Steps.{tail-drop}
+use Rattle.emission.specs.Laws.PathSteps.{tail-drop}
 use Rattle.emission.specs.Laws.Indices.{rowsUnder}
 use Rattle.emission.specs.Laws.Operands.{is-second-part, is-first-part}
 

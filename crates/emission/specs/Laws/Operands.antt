@@ -3,12 +3,13 @@
 use mathlib.Core.Path.{_≡_, refl, ap, sym, _∙_}
 use mathlib.Core.List.{[], _∷_}
 use mathlib.Core.Bool.{Bool, true, false, cond}
-use Prim.Native.Nat.{ℕ, suc, _<_, _≤_}
+use Prim.Native.Nat.{ℕ, _<_}
 use native.Mathlib.Omega.{arith}
 use lib.IntN.{pos}
 use lib.ListN.{drop}
-use borrow.Author.Tests.{ne-eqb, lt-ltb, le-ltb}
-use Rattle.words.specs.Kinds.{word-in, word-lit, word-neg, word-add, word-max, word-out, word-loc}
+use borrow.Author.Tests.{ne-eqb}
+use Rattle.words.specs.Kinds.{word-in, word-lit, word-neg, word-out, word-loc}
+use Rattle.words.specs.Groups.{isOperation}
 use Rattle.meaning.specs.Loops.{Offset, Place, Value}
 use Rattle.meaning.specs.Paths.{Path, tail, byPart, index, first, second}
 use Rattle.meaning.specs.Expressions.{Expression, Acceptor}
@@ -17,23 +18,18 @@ use Rattle.meaning.specs.Translation.{noExpression}
 use Rattle.emission.specs.Nodes.{kindIn}
 use Rattle.emission.specs.Changes.{changeOf, through}
 use Rattle.emission.specs.References.{classOf, rearranged, written, noAcceptor}
-use Rattle.emission.specs.Laws.Steps.{tail-drop}
+use Rattle.emission.specs.Laws.PathSteps.{tail-drop}
 use Rattle.emission.specs.declared.paths.Change.{Change}
 use Rattle.emission.specs.declared.paths.Change.the-variants.{Zip, Pair, Ungrouped, Grouped, First, Second, AtLiteral, AtCounter, ZipFirst, ZipSecond, Unchanged}
 use Rattle.emission.specs.declared.references.Class.the-variants.{Operation, Rearranged}
 
 -- the class of a kind that is none of those named
 module _ (k : ℕ) (a : k ≡ word-lit → ⊥) (b : k ≡ word-in → ⊥) (c : k ≡ word-loc → ⊥) (d : k ≡ word-out → ⊥) (e : k ≡ word-neg → ⊥) where
-  pub class-low : k < word-add → Rearranged ≡ classOf k
-  class-low h = rw (ne-eqb k word-lit a, ne-eqb k word-in b, ne-eqb k word-loc c, ne-eqb k word-out d, ne-eqb k word-neg e, lt-ltb k word-add h) refl
+  pub class-operation : isOperation k ≡ true → Operation ≡ classOf k
+  class-operation h = rw (ne-eqb k word-lit a, ne-eqb k word-in b, ne-eqb k word-loc c, ne-eqb k word-out d, ne-eqb k word-neg e, h) refl
 
-  pub class-operation : word-add ≤ k → k < suc word-max → Operation ≡ classOf k
-  class-operation h l =
-      rw (ne-eqb k word-lit a, ne-eqb k word-in b, ne-eqb k word-loc c, ne-eqb k word-out d, ne-eqb k word-neg e, le-ltb k word-add h, lt-ltb k (suc word-max) l) refl
-
-  pub class-high : word-add ≤ k → suc word-max ≤ k → Rearranged ≡ classOf k
-  class-high h l =
-      rw (ne-eqb k word-lit a, ne-eqb k word-in b, ne-eqb k word-loc c, ne-eqb k word-out d, ne-eqb k word-neg e, le-ltb k word-add h, le-ltb k (suc word-max) l) refl
+  pub class-other : isOperation k ≡ false → Rearranged ≡ classOf k
+  class-other h = rw (ne-eqb k word-lit a, ne-eqb k word-in b, ne-eqb k word-loc c, ne-eqb k word-out d, ne-eqb k word-neg e, h) refl
 
 -- The node that a path goes on to: of a zip or a pair one of the two; node 0, which stands for nothing, behind what cannot be read,
 -- or written.

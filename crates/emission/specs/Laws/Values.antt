@@ -5,12 +5,13 @@ use mathlib.Core.Bool.{Bool, true, false, cond}
 use Prim.Native.Nat.{ℕ, zero, suc, _+_, _-_, _<_, _≤_}
 use native.Mathlib.Omega.{arith}
 use native.Mathlib.Numerals.{add-one}
-use borrow.Author.Tests.{ltb-true, ltb-false}
-use lib.Dec.{eqb, ltb}
+use lib.Dec.{eqb}
 use lib.IntN.{ℤ, pos}
 use lib.ListN.{getD, length, set, take}
 use lib.Seq.{take-take, take-set-le, getD-take, getD-set-same}
-use Rattle.words.specs.Kinds.{Row, word-in, word-lit, word-neg, word-add, word-max, word-out, word-loc}
+use Rattle.words.specs.Kinds.{Row, word-in, word-lit, word-neg, word-out, word-loc}
+use Rattle.words.specs.Groups.{operations, isOperation}
+use Rattle.words.specs.Laws.{at-member}
 use Rattle.meaning.specs.Loops.{Offset}
 use Rattle.meaning.specs.Paths.{Path}
 use Rattle.meaning.specs.Expressions.{Expression}
@@ -65,34 +66,21 @@ operated Negation = 0
 operated Operation = 1
 operated Rearranged = 0
 
-bounds : (a b c d e f g : Bool)
-    → cond a Literal (cond b Input (cond c Region (cond d Output (cond e Negation (cond f Rearranged (cond g Operation Rearranged)))))) ≡ Operation
-    → (f ≡ false) × (g ≡ true)
-bounds true b c d e f g h = absurd (let z : 0 ≡ 1 = ap operated h in omega arith)
-bounds false true c d e f g h = absurd (let z : 0 ≡ 1 = ap operated h in omega arith)
-bounds false false true d e f g h = absurd (let z : 0 ≡ 1 = ap operated h in omega arith)
-bounds false false false true e f g h = absurd (let z : 0 ≡ 1 = ap operated h in omega arith)
-bounds false false false false true f g h = absurd (let z : 0 ≡ 1 = ap operated h in omega arith)
-bounds false false false false false true g h = absurd (let z : 0 ≡ 1 = ap operated h in omega arith)
-bounds false false false false false false true h = (refl, refl)
-bounds false false false false false false false h = absurd (let z : 0 ≡ 1 = ap operated h in omega arith)
-
-six : (j : ℕ) → j < 6 → operationWord (operationOf (word-add + j)) ≡ word-add + j
-six zero h = refl
-six (suc zero) h = refl
-six (suc (suc zero)) h = refl
-six (suc (suc (suc zero))) h = refl
-six (suc (suc (suc (suc zero)))) h = refl
-six (suc (suc (suc (suc (suc zero))))) h = refl
-six (suc (suc (suc (suc (suc (suc j)))))) h = absurd (omega arith)
+its-test : (a b c d e f : Bool)
+    → cond a Literal (cond b Input (cond c Region (cond d Output (cond e Negation (cond f Operation Rearranged))))) ≡ Operation → f ≡ true
+its-test true b c d e f h = absurd (let z : 0 ≡ 1 = ap operated h in omega arith)
+its-test false true c d e f h = absurd (let z : 0 ≡ 1 = ap operated h in omega arith)
+its-test false false true d e f h = absurd (let z : 0 ≡ 1 = ap operated h in omega arith)
+its-test false false false true e f h = absurd (let z : 0 ≡ 1 = ap operated h in omega arith)
+its-test false false false false true f h = absurd (let z : 0 ≡ 1 = ap operated h in omega arith)
+its-test false false false false false true h = refl
+its-test false false false false false false h = absurd (let z : 0 ≡ 1 = ap operated h in omega arith)
 
 operation-word : (k : ℕ) → classOf k ≡ Operation → operationWord (operationOf k) ≡ k
 operation-word k h =
-    let b = bounds (eqb k word-lit) (eqb k word-in) (eqb k word-loc) (eqb k word-out) (eqb k word-neg) (ltb k word-add) (ltb k (suc word-max)) h in
-    let low : word-add ≤ k = ltb-false k word-add (b .0) in
-    let high : k < suc word-max = ltb-true k (suc word-max) (b .1) in
-    let e : word-add + (k - word-add) ≡ k = omega arith in
-    subst (λ (j : ℕ). operationWord (operationOf j) ≡ j) e (six (k - word-add) (omega arith))
+    at-member (λ w. operationWord (operationOf w) ≡ w) k operations
+    (its-test (eqb k word-lit) (eqb k word-in) (eqb k word-loc) (eqb k word-out) (eqb k word-neg) (isOperation k) h)
+    (refl, (refl, (refl, (refl, (refl, (refl, tt))))))
 
 -- the value of an expression at a path, as rows
 abbrev pub valueAt : ℕ → ℕ → Expression → Path Offset → List Row

@@ -4,6 +4,7 @@ use mathlib.Core.List.{List, []}
 use Prim.Native.Nat.{ℕ, _≤_}
 use lib.IntN.{ℤ}
 use lib.ListN.{length}
+use Rattle.refusals.specs.declared.Answer.{Answer}
 use Rattle.words.specs.Kinds.{rowsOf}
 use Rattle.lines.specs.Lent.{textRows}
 use Rattle.meaning.specs.Types.{DataType}
@@ -23,17 +24,15 @@ use Rattle.syntax.specs.Theorems.{loops-read}
 use Rattle.interpreter.specs.Orders.{runOf}
 use Rattle.loops.specs.declared.Checked.{Checked}
 use Rattle.loops.specs.declared.Checked.the-variants.{Passes}
-use Rattle.loops.specs.declared.Needed.{Needed}
-use Rattle.loops.specs.Check.{checkTable, checkText, needOf}
+use Rattle.loops.specs.Check.{checkTable, checkLoopsText, needOf}
 use Rattle.loops.specs.Contracts.{TellsNeed}
 use Rattle.translate.specs.Accepted.{TextPlan}
 use Rattle.translate.specs.Entry.{madeRows}
-use Rattle.run.specs.declared.Ran.{Ran}
-use Rattle.run.specs.Run.{Outcome, outcome, finished}
+use Rattle.run.specs.Run.{Ran, outcome, finished}
 use Rattle.run.specs.Contracts.{KeepsFrame, RunsText, RunsRows}
 use Rattle.run.specs.Theorems.{run-is-run, text-finished, table-finished}
 use Rattle.store.specs.Store.{storeOf}
-use Rattle.guarantees.specs.Told.{Told, toldNeeded, toldRan, toldCode, cut}
+use Rattle.guarantees.specs.Told.{Told, toldAnswer, toldCode, cut}
 use Rattle.guarantees.specs.Ways.{MadeText, MadeTable}
 use Rattle.guarantees.specs.Runs.{runNamed}
 use Rattle.guarantees.specs.Demand3.{RanRightly, Delivered}
@@ -61,32 +60,32 @@ module _ (ws : List (List ℕ)) (good : Good ws) where
 
     -- ---- an entry that made the run in an order
 
-    module _ (order : ℕ) (c c′ : List ℤ) (b b′ : List ℕ) (r : Ran) (long : need L ≤ length (storeOf c b)) (f : KeepsFrame c b c′ b′) where
+    module _ (order : ℕ) (c c′ : List ℤ) (b b′ : List ℕ) (r : Answer) (long : need L ≤ length (storeOf c b)) (f : KeepsFrame c b c′ b′) where
       abbrev st : State clamped32
       st = runOf L order (storeOf c b)
 
-      ran-rightly : outcome r (storeOf c′ b′) ≡ finished st → RanRightly P c b (toldRan r) c′ b′
+      ran-rightly : outcome r (storeOf c′ b′) ≡ finished st → RanRightly P c b (toldAnswer r) c′ b′
       ran-rightly e =
           let o = every ws good t y (storeOf c b) long st (run-is-run L order (storeOf c b)) in
-          let answer = ap (λ (x : Outcome). x .answer) e in
-          let store : storeOf c′ b′ ≡ st .store = ap (λ (x : Outcome). x .store) e in
+          let answer = ap (λ (x : Ran). x .answer) e in
+          let store : storeOf c′ b′ ≡ st .store = ap (λ (x : Ran). x .store) e in
           record {
-            told = ap toldRan answer ∙ ap Told.value (o .writesCounted);
+            told = ap toldAnswer answer ∙ ap Told.value (o .writesCounted);
             outcome = come-to ws good P (storeOf c b) (storeOf c′ b′) st store o;
             others = f;
           }
 
-      pub text-run : {u : List ℕ} → MadeText ws t u → order ≤ 2 → RunsText ws u order c b r c′ b′ → RanRightly P c b (toldRan r) c′ b′
+      pub text-run : {u : List ℕ} → MadeText ws t u → order ≤ 2 → RunsText ws u order c b r c′ b′ → RanRightly P c b (toldAnswer r) c′ b′
       text-run {u} M few e =
           let x = made-text ws good t M in
-          let passes : checkText ws u ≡ Passes (planWrites P) (need L) = ap (checkText ws) (x .1) ∙ text-passes ws good t y in
+          let passes : checkLoopsText ws u ≡ Passes (planWrites P) (need L) = ap (checkLoopsText ws) (x .1) ∙ text-passes ws good t y in
           let loops : loopsOf (textRows ws u) ≡ L = ap (λ (v : List ℕ). loopsOf (textRows ws v)) (x .1) ∙ ap loopsOf (back ws good t y) ∙ loops-read L in
           ran-rightly
           (e
           ∙ text-finished ws u (planWrites P) (need L) order (storeOf c b) passes few long
           ∙ ap (λ (M : Loops). finished (runOf M order (storeOf c b))) loops)
 
-      pub table-run : {k : List ℕ} {n : List ℤ} → MadeTable ws t k n → order ≤ 2 → RunsRows k n order c b r c′ b′ → RanRightly P c b (toldRan r) c′ b′
+      pub table-run : {k : List ℕ} {n : List ℤ} → MadeTable ws t k n → order ≤ 2 → RunsRows k n order c b r c′ b′ → RanRightly P c b (toldAnswer r) c′ b′
       table-run {k} {n} M few e =
           let rows : rowsOf k n ≡ madeRows P = made-table ws good t M .1 in
           let loops : loopsOf (rowsOf k n) ≡ L = ap loopsOf rows ∙ loops-read L in
@@ -100,9 +99,9 @@ module _ (ws : List (List ℕ)) (good : Good ws) where
     told-c : (c c′ : List ℤ) (b b′ : List ℕ) (a r : Told) → r ≡ cut a → RanRightly P c b a c′ b′ → RanRightly P c b r c′ b′
     told-c c c′ b b′ a r e h = record { told = e ∙ ap cut (h .told); outcome = h .outcome; others = h .others }
 
-    need-told : {u : List ℕ} → MadeText ws t u → (r : Needed) → TellsNeed ws u r → toldNeeded r ≡ Told.value (need L)
+    need-told : {u : List ℕ} → MadeText ws t u → (r : Answer) → TellsNeed ws u r → toldAnswer r ≡ Told.value (need L)
     need-told {u} M r e =
-        ap toldNeeded e ∙ ap (λ (x : Checked). toldNeeded (needOf x)) (ap (checkText ws) (made-text ws good t M .1) ∙ text-passes ws good t y)
+        ap toldAnswer e ∙ ap (λ (x : Checked). toldAnswer (needOf x)) (ap (checkLoopsText ws) (made-text ws good t M .1) ∙ text-passes ws good t y)
 
     pub delivered : Delivered ws t P
     delivered = record {
@@ -117,9 +116,9 @@ module _ (ws : List (List ℕ)) (good : Good ws) where
       table-run = λ k n M order few c c′ b b′ r long f e. table-run order c c′ b b′ r long f M few e;
       text-run-c = λ u M order few b b′ r long e.
           let a = run-text-c ws good u order b b′ r e in
-          told-c [] [] b b′ (toldRan (a .0)) (toldCode r) (a .2) (text-run order [] [] b b′ (a .0) long (a .1 .1) M few (a .1 .0));
+          told-c [] [] b b′ (toldAnswer (a .0)) (toldCode r) (a .2) (text-run order [] [] b b′ (a .0) long (a .1 .1) M few (a .1 .0));
       printed-run = λ u M v s s′ l l′ r I room long values. printed-run ws good t y v s long M s′ l l′ r I room values;
       table-run-c = λ k n M order few b b′ r long e.
           let a = run-rows-c ws good k n order b b′ r e in
-          told-c [] [] b b′ (toldRan (a .0)) (toldCode r) (a .2) (table-run order [] [] b b′ (a .0) long (a .1 .1) M few (a .1 .0));
+          told-c [] [] b b′ (toldAnswer (a .0)) (toldCode r) (a .2) (table-run order [] [] b b′ (a .0) long (a .1 .1) M few (a .1 .0));
     }

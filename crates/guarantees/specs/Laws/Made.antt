@@ -8,41 +8,39 @@ use Prim.Native.Nat.{ℕ, _≤_}
 use lib.Dec.{leb→le}
 use lib.IntN.{ℤ}
 use lib.ListN.{length, take}
+use Rattle.refusals.specs.declared.Answer.{Answer}
+use Rattle.refusals.specs.declared.Answer.the-variants as answer
+use Rattle.refusals.specs.Answers.{isTold}
 use Rattle.words.specs.Kinds.{Row, rowsOf}
-use Rattle.lines.specs.Lent.{textRows, columnLeft}
+use Rattle.lines.specs.Lent.{textRows}
 use Rattle.lines.specs.Printing.{textOf}
 use Rattle.lines.specs.Reading.{kindsOf, numbersOf, filled}
 use Rattle.lines.specs.TableLaws.{in-front, rows-in-front}
-use Rattle.lines.specs.declared.Printing.{Printing}
-use Rattle.lines.specs.declared.Reading.{Reading}
 use Rattle.meaning.specs.Terms.{Plan}
 use Rattle.meaning.specs.Layout.{need}
 use Rattle.meaning.specs.Rows.{planRows}
 use Rattle.meaning.specs.Counts.{planWrites}
 use Rattle.meaning.specs.Translation.{translation}
-use Rattle.syntax.specs.declared.Answer.{Answer}
-use Rattle.syntax.specs.declared.Answer.the-variants as plan
 use Rattle.syntax.specs.Reading.{planOf}
 use Rattle.syntax.specs.Theorems.{plan-read, plan-unique}
 use Rattle.typing.specs.Questions.{Question, ask, AllYes}
 use Rattle.typing.specs.TypeQuestions.{planQuestions}
-use Rattle.typing.specs.Entry.{checkText}
+use Rattle.typing.specs.Entry.{checkPlanText}
 use Rattle.typing.specs.Laws.Questions.{yes-append, yes-parts, all-asked, end-asked, ask-through}
 use Rattle.typing.specs.Laws.Sized.{yes-to, plan-fits}
 use Rattle.plans.specs.Contracts.{ChecksPlan}
 use Rattle.loops.specs.declared.Checked.the-variants.{Passes}
-use Rattle.loops.specs.Check.{checkTable, checkText as checkLoopsText}
+use Rattle.loops.specs.Check.{checkTable, checkLoopsText as checkLoopsText}
 use Rattle.loops.specs.Contracts.{ReadsLoops}
 use Rattle.loops.specs.Theorems.{own-pass}
 use Rattle.loops.specs.TableTheorems.{few-rows}
 use Rattle.loops.specs.TextTheorems.{own-text-back, own-text-passes}
-use Rattle.translate.specs.declared.Made.{Made}
 use Rattle.translate.specs.Accepted.{TextPlan}
-use Rattle.translate.specs.Entry.{madeRows, isMade, isPrinted}
+use Rattle.translate.specs.Entry.{madeRows}
 use Rattle.translate.specs.Questions.{madeQuestions}
 use Rattle.translate.specs.Contracts.{TranslatesRows, TranslatesText}
 use Rattle.translate.specs.Laws.Texts.{text-plan}
-use Rattle.guarantees.specs.Told.{Told, refusal, toldAnswer, toldReading, toldPrinting, toldMade, cut}
+use Rattle.guarantees.specs.Told.{Told, refusal, toldAnswer, cut}
 use Rattle.guarantees.specs.Questions.{planDoor}
 use Rattle.guarantees.specs.Ways.{MadeText, MadeTable, Translated}
 use Rattle.guarantees.specs.Demand2.{PlanAccepted}
@@ -50,7 +48,7 @@ use Rattle.guarantees.specs.Laws.Codes.{translate-c, read-loops-c}
 use Rattle.guarantees.specs.Laws.Doors.{plan-is, plan-asks}
 use Rattle.guarantees.specs.Laws.LoopsEntries.{loops-read-asked}
 use Rattle.guarantees.specs.Laws.PlanEntries.{text-asked, rows-asked}
-use Rattle.guarantees.specs.Laws.Told.{no-value, reading-done, printing-done, made-done}
+use Rattle.guarantees.specs.Laws.Told.{no-value, answer-done}
 use Rattle.words.specs.Good.{Good}
 
 -- ws is any good table of words.
@@ -79,8 +77,8 @@ module _ (ws : List (List ℕ)) (good : Good ws) where
 
     -- ---- the plan of a text that is accepted
 
-    passed : AllYes (planDoor ws t) → AllYes (planQuestions P) → checkText ws t ≡ plan.Passed (length R)
-    passed d p = plan-asks ws good t ∙ all-asked plan.Refused (planDoor ws t ++ planQuestions P) (plan.Passed (length R)) (yes-append (planDoor ws t) (planQuestions P) d p)
+    passed : AllYes (planDoor ws t) → AllYes (planQuestions P) → checkPlanText ws t ≡ answer.Told (length R)
+    passed d p = plan-asks ws good t ∙ all-asked answer.Refused (planDoor ws t ++ planQuestions P) (answer.Told (length R)) (yes-append (planDoor ws t) (planQuestions P) d p)
 
     pub the-plan : AllYes (planDoor ws t) → AllYes (planQuestions P) → TextPlan ws t P
     the-plan d p = text-plan ws t (length R) (passed d p)
@@ -120,7 +118,7 @@ module _ (ws : List (List ℕ)) (good : Good ws) where
       where
         told : toldAnswer r ≡ ask refusal (planDoor ws t ++ planQuestions P) (Told.value (length R))
         told = ap toldAnswer (e ∙ plan-asks ws good t)
-            ∙ ask-through plan.Refused refusal toldAnswer (λ q. refl) (planDoor ws t ++ planQuestions P) (plan.Passed (length R))
+            ∙ ask-through answer.Refused refusal toldAnswer (λ q. refl) (planDoor ws t ++ planQuestions P) (answer.Told (length R))
 
     -- ---- all "yes" where loops were had
 
@@ -142,19 +140,19 @@ module _ (ws : List (List ℕ)) (good : Good ws) where
           writes = leb→le (planWrites P) 16777216 (c .1 .0);
         }
 
-    put-text : (u u′ : List ℕ) (r : Printing) (n : ℕ) → TranslatesText ws t u r u′ → toldPrinting r ≡ Told.value n → Yes × (take n u′ ≡ S)
+    put-text : (u u′ : List ℕ) (r : Answer) (n : ℕ) → TranslatesText ws t u r u′ → toldAnswer r ≡ Told.value n → Yes × (take n u′ ≡ S)
     put-text u u′ r n I e =
-        let a = value-due _ (length S) n (toldPrinting r) (text-asked ws good t u u′ r I) e in (
+        let a = value-due _ (length S) n (toldAnswer r) (text-asked ws good t u u′ r I) e in (
           yes _ (a .0),
-          printing-done r n e
-              (λ m f. in-front true S u u′ n refl (a .1) (I .text-left ∙ ap (λ (x : Printing). filled (isPrinted x) S u) f)),
+          answer-done r n e
+              (λ m f. in-front true S u u′ n refl (a .1) (I .text-left ∙ ap (λ (x : Answer). filled (isTold x) S u) f)),
         )
 
     pub made-text : {u : List ℕ} → MadeText ws t u → Yes × (u ≡ S)
     made-text (MadeText.translated u u′ r n I e) = put-text u u′ r n I e
     made-text (MadeText.translated-c u u′ r n I e) =
         let c = translate-c ws good t u u′ r I in
-        put-text u u′ (c .0) n (c .1) (value-cut (toldPrinting (c .0)) n (sym (c .2) ∙ e))
+        put-text u u′ (c .0) n (c .1) (value-cut (toldAnswer (c .0)) n (sym (c .2) ∙ e))
 
     -- ---- tables
 
@@ -171,30 +169,30 @@ module _ (ws : List (List ℕ)) (good : Good ws) where
       pub rows-pass : checkTable (madeRows P) ≡ Passes (planWrites P) (need (translation P))
       rows-pass = few-rows (madeRows P) (y .few) ∙ own-pass P (T .type) (T .well-typed) (T .within) (y .writes)
 
-    put-rows : (k k′ : List ℕ) (n n′ : List ℤ) (r : Made) (m : ℕ) → TranslatesRows ws t k n r k′ n′ → toldMade r ≡ Told.value m
+    put-rows : (k k′ : List ℕ) (n n′ : List ℤ) (r : Answer) (m : ℕ) → TranslatesRows ws t k n r k′ n′ → toldAnswer r ≡ Told.value m
         → Yes × (rowsOf (take m k′) (take m n′) ≡ madeRows P)
     put-rows k k′ n n′ r m I e =
-        let a = value-due _ (length (madeRows P)) m (toldMade r) (rows-asked ws good t k k′ n n′ r I) e in (
+        let a = value-due _ (length (madeRows P)) m (toldAnswer r) (rows-asked ws good t k k′ n n′ r I) e in (
           yes _ (a .0),
-          made-done r m e
+          answer-done r m e
               (λ i f.
               rows-in-front true (madeRows P) m k k′ n n′ refl (a .1)
-              (I .kinds-left ∙ ap (λ (x : Made). filled (isMade x) (kindsOf (madeRows P)) k) f)
-              (I .numbers-left ∙ ap (λ (x : Made). filled (isMade x) (numbersOf (madeRows P)) n) f)),
+              (I .kinds-left ∙ ap (λ (x : Answer). filled (isTold x) (kindsOf (madeRows P)) k) f)
+              (I .numbers-left ∙ ap (λ (x : Answer). filled (isTold x) (numbersOf (madeRows P)) n) f)),
         )
 
-    read-rows : {u : List ℕ} → MadeText ws t u → (k k′ : List ℕ) (n n′ : List ℤ) (r : Reading) (m : ℕ) → ReadsLoops ws u k n r k′ n′
-        → toldReading r ≡ Told.value m → Yes × (rowsOf (take m k′) (take m n′) ≡ madeRows P)
+    read-rows : {u : List ℕ} → MadeText ws t u → (k k′ : List ℕ) (n n′ : List ℤ) (r : Answer) (m : ℕ) → ReadsLoops ws u k n r k′ n′
+        → toldAnswer r ≡ Told.value m → Yes × (rowsOf (take m k′) (take m n′) ≡ madeRows P)
     read-rows {u} M k k′ n n′ r m I e =
         let x = made-text M in
         let rows : textRows ws u ≡ madeRows P = ap (textRows ws) (x .1) ∙ back (x .0) in
-        let a = value-due _ (length (textRows ws u)) m (toldReading r) (loops-read-asked ws good u k k′ n n′ r I) e in (
+        let a = value-due _ (length (textRows ws u)) m (toldAnswer r) (loops-read-asked ws good u k k′ n n′ r I) e in (
           x .0,
-          reading-done r m e
+          answer-done r m e
               (λ i f.
               rows-in-front true (textRows ws u) m k k′ n n′ refl (a .1)
-              (I .kinds-left ∙ ap (λ (z : Reading). columnLeft z (kindsOf (textRows ws u)) k) f)
-              (I .numbers-left ∙ ap (λ (z : Reading). columnLeft z (numbersOf (textRows ws u)) n) f))
+              (I .kinds-left ∙ ap (λ (z : Answer). filled (isTold z) (kindsOf (textRows ws u)) k) f)
+              (I .numbers-left ∙ ap (λ (z : Answer). filled (isTold z) (numbersOf (textRows ws u)) n) f))
               ∙ rows,
         )
 
@@ -203,7 +201,7 @@ module _ (ws : List (List ℕ)) (good : Good ws) where
     made-table (MadeTable.read u M k k′ n n′ r m I e) = read-rows M k k′ n n′ r m I e
     made-table (MadeTable.read-c u M k k′ n n′ r m I e) =
         let c = read-loops-c ws good u k k′ n n′ r I in
-        read-rows M k k′ n n′ (c .0) m (c .1) (value-cut (toldReading (c .0)) m (sym (c .2) ∙ e))
+        read-rows M k k′ n n′ (c .0) m (c .1) (value-cut (toldAnswer (c .0)) m (sym (c .2) ∙ e))
 
     pub translated-yes : Translated ws t → Yes
     translated-yes (Translated.into-text u M) = made-text M .0

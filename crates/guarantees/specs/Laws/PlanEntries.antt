@@ -8,37 +8,31 @@ use lib.IntN.{ℤ}
 use lib.ListN.{length, drop, length-map}
 use Rattle.refusals.specs.declared.Refusal.{Refusal}
 use Rattle.refusals.specs.declared.Refusal.the-variants.{LoopsLength, WriteCount, LentSize}
+use Rattle.refusals.specs.declared.Answer.{Answer}
+use Rattle.refusals.specs.declared.Answer.the-variants as answer
+use Rattle.refusals.specs.Answers.{unlessRefused, isTold}
 use Rattle.words.specs.Kinds.{Row}
-use Rattle.lines.specs.Lent.{textRows, askRoom, columnLeft}
+use Rattle.lines.specs.Lent.{textRows, askRoom}
 use Rattle.lines.specs.Printing.{textOf, printing}
 use Rattle.lines.specs.Reading.{kindsOf, numbersOf, filled}
-use Rattle.lines.specs.declared.Printing.{Printing}
-use Rattle.lines.specs.declared.Printing.the-variants as print
-use Rattle.lines.specs.declared.Reading.{Reading}
-use Rattle.lines.specs.declared.Reading.the-variants as read
 use Rattle.meaning.specs.Terms.{Plan}
 use Rattle.meaning.specs.Counts.{planWrites}
 use Rattle.meaning.specs.Rows.{planRows}
-use Rattle.syntax.specs.declared.Answer.{Answer}
-use Rattle.syntax.specs.declared.Answer.the-variants as plan
 use Rattle.syntax.specs.Reading.{planOf}
 use Rattle.syntax.specs.Theorems.{plan-unique}
 use Rattle.typing.specs.Questions.{Question, ask}
 use Rattle.typing.specs.TypeQuestions.{planQuestions}
-use Rattle.typing.specs.Entry.{checkText}
-use Rattle.plans.specs.Reading.{afterCheck, readText}
+use Rattle.typing.specs.Entry.{checkPlanText}
 use Rattle.plans.specs.Contracts.{ChecksPlan, ReadsPlan}
-use Rattle.translate.specs.declared.Made.{Made}
-use Rattle.translate.specs.declared.Made.the-variants as make
-use Rattle.translate.specs.Entry.{madeRows, makePlan, afterCheck as afterPlan, makeText, lentTable, isMade, lentText, isPrinted}
+use Rattle.translate.specs.Entry.{madeRows, makePlan, makeText}
 use Rattle.translate.specs.Questions.{madeQuestions}
 use Rattle.translate.specs.Contracts.{TranslatesRows, TranslatesText}
-use Rattle.guarantees.specs.Told.{Told, refusal, toldAnswer, toldReading, toldPrinting, toldMade}
+use Rattle.guarantees.specs.Told.{Told, refusal, toldAnswer}
 use Rattle.guarantees.specs.Questions.{planDoor, tableRoom, textRoom}
 use Rattle.guarantees.specs.Demand1.{OfPlan, Nothing, TableKept, TableLeft, TextLeft}
 use Rattle.guarantees.specs.Laws.Asked.{answers-of}
 use Rattle.guarantees.specs.Laws.Doors.{plan-is, plan-asks}
-use Rattle.guarantees.specs.Laws.Told.{told-asks, told-further, reading-refused, reading-done, printing-refused, printing-done, made-refused, made-done}
+use Rattle.guarantees.specs.Laws.Told.{told-asks, told-further, answer-refused, answer-done}
 use Rattle.words.specs.Good.{Good}
 
 -- ws is any good table of words.
@@ -50,27 +44,27 @@ module _ (ws : List (List ℕ)) (good : Good ws) where
       → left ≡ map f R ++ drop (length (map f R)) held → left ≡ map f R ++ drop (length R) held
   column-left R f held left e = e ∙ ap (λ (n : ℕ). map f R ++ drop n held) (length-map R f)
 
-  module _ (R : List Row) (k k′ : List ℕ) (n n′ : List ℤ) (r : Reading)
-      (x : k′ ≡ columnLeft r (kindsOf R) k) (y : n′ ≡ columnLeft r (numbersOf R) n) where
-    pub table-kept : (q : Refusal) → toldReading r ≡ refusal q → TableKept k k′ n n′
+  module _ (R : List Row) (k k′ : List ℕ) (n n′ : List ℤ) (r : Answer)
+      (x : k′ ≡ filled (isTold r) (kindsOf R) k) (y : n′ ≡ filled (isTold r) (numbersOf R) n) where
+    pub table-kept : (q : Refusal) → toldAnswer r ≡ refusal q → TableKept k k′ n n′
     table-kept q e =
-        reading-refused r q e
-        (λ p f. (x ∙ ap (λ (a : Reading). columnLeft a (kindsOf R) k) f, y ∙ ap (λ (a : Reading). columnLeft a (numbersOf R) n) f))
+        answer-refused r q e
+        (λ p f. (x ∙ ap (λ (a : Answer). filled (isTold a) (kindsOf R) k) f, y ∙ ap (λ (a : Answer). filled (isTold a) (numbersOf R) n) f))
 
-    pub table-left : (v : ℕ) → toldReading r ≡ Told.value v → TableLeft R k k′ n n′
+    pub table-left : (v : ℕ) → toldAnswer r ≡ Told.value v → TableLeft R k k′ n n′
     table-left v e =
-        reading-done r v e
+        answer-done r v e
         (λ m f. (
-          column-left R (λ (a : Row). a .0) k k′ (x ∙ ap (λ (a : Reading). columnLeft a (kindsOf R) k) f),
-          column-left R (λ (a : Row). a .1) n n′ (y ∙ ap (λ (a : Reading). columnLeft a (numbersOf R) n) f),
+          column-left R (λ (a : Row). a .0) k k′ (x ∙ ap (λ (a : Answer). filled (isTold a) (kindsOf R) k) f),
+          column-left R (λ (a : Row). a .1) n n′ (y ∙ ap (λ (a : Answer). filled (isTold a) (numbersOf R) n) f),
         ))
 
   -- 12 of a lent table
-  pub room-told : (m k n : ℕ) → toldReading (askRoom m k n) ≡ ask refusal (tableRoom m k n) (Told.value m)
+  pub room-told : (m k n : ℕ) → toldAnswer (askRoom m k n) ≡ ask refusal (tableRoom m k n) (Told.value m)
   unfolding ask
   room-told m k n = go (leb m k && leb m n)
     where
-      go : (b : Bool) → toldReading (cond b (read.Rows m) (read.Refused LentSize)) ≡ cond b (Told.value m) (refusal LentSize)
+      go : (b : Bool) → toldAnswer (cond b (answer.Told m) (answer.Refused LentSize)) ≡ cond b (Told.value m) (refusal LentSize)
       go true = refl
       go false = refl
 
@@ -85,9 +79,9 @@ module _ (ws : List (List ℕ)) (good : Good ws) where
     door = planDoor ws t ++ planQuestions P
 
     -- what is told of the check's answer, by any f that hands refusals on
-    plan-told : (f : Answer → Told) → ((q : Refusal) → f (plan.Refused q) ≡ refusal q)
-        → f (checkText ws t) ≡ ask refusal door (f (plan.Passed (length R)))
-    plan-told f h = told-asks plan.Refused f h door (plan.Passed (length R)) (checkText ws t) (plan-asks ws good t)
+    plan-told : (f : Answer → Told) → ((q : Refusal) → f (answer.Refused q) ≡ refusal q)
+        → f (checkPlanText ws t) ≡ ask refusal door (f (answer.Told (length R)))
+    plan-told f h = told-asks answer.Refused f h door (answer.Told (length R)) (checkPlanText ws t) (plan-asks ws good t)
 
     pub of-plan : (more : Plan → List Question) (v : Plan → ℕ) (Kept : Type 0) (Left : Plan → Type 0) (r : Told)
         → r ≡ ask refusal (planDoor ws t ++ more P) (Told.value (v P))
@@ -102,17 +96,16 @@ module _ (ws : List (List ℕ)) (good : Good ws) where
         of-plan planQuestions (λ Q. length R) (Unit {0}) Nothing (toldAnswer r) (ap toldAnswer e ∙ plan-told toldAnswer (λ q. refl))
         (λ q f. tt) (λ f. tt)
 
-    pub read-plan : (k k′ : List ℕ) (n n′ : List ℤ) (r : Reading) → ReadsPlan ws t k n r k′ n′
+    pub read-plan : (k k′ : List ℕ) (n n′ : List ℤ) (r : Answer) → ReadsPlan ws t k n r k′ n′
         → OfPlan ws t (λ Q. planQuestions Q ++ tableRoom (length R) (length k) (length n)) (λ Q. length R)
-        (TableKept k k′ n n′) (λ Q. TableLeft R k k′ n n′) (toldReading r)
-    unfolding readText
+        (TableKept k k′ n n′) (λ Q. TableLeft R k k′ n n′) (toldAnswer r)
     read-plan k k′ n n′ r I =
         let room : List Question = tableRoom (length R) (length k) (length n) in
-        let f : Answer → Told = λ a. toldReading (afterCheck a (askRoom (length R) (length k) (length n))) in
-        let asks : toldReading r ≡ ask refusal (planDoor ws t ++ (planQuestions P ++ room)) (Told.value (length R)) =
-        told-further (planDoor ws t) (planQuestions P) room (toldReading r) (Told.value (length R))
-        (ap toldReading (I .answer) ∙ plan-told f (λ q. refl) ∙ ap (ask refusal door) (room-told (length R) (length k) (length n))) in
-        of-plan (λ Q. planQuestions Q ++ room) (λ Q. length R) (TableKept k k′ n n′) (λ Q. TableLeft R k k′ n n′) (toldReading r) asks
+        let f : Answer → Told = λ a. toldAnswer (unlessRefused a (askRoom (length R) (length k) (length n))) in
+        let asks : toldAnswer r ≡ ask refusal (planDoor ws t ++ (planQuestions P ++ room)) (Told.value (length R)) =
+        told-further (planDoor ws t) (planQuestions P) room (toldAnswer r) (Told.value (length R))
+        (ap toldAnswer (I .answer) ∙ plan-told f (λ q. refl) ∙ ap (ask refusal door) (room-told (length R) (length k) (length n))) in
+        of-plan (λ Q. planQuestions Q ++ room) (λ Q. length R) (TableKept k k′ n n′) (λ Q. TableLeft R k k′ n n′) (toldAnswer r) asks
         (table-kept R k k′ n n′ r (I .kinds-left) (I .numbers-left)) (table-left R k k′ n n′ r (I .kinds-left) (I .numbers-left) (length R))
 
     -- ---- `translate`
@@ -121,90 +114,66 @@ module _ (ws : List (List ℕ)) (good : Good ws) where
     S = textOf ws (madeRows P)
 
     -- 10 and 11 of the plan, and then what comes behind: e where the rows are made, told by f, which hands refusals on
-    made-told : (f : Made → Told) → ((q : Refusal) → f (make.Refused q) ≡ refusal q) → (room : List Question) (v : ℕ)
-        → f (make.Rows (length (madeRows P))) ≡ ask refusal room (Told.value v)
+    made-told : (f : Answer → Told) → ((q : Refusal) → f (answer.Refused q) ≡ refusal q) → (room : List Question) (v : ℕ)
+        → f (answer.Told (length (madeRows P))) ≡ ask refusal room (Told.value v)
         → f (makePlan P) ≡ ask refusal (madeQuestions P ++ room) (Told.value v)
     unfolding makePlan ask
     made-told f h room v e = go (leb (length (madeRows P)) 4096) (leb (planWrites P) 16777216)
       where
-        go : (a b : Bool) → f (cond a (cond b (make.Rows (length (madeRows P))) (make.Refused WriteCount)) (make.Refused LoopsLength))
+        go : (a b : Bool) → f (cond a (cond b (answer.Told (length (madeRows P))) (answer.Refused WriteCount)) (answer.Refused LoopsLength))
             ≡ cond a (cond b (ask refusal room (Told.value v)) (refusal WriteCount)) (refusal LoopsLength)
         go true true = e
         go true false = h WriteCount
         go false b = h LoopsLength
 
     -- the whole list, of an entry whose answer f tells
-    pub make-told : (f : Made → Told) → ((q : Refusal) → f (make.Refused q) ≡ refusal q) → (room : List Question) (v : ℕ)
-        → f (make.Rows (length (madeRows P))) ≡ ask refusal room (Told.value v)
+    pub make-told : (f : Answer → Told) → ((q : Refusal) → f (answer.Refused q) ≡ refusal q) → (room : List Question) (v : ℕ)
+        → f (answer.Told (length (madeRows P))) ≡ ask refusal room (Told.value v)
         → f (makeText ws t) ≡ ask refusal (planDoor ws t ++ (planQuestions P ++ (madeQuestions P ++ room))) (Told.value v)
     unfolding makeText
     make-told f h room v e =
         told-further (planDoor ws t) (planQuestions P) (madeQuestions P ++ room) (f (makeText ws t)) (Told.value v)
-        (plan-told (λ a. f (afterPlan a (makePlan P))) h ∙ ap (ask refusal door) (made-told f h room v e))
+        (plan-told (λ a. f (unlessRefused a (makePlan P))) h ∙ ap (ask refusal door) (made-told f h room v e))
 
-    lent-told : (m k n : ℕ) → toldMade (lentTable (make.Rows m) k n) ≡ ask refusal (tableRoom m k n) (Told.value m)
-    unfolding ask
-    lent-told m k n = go (leb m k && leb m n)
-      where
-        go : (b : Bool) → toldMade (cond b (make.Rows m) (make.Refused LentSize)) ≡ cond b (Told.value m) (refusal LentSize)
-        go true = refl
-        go false = refl
-
-    pub rows-asked : (k k′ : List ℕ) (n n′ : List ℤ) (r : Made) → TranslatesRows ws t k n r k′ n′
-        → toldMade r ≡ ask refusal (planDoor ws t ++ (planQuestions P ++ (madeQuestions P ++ tableRoom (length (madeRows P)) (length k) (length n))))
+    pub rows-asked : (k k′ : List ℕ) (n n′ : List ℤ) (r : Answer) → TranslatesRows ws t k n r k′ n′
+        → toldAnswer r ≡ ask refusal (planDoor ws t ++ (planQuestions P ++ (madeQuestions P ++ tableRoom (length (madeRows P)) (length k) (length n))))
         (Told.value (length (madeRows P)))
     rows-asked k k′ n n′ r I =
         let m : ℕ = length (madeRows P) in
-        ap toldMade (I .answer)
-        ∙ make-told (λ v. toldMade (lentTable v (length k) (length n))) (λ q. refl) (tableRoom m (length k) (length n)) m
-        (lent-told m (length k) (length n))
+        ap toldAnswer (I .answer)
+        ∙ make-told (λ v. toldAnswer (unlessRefused v (askRoom m (length k) (length n)))) (λ q. refl) (tableRoom m (length k) (length n)) m
+        (room-told m (length k) (length n))
 
-    pub translate-rows : (k k′ : List ℕ) (n n′ : List ℤ) (r : Made) → TranslatesRows ws t k n r k′ n′
+    pub translate-rows : (k k′ : List ℕ) (n n′ : List ℤ) (r : Answer) → TranslatesRows ws t k n r k′ n′
         → OfPlan ws t (λ Q. planQuestions Q ++ (madeQuestions Q ++ tableRoom (length (madeRows Q)) (length k) (length n))) (λ Q. length (madeRows Q))
-        (TableKept k k′ n n′) (λ Q. TableLeft (madeRows Q) k k′ n n′) (toldMade r)
+        (TableKept k k′ n n′) (λ Q. TableLeft (madeRows Q) k k′ n n′) (toldAnswer r)
     translate-rows k k′ n n′ r I =
         let m : ℕ = length (madeRows P) in
-        of-plan _ (λ Q. length (madeRows Q)) (TableKept k k′ n n′) (λ Q. TableLeft (madeRows Q) k k′ n n′) (toldMade r)
+        of-plan _ (λ Q. length (madeRows Q)) (TableKept k k′ n n′) (λ Q. TableLeft (madeRows Q) k k′ n n′) (toldAnswer r)
         (rows-asked k k′ n n′ r I)
-        (λ q e.
-        made-refused r q e
-        (λ p f. (
-          x ∙ ap (λ (a : Made). filled (isMade a) (kindsOf (madeRows P)) k) f,
-          y ∙ ap (λ (a : Made). filled (isMade a) (numbersOf (madeRows P)) n) f,
-        )))
-        (λ e.
-        made-done r m e
-        (λ i f. (
-          column-left (madeRows P) (λ (a : Row). a .0) k k′ (x ∙ ap (λ (a : Made). filled (isMade a) (kindsOf (madeRows P)) k) f),
-          column-left (madeRows P) (λ (a : Row). a .1) n n′ (y ∙ ap (λ (a : Made). filled (isMade a) (numbersOf (madeRows P)) n) f),
-        )))
-      where
-        x : k′ ≡ filled (isMade r) (kindsOf (madeRows P)) k
-        x = I .kinds-left
+        (table-kept (madeRows P) k k′ n n′ r (I .kinds-left) (I .numbers-left))
+        (table-left (madeRows P) k k′ n n′ r (I .kinds-left) (I .numbers-left) m)
 
-        y : n′ ≡ filled (isMade r) (numbersOf (madeRows P)) n
-        y = I .numbers-left
-
-    text-told : (m bytes : ℕ) → toldPrinting (lentText (make.Rows m) (printing S bytes)) ≡ ask refusal (textRoom S bytes) (Told.value (length S))
+    text-told : (m bytes : ℕ) → toldAnswer (unlessRefused (answer.Told m) (printing S bytes)) ≡ ask refusal (textRoom S bytes) (Told.value (length S))
     unfolding printing ask
     text-told m bytes = go (leb (length S) bytes)
       where
-        go : (b : Bool) → toldPrinting (cond b (print.Bytes (length S)) (print.Refused LentSize)) ≡ cond b (Told.value (length S)) (refusal LentSize)
+        go : (b : Bool) → toldAnswer (cond b (answer.Told (length S)) (answer.Refused LentSize)) ≡ cond b (Told.value (length S)) (refusal LentSize)
         go true = refl
         go false = refl
 
-    pub text-asked : (u u′ : List ℕ) (r : Printing) → TranslatesText ws t u r u′
-        → toldPrinting r ≡ ask refusal (planDoor ws t ++ (planQuestions P ++ (madeQuestions P ++ textRoom S (length u)))) (Told.value (length S))
+    pub text-asked : (u u′ : List ℕ) (r : Answer) → TranslatesText ws t u r u′
+        → toldAnswer r ≡ ask refusal (planDoor ws t ++ (planQuestions P ++ (madeQuestions P ++ textRoom S (length u)))) (Told.value (length S))
     text-asked u u′ r I =
-        ap toldPrinting (I .answer)
-        ∙ make-told (λ v. toldPrinting (lentText v (printing S (length u)))) (λ q. refl) (textRoom S (length u)) (length S)
+        ap toldAnswer (I .answer)
+        ∙ make-told (λ v. toldAnswer (unlessRefused v (printing S (length u)))) (λ q. refl) (textRoom S (length u)) (length S)
         (text-told (length (madeRows P)) (length u))
 
-    pub translate-text : (u u′ : List ℕ) (r : Printing) → TranslatesText ws t u r u′
+    pub translate-text : (u u′ : List ℕ) (r : Answer) → TranslatesText ws t u r u′
         → OfPlan ws t (λ Q. planQuestions Q ++ (madeQuestions Q ++ textRoom (textOf ws (madeRows Q)) (length u)))
-        (λ Q. length (textOf ws (madeRows Q))) (u′ ≡ u) (λ Q. TextLeft (textOf ws (madeRows Q)) u u′) (toldPrinting r)
+        (λ Q. length (textOf ws (madeRows Q))) (u′ ≡ u) (λ Q. TextLeft (textOf ws (madeRows Q)) u u′) (toldAnswer r)
     translate-text u u′ r I =
-        of-plan _ (λ Q. length (textOf ws (madeRows Q))) (u′ ≡ u) (λ Q. TextLeft (textOf ws (madeRows Q)) u u′) (toldPrinting r)
+        of-plan _ (λ Q. length (textOf ws (madeRows Q))) (u′ ≡ u) (λ Q. TextLeft (textOf ws (madeRows Q)) u u′) (toldAnswer r)
         (text-asked u u′ r I)
-        (λ q e. printing-refused r q e (λ p f. I .text-left ∙ ap (λ (a : Printing). filled (isPrinted a) S u) f))
-        (λ e. printing-done r (length S) e (λ i f. I .text-left ∙ ap (λ (a : Printing). filled (isPrinted a) S u) f))
+        (λ q e. answer-refused r q e (λ p f. I .text-left ∙ ap (λ (a : Answer). filled (isTold a) S u) f))
+        (λ e. answer-done r (length S) e (λ i f. I .text-left ∙ ap (λ (a : Answer). filled (isTold a) S u) f))

@@ -8,8 +8,8 @@ use lib.Dec.{T}
 use lib.IntN.{ℤ}
 use lib.ListN.{length, drop, length-map, length-append, length-drop}
 use Rattle.refusals.specs.declared.Refusal.{Refusal}
+use Rattle.refusals.specs.declared.Answer.{Answer}
 use Rattle.lines.specs.Lent.{textRows}
-use Rattle.lines.specs.declared.Printing.{Printing}
 use Rattle.meaning.specs.Terms.{Plan}
 use Rattle.meaning.specs.Numbers.{clamped32}
 use Rattle.meaning.specs.Sequence.{upFrom}
@@ -29,13 +29,13 @@ use Rattle.interpreter.specs.Orders.{runOf}
 use Rattle.typing.specs.Questions.{Question, AllYes}
 use Rattle.typing.specs.Laws.Questions.{yes-append, yes-parts, end-asked}
 use Rattle.loops.specs.declared.Checked.the-variants as loops
-use Rattle.loops.specs.Check.{checkText}
+use Rattle.loops.specs.Check.{checkLoopsText}
 use Rattle.run.specs.Theorems.{run-is-run}
 use Rattle.translate.specs.Accepted.{TextPlan}
-use Rattle.values.specs.Values.{valueOf, valueRows}
+use Rattle.values.specs.Values.{valueOf, valueLines}
 use Rattle.programs.specs.Runner.{withValues, outputCells, finishedText}
 use Rattle.programs.specs.Contracts.{PrintsRun}
-use Rattle.guarantees.specs.Told.{Told, toldPrinting}
+use Rattle.guarantees.specs.Told.{Told, toldAnswer}
 use Rattle.guarantees.specs.Questions.{loopsDoor, loopsQuestions, storeRoom, valuesQuestions, outputRoom}
 use Rattle.guarantees.specs.Runs.{runInOrder}
 use Rattle.guarantees.specs.Ways.{MadeText}
@@ -84,8 +84,8 @@ module _ (ws : List (List ℕ)) (good : Good ws) where
       held-long : need L ≤ length held
       unfolding need translation
       held-long =
-          let put : List ℤ = map (valueOf (valueRows ws v)) (upFrom 0 (inputCount P)) in
-          let count : length put ≡ inputCount P = length-map (upFrom 0 (inputCount P)) (valueOf (valueRows ws v)) ∙ upFrom-length 0 (inputCount P) in
+          let put : List ℤ = map (valueOf (valueLines ws v)) (upFrom 0 (inputCount P)) in
+          let count : length put ≡ inputCount P = length-map (upFrom 0 (inputCount P)) (valueOf (valueLines ws v)) ∙ upFrom-length 0 (inputCount P) in
           omega (arith, long, length-append put (drop (inputCount P) s), length-drop (inputCount P) s, count)
 
       abbrev end : State clamped32
@@ -107,12 +107,12 @@ module _ (ws : List (List ℕ)) (good : Good ws) where
             come-to P held s′ end (g .0) ended,
           )
 
-      pub printed-run : {u : List ℕ} → MadeText ws t u → (s′ : List ℤ) (l l′ : List ℕ) (r : Printing) → PrintsRun ws u v s l r s′ l′
-          → AllYes (outputRoom (length l)) → AllYes (valuesQuestions ws v (length s) L) → PrintedRightly P held l (toldPrinting r) s′ l′
+      pub printed-run : {u : List ℕ} → MadeText ws t u → (s′ : List ℤ) (l l′ : List ℕ) (r : Answer) → PrintsRun ws u v s l r s′ l′
+          → AllYes (outputRoom (length l)) → AllYes (valuesQuestions ws v (length s) L) → PrintedRightly P held l (toldAnswer r) s′ l′
       printed-run {u} M s′ l l′ r I room values =
           let m = made-text ws good t M in
           let M′ : Loops = loopsOf (textRows ws u) in
-          let passes : checkText ws u ≡ loops.Passes (planWrites P) (need L) = ap (checkText ws) (m .1) ∙ text-passes ws good t y in
+          let passes : checkLoopsText ws u ≡ loops.Passes (planWrites P) (need L) = ap (checkLoopsText ws) (m .1) ∙ text-passes ws good t y in
           let asked = end-asked loops.Refused (loopsDoor ws u ++ loopsQuestions M′) _ (loops.Passes (planWrites P) (need L)) (λ q f. no-pass f)
           (sym (loops-check-asks ws good u) ∙ passes) .0 in
           let yes = yes-parts (loopsDoor ws u) (loopsQuestions M′) asked in

@@ -8,15 +8,13 @@ use lib.IntN.{ℤ}
 use lib.ListN.{length}
 use Rattle.refusals.specs.declared.Refusal.{Refusal}
 use Rattle.refusals.specs.declared.Refusal.the-variants.{LentSize, StoreSize}
+use Rattle.refusals.specs.declared.Answer.{Answer}
+use Rattle.refusals.specs.declared.Answer.the-variants as answer
 use Rattle.words.specs.Kinds.{Row}
 use Rattle.lines.specs.Lent.{textRows}
 use Rattle.lines.specs.Printing.{textOf, printing}
 use Rattle.texts.specs.Texts.{linesOf}
 use Rattle.lines.specs.Reading.{filled}
-use Rattle.lines.specs.declared.Printing.{Printing}
-use Rattle.lines.specs.declared.Printing.the-variants as print
-use Rattle.lines.specs.declared.Reading.{Reading}
-use Rattle.lines.specs.declared.Reading.the-variants as read
 use Rattle.meaning.specs.Terms.{Plan}
 use Rattle.meaning.specs.Numbers.{clamped32}
 use Rattle.meaning.specs.Loops.{Loops}
@@ -28,18 +26,16 @@ use Rattle.typing.specs.Questions.{Question, question, ask}
 use Rattle.typing.specs.TypeQuestions.{planQuestions}
 use Rattle.loops.specs.declared.Checked.{Checked}
 use Rattle.loops.specs.declared.Checked.the-variants as loops
-use Rattle.loops.specs.Check.{checkText}
-use Rattle.translate.specs.declared.Made.{Made}
+use Rattle.loops.specs.Check.{checkLoopsText}
 use Rattle.translate.specs.Entry.{madeRows, makeText}
 use Rattle.translate.specs.Questions.{madeQuestions}
-use Rattle.run.specs.declared.Ran.the-variants as ran
-use Rattle.run.specs.Run.{Outcome, finished, refused}
+use Rattle.run.specs.Run.{Ran, finished, refused}
 use Rattle.values.specs.Values.{filling}
 use Rattle.programs.specs.Printed.{madeText, translatorText}
-use Rattle.programs.specs.Runner.{askValues, withValues, afterValues, valuesRun, afterCheck, runnerOutcome}
+use Rattle.programs.specs.Runner.{askValues, withValues, afterValues, valuesRun, printChecked, runnerOutcome}
 use Rattle.programs.specs.Runner.{outcomeText, runnerText}
 use Rattle.programs.specs.Contracts.{PrintsLoops, PrintsRun}
-use Rattle.guarantees.specs.Told.{Told, refusal, toldPrinting, toldMade, toldRan}
+use Rattle.guarantees.specs.Told.{Told, refusal, toldAnswer}
 use Rattle.guarantees.specs.Answers.{Answers}
 use Rattle.guarantees.specs.Questions.{loopsDoor, loopsQuestions, textRoom, storeRoom, fillQuestions, valuesQuestions, outputRoom}
 use Rattle.guarantees.specs.Runs.{runInOrder}
@@ -49,43 +45,43 @@ use Rattle.guarantees.specs.Laws.Doors.{loops-are, loops-check-asks}
 use Rattle.guarantees.specs.Laws.Filling.{filling-asks}
 use Rattle.guarantees.specs.Laws.LoopsEntries.{run-in-order, of-loops, loops-told}
 use Rattle.guarantees.specs.Laws.PlanEntries.{of-plan, make-told}
-use Rattle.guarantees.specs.Laws.Told.{no-value, no-run, told-asks, told-further, made-refused, made-done, ran-refused, ran-done}
+use Rattle.guarantees.specs.Laws.Told.{no-value, no-run, told-asks, told-further, answer-refused, answer-done}
 use Rattle.words.specs.Good.{Good}
 
 -- ws is any good table of words.
 module _ (ws : List (List ℕ)) (good : Good ws) where
   -- an answer that depends on room alone
-  room-answers : (b : Bool) (n : ℕ) (Kept Left : Type 0) (r : Printing) → r ≡ cond b (print.Bytes n) (print.Refused LentSize)
-      → (b ≡ false → Kept) → (b ≡ true → Left) → Answers (question b LentSize ∷ []) n Kept Left (toldPrinting r)
+  room-answers : (b : Bool) (n : ℕ) (Kept Left : Type 0) (r : Answer) → r ≡ cond b (answer.Told n) (answer.Refused LentSize)
+      → (b ≡ false → Kept) → (b ≡ true → Left) → Answers (question b LentSize ∷ []) n Kept Left (toldAnswer r)
   unfolding ask
   room-answers true n Kept Left r e kept left =
-      answers (question true LentSize ∷ []) n Kept Left (toldPrinting r) (ap toldPrinting e) (λ q f. no-value (sym (ap toldPrinting e) ∙ f))
+      answers (question true LentSize ∷ []) n Kept Left (toldAnswer r) (ap toldAnswer e) (λ q f. no-value (sym (ap toldAnswer e) ∙ f))
       (λ f. left refl)
   room-answers false n Kept Left r e kept left =
-      answers (question false LentSize ∷ []) n Kept Left (toldPrinting r) (ap toldPrinting e) (λ q f. kept refl)
-      (λ f. no-value (sym f ∙ ap toldPrinting e))
+      answers (question false LentSize ∷ []) n Kept Left (toldAnswer r) (ap toldAnswer e) (λ q f. kept refl)
+      (λ f. no-value (sym f ∙ ap toldAnswer e))
 
   -- ---- the translator
 
-  pub print-loops : (t u u′ : List ℕ) (r : Printing) → PrintsLoops ws t u r u′
-      → (told : Told) × (text : List ℕ) × Answers (textRoom text (length u)) (length text) (u′ ≡ u) (TextLeft text u u′) (toldPrinting r)
+  pub print-loops : (t u u′ : List ℕ) (r : Answer) → PrintsLoops ws t u r u′
+      → (told : Told) × (text : List ℕ) × Answers (textRoom text (length u)) (length text) (u′ ≡ u) (TextLeft text u u′) (toldAnswer r)
       × OfPlan ws t (λ P. planQuestions P ++ madeQuestions P) (λ P. length (madeRows P)) (ShowsRefusal told text)
       (λ P. text ≡ textOf ws (madeRows P)) told
   unfolding printing translatorText ask
   print-loops t u u′ r I =
       let P : Plan = planOf (textRows ws t) in
       let S : List ℕ = textOf ws (madeRows P) in
-      let made : Made = makeText ws t in
+      let made : Answer = makeText ws t in
       let text : List ℕ = madeText made S in (
-        toldMade made,
+        toldAnswer made,
         text,
         room-answers (leb (length text) (length u)) (length text) (u′ ≡ u) (TextLeft text u u′) r (I .answer)
             (λ e. I .text-left ∙ ap (λ (b : Bool). filled b text u) e) (λ e. I .text-left ∙ ap (λ (b : Bool). filled b text u) e),
-        of-plan ws good t (λ Q. planQuestions Q ++ madeQuestions Q) (λ Q. length (madeRows Q)) (ShowsRefusal (toldMade made) text)
-            (λ Q. text ≡ textOf ws (madeRows Q)) (toldMade made)
-            (make-told ws good t toldMade (λ q. refl) [] (length (madeRows P)) refl)
-            (λ q e. made-refused made q e (λ p f. (p, ap toldMade f, ap (λ (v : Made). madeText v S) f)))
-            (λ e. made-done made (length (madeRows P)) e (λ n f. ap (λ (v : Made). madeText v S) f)),
+        of-plan ws good t (λ Q. planQuestions Q ++ madeQuestions Q) (λ Q. length (madeRows Q)) (ShowsRefusal (toldAnswer made) text)
+            (λ Q. text ≡ textOf ws (madeRows Q)) (toldAnswer made)
+            (make-told ws good t toldAnswer (λ q. refl) [] (length (madeRows P)) refl)
+            (λ q e. answer-refused made q e (λ p f. (p, ap toldAnswer f, ap (λ (v : Answer). madeText v S) f)))
+            (λ e. answer-done made (length (madeRows P)) e (λ n f. ap (λ (v : Answer). madeText v S) f)),
       )
 
   -- ---- the runner
@@ -101,76 +97,76 @@ module _ (ws : List (List ℕ)) (good : Good ws) where
     end = runInOrder 0 L held
 
     -- the values, and then the run
-    values-told : toldRan (valuesRun ws v L s .answer) ≡ ask refusal (valuesQuestions ws v (length s) L) (Told.value (end .writes))
+    values-told : toldAnswer (valuesRun ws v L s .answer) ≡ ask refusal (valuesQuestions ws v (length s) L) (Told.value (end .writes))
     unfolding valuesRun ask
     values-told = go (eqb n 0) ∙ ap (λ (st : State clamped32). ask refusal (valuesQuestions ws v (length s) L) (Told.value (st .writes))) (run-in-order ws good 0 L held)
       where
-        go : (b : Bool) → toldRan (afterValues (cond b (read.Rows 0) (filling ws v n (length s))) L held s .answer)
+        go : (b : Bool) → toldAnswer (afterValues (cond b (answer.Told 0) (filling ws v n (length s))) L held s .answer)
             ≡ ask refusal (cond b [] (fillQuestions ws v n (length s))) (Told.value (runOf L 0 held .writes))
         go true = refl
         go false =
-            told-asks read.Refused (λ x. toldRan (afterValues x L held s .answer)) (λ q. refl) (fillQuestions ws v n (length s))
-            (read.Rows (length (linesOf v))) (filling ws v n (length s)) (filling-asks ws good v n (length s))
+            told-asks answer.Refused (λ x. toldAnswer (afterValues x L held s .answer)) (λ q. refl) (fillQuestions ws v n (length s))
+            (answer.Told (length (linesOf v))) (filling ws v n (length s)) (filling-asks ws good v n (length s))
 
     -- and 14 before them
-    passed-told : toldRan (cond (leb (need L) (length s)) (valuesRun ws v L s) (refused StoreSize s) .answer)
+    passed-told : toldAnswer (cond (leb (need L) (length s)) (valuesRun ws v L s) (refused StoreSize s) .answer)
         ≡ ask refusal (storeRoom (length s) L ++ valuesQuestions ws v (length s) L) (Told.value (end .writes))
     unfolding ask
     passed-told = go (leb (need L) (length s))
       where
-        go : (b : Bool) → toldRan (cond b (valuesRun ws v L s) (refused StoreSize s) .answer)
+        go : (b : Bool) → toldAnswer (cond b (valuesRun ws v L s) (refused StoreSize s) .answer)
             ≡ cond b (ask refusal (valuesQuestions ws v (length s) L) (Told.value (end .writes))) (refusal StoreSize)
         go true = values-told
         go false = refl
 
     -- ---- what is left
 
-    values-left : (x : Reading) (w : ℕ) → afterValues x L held s .answer ≡ ran.Finished w → afterValues x L held s ≡ finished (runOf L 0 held)
-    values-left (read.Rows m) w e = refl
-    values-left (read.Refused q) w e = no-run e
+    values-left : (x : Answer) (w : ℕ) → afterValues x L held s .answer ≡ answer.Told w → afterValues x L held s ≡ finished (runOf L 0 held)
+    values-left (answer.Told m) w e = refl
+    values-left (answer.Refused q) w e = no-run e
 
-    values-kept : (x : Reading) (q : Refusal) → afterValues x L held s .answer ≡ ran.Refused q → afterValues x L held s ≡ refused q s
-    values-kept (read.Rows m) q e = no-run (sym e)
-    values-kept (read.Refused p) q e = let same : p ≡ q = cc in ap (λ (x : Refusal). refused x s) same
+    values-kept : (x : Answer) (q : Refusal) → afterValues x L held s .answer ≡ answer.Refused q → afterValues x L held s ≡ refused q s
+    values-kept (answer.Told m) q e = no-run (sym e)
+    values-kept (answer.Refused p) q e = let same : p ≡ q = cc in ap (λ (x : Refusal). refused x s) same
 
-    run-left : (c : Checked) (w : ℕ) → afterCheck c ws v L s .answer ≡ ran.Finished w → afterCheck c ws v L s ≡ finished end
+    run-left : (c : Checked) (w : ℕ) → printChecked c ws v L s .answer ≡ answer.Told w → printChecked c ws v L s ≡ finished end
     unfolding valuesRun
     run-left (loops.Passes a m) w e = go (leb m (length s)) e ∙ ap finished (run-in-order ws good 0 L held)
       where
-        go : (b : Bool) → cond b (valuesRun ws v L s) (refused StoreSize s) .answer ≡ ran.Finished w
+        go : (b : Bool) → cond b (valuesRun ws v L s) (refused StoreSize s) .answer ≡ answer.Told w
             → cond b (valuesRun ws v L s) (refused StoreSize s) ≡ finished (runOf L 0 held)
         go true f = values-left (askValues ws v n (length s)) w f
         go false f = no-run f
     run-left (loops.Refused q) w e = no-run e
 
-    run-kept : (c : Checked) (q : Refusal) → afterCheck c ws v L s .answer ≡ ran.Refused q → afterCheck c ws v L s ≡ refused q s
+    run-kept : (c : Checked) (q : Refusal) → printChecked c ws v L s .answer ≡ answer.Refused q → printChecked c ws v L s ≡ refused q s
     unfolding valuesRun
     run-kept (loops.Passes a m) q e = go (leb m (length s)) e
       where
-        go : (b : Bool) → cond b (valuesRun ws v L s) (refused StoreSize s) .answer ≡ ran.Refused q
+        go : (b : Bool) → cond b (valuesRun ws v L s) (refused StoreSize s) .answer ≡ answer.Refused q
             → cond b (valuesRun ws v L s) (refused StoreSize s) ≡ refused q s
         go true f = values-kept (askValues ws v n (length s)) q f
         go false f = let same : StoreSize ≡ q = cc in ap (λ (x : Refusal). refused x s) same
     run-kept (loops.Refused p) q e = let same : p ≡ q = cc in ap (λ (x : Refusal). refused x s) same
 
-  pub print-run : (t v : List ℕ) (s s′ : List ℤ) (u u′ : List ℕ) (r : Printing) → PrintsRun ws t v s u r s′ u′
+  pub print-run : (t v : List ℕ) (s s′ : List ℤ) (u u′ : List ℕ) (r : Answer) → PrintsRun ws t v s u r s′ u′
       → (told : Told) × (text : List ℕ) × Answers (outputRoom (length u)) (length text) ((u′ ≡ u) × (s′ ≡ s))
       (TextLeft text u u′ × OfLoops ws t (λ L. loopsQuestions L ++ (storeRoom (length s) L ++ valuesQuestions ws v (length s) L))
       (λ L. runInOrder 0 L (withValues ws v (allCells (L .inputs)) s) .writes) (ShowsRefusal told text × (s′ ≡ s)) (ShowsRun ws v s s′ text) told)
-      (toldPrinting r)
+      (toldAnswer r)
   unfolding runnerOutcome runnerText
   print-run t v s s′ u u′ r I =
       let R : List Row = textRows ws t in
       let L : Loops = loopsOf R in
-      let c : Checked = checkText ws t in
-      let o : Outcome = afterCheck c ws v L s in
-      let told : Told = toldRan (o .answer) in
+      let c : Checked = checkLoopsText ws t in
+      let o : Ran = printChecked c ws v L s in
+      let told : Told = toldAnswer (o .answer) in
       let text : List ℕ = outcomeText L o in
       let more : Loops → List Question = λ M. loopsQuestions M ++ (storeRoom (length s) M ++ valuesQuestions ws v (length s) M) in
       let writes : Loops → ℕ = λ M. runInOrder 0 M (withValues ws v (allCells (M .inputs)) s) .writes in
       let asks : told ≡ ask refusal (loopsDoor ws t ++ more L) (Told.value (writes L)) =
       told-further (loopsDoor ws t) (loopsQuestions L) (storeRoom (length s) L ++ valuesQuestions ws v (length s) L) told (Told.value (writes L))
-      (loops-told ws good R (loopsDoor ws t) c (loops-are ws good t) (loops-check-asks ws good t) (λ x. toldRan (afterCheck x ws v L s .answer)) (λ q. refl)
+      (loops-told ws good R (loopsDoor ws t) c (loops-are ws good t) (loops-check-asks ws good t) (λ x. toldAnswer (printChecked x ws v L s .answer)) (λ q. refl)
       ∙ ap (ask refusal (loopsDoor ws t ++ loopsQuestions L)) (passed-told v s L)) in (
         told,
         text,
@@ -182,17 +178,17 @@ module _ (ws : List (List ℕ)) (good : Good ws) where
               of-loops ws good R (loopsDoor ws t) c (loops-are ws good t) (loops-check-asks ws good t) more writes (ShowsRefusal told text × (s′ ≡ s)) (ShowsRun ws v s s′ text) told
                   asks
                   (λ q f.
-                  ran-refused (o .answer) q f
+                  answer-refused (o .answer) q f
                   (λ p g.
                   let k : o ≡ refused p s = run-kept v s L c p g in (
-                    (p, ap toldRan g, ap (outcomeText L) k),
-                    store ∙ ap (λ (x : Outcome). x .store) k,
+                    (p, ap toldAnswer g, ap (outcomeText L) k),
+                    store ∙ ap (λ (x : Ran). x .store) k,
                   )))
                   (λ f.
-                  ran-done (o .answer) (writes L) f
+                  answer-done (o .answer) (writes L) f
                   (λ w g.
                   let k : o ≡ finished (runInOrder 0 L (withValues ws v (allCells (L .inputs)) s)) = run-left v s L c w g in (
-                    store ∙ ap (λ (x : Outcome). x .store) k,
+                    store ∙ ap (λ (x : Ran). x .store) k,
                     ap (outcomeText L) k,
                   ))),
             )),

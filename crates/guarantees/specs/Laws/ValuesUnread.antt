@@ -12,7 +12,7 @@ use Rattle.words.specs.Kinds.{Row}
 use Rattle.words.specs.Words.{bytes, lookUp}
 use Rattle.words.specs.declared.Found.{Found}
 use Rattle.words.specs.declared.Found.the-variants.{At, NotListed}
-use Rattle.numerals.specs.Numerals.{allDigits, value, leadingZero, unsigned, notBelowZero, belowZero, numberOf}
+use Rattle.numerals.specs.Numerals.{allDigits, value, leadingZero, unsigned, notBelowZero, belowZero, numeralOf}
 use Rattle.lines.specs.Lent.{textRows}
 use Rattle.texts.specs.Texts.{linesOf, placeOf}
 use Rattle.lines.specs.Reading.{lineOf, addRow, rowsIn, headOf, loopsLimits}
@@ -36,7 +36,7 @@ first = bytes "loops,0"
 module _ (ws : List (List ℕ)) where
   -- its row is of number 0, whatever word it is of
   numbered : (x : Line) (k : ℕ) (z : ℤ) → lineOf (lookUp ws) first ≡ x → x ≡ IsRow k z → z ≡ pos 0
-  unfolding lineOf placeOf allDigits value leadingZero unsigned notBelowZero belowZero numberOf
+  unfolding lineOf placeOf allDigits value leadingZero unsigned notBelowZero belowZero numeralOf
   numbered x k z e g = go (lookUp ws (bytes "loops")) refl
     where
       go : (h : Found) → lookUp ws (bytes "loops") ≡ h → z ≡ pos 0

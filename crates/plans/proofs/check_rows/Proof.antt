@@ -7,7 +7,7 @@ use Rattle.plans.proofs.check_rows.Statement.{statement}
 use Rattle.plans.proofs.check_rows.Tie as tie
 use Rattle.plans.proofs.check_rows.Reads as reads
 use Rattle.plans.proofs.check_rows.Lts as lts
-use Rattle.type_check.proofs.type_plan.Reads as type-plan-reads
+use Rattle.row_typing.proofs.type_plan.Reads as type-plan-reads
 use Rattle.syntax.proofs.walk_plan.Reads as walk-plan-reads
 
 enum-told : tie.Need-enum-told

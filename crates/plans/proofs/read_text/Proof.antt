@@ -1,88 +1,33 @@
 -- `plans::read_text` meets its contract: a text that passes is read, into slices that have room for its rows.
-use mathlib.Core.Path.{_∙_}
-use native.Mathlib.Omega.{arith}
-use lib.ListN.{length}
-use borrow.Author.Needs.{needs}
-use Rattle.words.specs.Words.{words}
-use Rattle.lines.specs.TableLaws as table
+use mathlib.Core.Path.{sym, _∙_}
+use Rattle.words.specs.Words.{words, lookUp}
+use Rattle.lines.specs.Lent.{textRows}
+use Rattle.lines.specs.Reading.{planLimits}
+use Rattle.lines.specs.TableLaws.{refused-into, read-into}
+use Rattle.typing.specs.Entry.{checkPlanRows}
 use Rattle.plans.proofs.Texts as texts
+use borrow.Author.Needs.{needs}
 use Rattle.plans.proofs.read_text.Statement.{statement}
 use Rattle.plans.proofs.read_text.Tie as tie
 
-enum-told : tie.Need-enum-told
-enum-told c = search needs
+returns : tie.Need-returns
+returns c =
+    let a = c .before .before .before .before .before .args in
+    let check-text = c .before .before .check-text in
+    refused-into (textRows words (a .text .now)) (a .kinds .now) (a .numbers .now) (check-text .ensures) (c .enum-told2 .given .1)
 
 returns-2 : tie.Need-returns-2
 returns-2 c =
-    let at-args = c .before .before .before .before .before .before .before .before .before .args in
-    let at-check-text = c .before .before .before .before .before .before .check-text in
-    let at-checked = c .before .before .before .before .checked in
-    let a = at-args in
-    let check-text = at-check-text in
-    let checked = at-checked in
-    texts.put-none words (a .text .now) (check-text .result) (check-text .ensures) _
-    (checked .given .1 ∙ c .before .checked2 .given .1) (a .kinds .now) (a .numbers .now)
-
-returns-3 : tie.Need-returns-3
-returns-3 c =
-    let at-args = c .before .before .before .before .before .before .before .before .before .before .before
-    .before .before .args in
-    let at-check-text = c .before .before .before .before .before .before .before .before .before .before
-    .check-text in
-    let at-enum-told = c .before .before .before .before .before .before .before .before .enum-told in
-    let at-read-plan = c .before .before .before .before .before .read-plan in
-    let a = at-args in
-    let check-text = at-check-text in
-    let enum-told = at-enum-told in
-    let read-plan = at-read-plan in
-    texts.read-again words (a .text .now) (check-text .result) (check-text .ensures) _ (enum-told .given .1) _ _ _ _
-    (read-plan .result) (read-plan .ensures) _ (c .enum-told3 .given .1)
-
-returns-4 : tie.Need-returns-4
-returns-4 c =
-    let a = c .before .before .before .before .before .before .before .before .before .before .before
-    .before .before .before .before .args in
-    let check-text = c .before .before .before .before .before .before .before .before .before .before .before
-    .before .check-text in
-    let enum-told = c .before .before .before .before .before .before .before .before .before .before .enum-told in
-    let read-plan = c .before .before .before .before .before .before .before .read-plan in
-    let read = c .before .before .read in
-    texts.put-short words (a .text .now) (check-text .result) (check-text .ensures) _ (enum-told .given .1) _ _ _ _
-    (read-plan .result) (read-plan .ensures) (read .given .0 .0) (read .given .1) (table.short-kinds
-    (read .given .0 .0) (length (a .kinds .now)) (length (a .numbers .now)) (omega arith))
-
-returns-5 : tie.Need-returns-5
-returns-5 c =
-    let a = c .before .before .before .before .before .before .before .before .before .before .before
-    .before .before .before .before .before .args in
-    let check-text = c .before .before .before .before .before .before .before .before .before .before .before
-    .before .before .check-text in
-    let enum-told = c .before .before .before .before .before .before .before .before .before .before .before
-    .enum-told in
-    let read-plan = c .before .before .before .before .before .before .before .before .read-plan in
-    let read = c .before .before .before .read in
-    texts.put-short words (a .text .now) (check-text .result) (check-text .ensures) _ (enum-told .given .1) _ _ _ _
-    (read-plan .result) (read-plan .ensures) (read .given .0 .0) (read .given .1) (table.short-numbers
-    (read .given .0 .0) (length (a .kinds .now)) (length (a .numbers .now)) (omega arith))
-
-returns-6 : tie.Need-returns-6
-returns-6 c =
-    let a = c .before .before .before .before .before .before .before .before .before .before .before
-    .before .before .before .before .before .args in
-    let check-text = c .before .before .before .before .before .before .before .before .before .before .before
-    .before .before .check-text in
-    let enum-told = c .before .before .before .before .before .before .before .before .before .before .before
-    .enum-told in
-    let read-plan = c .before .before .before .before .before .before .before .before .read-plan in
-    let read = c .before .before .before .read in
-    texts.put-all words (a .text .now) (check-text .result) (check-text .ensures) _ (enum-told .given .1) _ _ _ _
-    (read-plan .result) (read-plan .ensures) (read .given .0 .0) (read .given .1) (table.room-for
-    (read .given .0 .0) (length (a .kinds .now)) (length (a .numbers .now)) (omega arith) (omega arith))
+    let a = c .before .before .before .before .before .before .before .before .before .before .before .before .args in
+    let check-text = c .before .before .before .before .before .before .before .before .before .check-text in
+    let enum-told = c .before .before .before .before .before .before .before .enum-told in
+    let read-plan = c .before .before .before .before .read-plan in
+    read-into (lookUp words) planLimits (a .text .now) (checkPlanRows (textRows words (a .text .now)))
+    (texts.text-asked words (a .text .now)) (sym (check-text .ensures) ∙ enum-told .given .1) (read-plan .ensures)
+    (read-plan .kept .1 .0) (read-plan .kept .1 .1 .0) (c .ask-room .ensures)
 
 pub read-text-spec : {M : Type 1} → statement M
 read-text-spec =
     tie.close
-    (tie.spec (λ c κs. search needs) enum-told (λ c. search needs) (λ c. search needs) (λ c. search needs) (λ c. search needs)
-    returns-2 (λ c κs. search needs) (λ c. search needs) (λ c. search needs) (λ c. search needs) (λ c. search needs) returns-3
-    (λ c. search needs) (λ c. search needs) returns-4 (λ c. search needs) (λ c. search needs) returns-5 (λ c. search needs)
-    (λ c. search needs) returns-6)
+    (tie.spec (λ c κs. search needs) (λ c. search needs) (λ c. search needs) returns (λ c κs. search needs)
+    (λ c κs. search needs) (λ c. search needs) (λ c. search needs) returns-2)

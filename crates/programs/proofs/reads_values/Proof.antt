@@ -1,5 +1,5 @@
 -- `programs::reads_values` meets its contract.
-use mathlib.Core.Bool.{Bool, not}
+use mathlib.Core.Bool.{not}
 use mathlib.Core.Path.{ap}
 use borrow.Author.Needs.{needs}
 use Rattle.programs.proofs.reads_values.Statement.{statement}

@@ -15,7 +15,7 @@ use Rattle.syntax.specs.declared.operands.Due.{Due}
 use Rattle.syntax.specs.Operands.{operandsDue}
 use Rattle.syntax.specs.Walk.{walkFrom, passed}
 use Rattle.syntax.proofs.Numbers.{natural-of}
-use Rattle.syntax.proofs.Steps as steps
+use Rattle.syntax.proofs.WalkSteps as steps
 use Rattle.syntax.proofs.walk.Reads as walk
 use Rattle.syntax.proofs.walk.Kinds as walk-kinds
 use Rattle.syntax.proofs.+walk.Lts-walk as walk-lts

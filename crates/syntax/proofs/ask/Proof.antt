@@ -4,11 +4,11 @@ use Prim.Native.Nat.{ℕ, _+_}
 use mathlib.Core.Path.{sym, ap, _∙_}
 use native.Mathlib.Omega.{arith}
 use borrow.Author.Needs.{needs}
-use Rattle.syntax.specs.declared.Answer.the-variants.{Passed}
+use Rattle.refusals.specs.declared.Answer.the-variants.{Told}
 use Rattle.syntax.specs.Laws.Ask.{ask-due, ask-range, ask-names, ask-passed}
 use Rattle.syntax.specs.Names.{namesFit}
 use Rattle.syntax.proofs.Words.{flag-not, flag-yes}
-use Rattle.syntax.proofs.Steps as steps
+use Rattle.syntax.proofs.WalkSteps as steps
 use Rattle.syntax.proofs.ask.Statement.{statement}
 use Rattle.syntax.proofs.ask.Tie as tie
 
@@ -58,7 +58,7 @@ returns-4 c =
     let at-listed = c .before .before .before .before .before .before .before .listed in
     let at-in-range = c .before .before .before .before .before .in-range in
     let at-if1 = c .before .before .before .before .if1 in
-    ap (λ (i : ℕ). Passed (i + at-listed .given .0 .0)) (c .inputs-counted .ensures .0) ∙ ask-passed
+    ap (λ (i : ℕ). Told (i + at-listed .given .0 .0)) (c .inputs-counted .ensures .0) ∙ ask-passed
     (entry .args .due) (entry .args .kind) (entry .args .number) (entry .args .line)
     (sym (at-operand-count .ensures) ∙ at-listed .given .1) (flag-yes _ _ (at-in-range .ensures) (at-if1 .left)) (ap
     namesFit (sym (c .before .before .before .opened .ensures)) ∙ flag-yes _ _

@@ -7,18 +7,19 @@ use native.Mathlib.Omega.{arith}
 use borrow.Author.Tests.{leb-true, le-leb}
 use lib.Dec.{leb}
 use Rattle.refusals.specs.declared.Refusal.the-variants.{RowDue, NumberRange, NameCount}
+use Rattle.refusals.specs.declared.Answer.{Answer}
+use Rattle.refusals.specs.declared.Answer.the-variants.{Told, Refused}
+use Rattle.refusals.specs.Answers.{after}
 use Rattle.words.specs.Kinds.{Row}
 use Rattle.words.specs.Words.{operandsOf}
 use Rattle.words.specs.declared.Operands.{Operands}
 use Rattle.words.specs.declared.Operands.the-variants.{Count, NotOfSort}
-use Rattle.syntax.specs.declared.Answer.{Answer}
-use Rattle.syntax.specs.declared.Answer.the-variants.{Passed, Refused}
 use Rattle.syntax.specs.declared.names.Names.{Names}
 use Rattle.syntax.specs.declared.operands.Due.{Due}
 use Rattle.syntax.specs.Ranges.{asNatural, inRange}
 use Rattle.syntax.specs.Names.{openedBy, namesFit, Bounded}
 use Rattle.syntax.specs.Operands.{inputsCounted, operandsDue}
-use Rattle.syntax.specs.Walk.{firstNo, askRow, after, walkFrom}
+use Rattle.syntax.specs.Walk.{firstNo, askRow, walkFrom}
 
 module _ (d : Due) (k n line : ℕ) where
   pub ask-due : operandsOf k (d .sort) ≡ NotOfSort → Refused (RowDue line) ≡ askRow d k n line
@@ -34,7 +35,7 @@ module _ (d : Due) (k n line : ℕ) where
     unfolding askRow
     ask-names r f = rw (of, r, f)
 
-    pub ask-passed : inRange (d .sort) (d .names) k n ≡ true → namesFit (openedBy k n (d .names)) ≡ true → Passed (inputsCounted (d .sort) n + m) ≡ askRow d k n line
+    pub ask-passed : inRange (d .sort) (d .names) k n ≡ true → namesFit (openedBy k n (d .names)) ≡ true → Told (inputsCounted (d .sort) n + m) ≡ askRow d k n line
     unfolding askRow
     ask-passed r f = rw (of, r, f)
 
@@ -47,27 +48,27 @@ pub record Asked (d : Due) (k n m : ℕ) : Type 0 where
   pub ranged : inRange (d .sort) (d .names) k n ≡ true
   pub fit : namesFit (openedBy k n (d .names)) ≡ true
 
-pub asked : (d : Due) (k n line m : ℕ) → askRow d k n line ≡ Passed m → Asked d k n m
+pub asked : (d : Due) (k n line m : ℕ) → askRow d k n line ≡ Told m → Asked d k n m
 unfolding askRow
 asked d k n line m e = go (operandsOf k (d .sort)) refl (inRange (d .sort) (d .names) k n) refl (namesFit (openedBy k n (d .names))) refl e
   where
     go : (o : Operands) → operandsOf k (d .sort) ≡ o → (r : Bool) → inRange (d .sort) (d .names) k n ≡ r → (f : Bool) → namesFit (openedBy k n (d .names)) ≡ f
-        → firstNo o r f (inputsCounted (d .sort) n) line ≡ Passed m → Asked d k n m
+        → firstNo o r f (inputsCounted (d .sort) n) line ≡ Told m → Asked d k n m
     go NotOfSort p r q f g e = absurd (let y : _≡_ {A = ℕ} 0 1 = cc in omega arith)
     go (Count c) p true q true g e = record { count = c; of = p; operands = cc; ranged = q; fit = g }
     go (Count c) p true q false g e = absurd (let y : _≡_ {A = ℕ} 0 1 = cc in omega arith)
     go (Count c) p false q f g e = absurd (let y : _≡_ {A = ℕ} 0 1 = cc in omega arith)
 
 -- the first row of a walk that finds nothing wrong passes, and so does the walk behind it
-pub walked : (p m : ℕ) (d : Due) (ds : List Due) (r : Row) (rs : List Row) → walkFrom p (d ∷ ds) (r ∷ rs) ≡ Passed m
-    → (c : ℕ) × (askRow d (r .0) (asNatural (r .1)) (suc p) ≡ Passed c) × (walkFrom (suc p) (operandsDue d (r .0) (asNatural (r .1)) c ++ ds) rs ≡ Passed m)
+pub walked : (p m : ℕ) (d : Due) (ds : List Due) (r : Row) (rs : List Row) → walkFrom p (d ∷ ds) (r ∷ rs) ≡ Told m
+    → (c : ℕ) × (askRow d (r .0) (asNatural (r .1)) (suc p) ≡ Told c) × (walkFrom (suc p) (operandsDue d (r .0) (asNatural (r .1)) c ++ ds) rs ≡ Told m)
 unfolding walkFrom
 walked p m d ds r rs e = go (askRow d (r .0) (asNatural (r .1)) (suc p)) refl e
   where
     go : (x : Answer) → askRow d (r .0) (asNatural (r .1)) (suc p) ≡ x
-        → after x (λ c. walkFrom (suc p) (operandsDue d (r .0) (asNatural (r .1)) c ++ ds) rs) ≡ Passed m
-        → (c : ℕ) × (askRow d (r .0) (asNatural (r .1)) (suc p) ≡ Passed c) × (walkFrom (suc p) (operandsDue d (r .0) (asNatural (r .1)) c ++ ds) rs ≡ Passed m)
-    go (Passed c) q e = (c, q, e)
+        → after x (λ c. walkFrom (suc p) (operandsDue d (r .0) (asNatural (r .1)) c ++ ds) rs) ≡ Told m
+        → (c : ℕ) × (askRow d (r .0) (asNatural (r .1)) (suc p) ≡ Told c) × (walkFrom (suc p) (operandsDue d (r .0) (asNatural (r .1)) c ++ ds) rs ≡ Told m)
+    go (Told c) q e = (c, q, e)
     go (Refused x) q e = absurd (let y : _≡_ {A = ℕ} 0 1 = cc in omega arith)
 
 -- ---- the test of names, as a fact

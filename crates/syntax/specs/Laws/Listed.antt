@@ -1,20 +1,18 @@
 -- Rows that walk well are all passed, and their kinds are all words'. Assumes nothing.
-use mathlib.Core.Path.{_≡_, refl, ap, _∙_}
+use mathlib.Core.Path.{_≡_, refl, _∙_}
 use mathlib.Core.Bool.{Bool, true, false, cond}
 use mathlib.Core.List.{List, [], _∷_, _++_}
-use Prim.Native.Nat.{ℕ, suc, _+_, _≤_}
+use Prim.Native.Nat.{ℕ, suc, _+_}
 use native.Mathlib.Omega.{arith}
-use borrow.Author.Tests.{ltb-true}
-use lib.Dec.{ltb}
-use lib.ListN.{length, List·getD-eq-default}
+use lib.ListN.{length}
 use Rattle.refusals.specs.declared.Refusal.{Refusal}
 use Rattle.refusals.specs.declared.Refusal.the-variants.{LineForm}
-use Rattle.words.specs.Kinds.{Row, word-rest}
-use Rattle.words.specs.Words.{entry, table, operandsAs, operandsOf}
-use Rattle.words.specs.declared.Operands.the-variants.{Count}
+use Rattle.words.specs.Kinds.{Row}
+use Rattle.words.specs.Groups.{isListed}
+use Rattle.words.specs.Laws.{word-listed}
+use Rattle.refusals.specs.declared.Answer.{Answer}
+use Rattle.refusals.specs.declared.Answer.the-variants.{Told, Refused}
 use Rattle.words.specs.declared.Sort.{Sort}
-use Rattle.syntax.specs.declared.Answer.{Answer}
-use Rattle.syntax.specs.declared.Answer.the-variants.{Passed, Refused}
 use Rattle.syntax.specs.declared.operands.Due.{Due}
 use Rattle.syntax.specs.Ranges.{asNatural}
 use Rattle.syntax.specs.Names.{noNames}
@@ -23,7 +21,7 @@ use Rattle.syntax.specs.Walk.{walkFrom, listedFrom, walkTable}
 use Rattle.syntax.specs.Laws.Ask.{asked, walked}
 
 -- all rows are passed
-walk-length : (R : List Row) (p m : ℕ) (ds : List Due) → walkFrom p ds R ≡ Passed m → m ≡ p + length R
+walk-length : (R : List Row) (p m : ℕ) (ds : List Due) → walkFrom p ds R ≡ Told m → m ≡ p + length R
 unfolding walkFrom
 walk-length [] p m [] e = let q : p ≡ m = cc in omega arith
 walk-length [] p m (d ∷ ds) e = absurd (let y : _≡_ {A = ℕ} 0 1 = cc in omega arith)
@@ -32,23 +30,7 @@ walk-length (r ∷ rs) p m (d ∷ ds) e =
     let w = walked p m d ds r rs e in
     omega (arith, walk-length rs (suc p) m (operandsDue d (r .0) (asNatural (r .1)) (w .0) ++ ds) (w .2))
 
--- a row of a sort is a word's
-table-count : length table ≡ 38
-unfolding table
-table-count = refl
-
-word-listed : (k : ℕ) (s : Sort) (m : ℕ) → operandsOf k s ≡ Count m → ltb word-rest k ≡ false
-unfolding operandsOf
-word-listed k s m e = go (ltb word-rest k) refl
-  where
-    go : (b : Bool) → ltb word-rest k ≡ b → b ≡ false
-    go false p = refl
-    go true p =
-        let h : length table ≤ k = omega (arith, ltb-true word-rest k p, table-count) in
-        let n = ap (λ (x : Rattle.words.specs.Words.Entry). operandsAs s (x .uses)) (List·getD-eq-default table (entry "" []) h) in
-        absurd (let y : _≡_ {A = ℕ} 0 1 = cc in omega arith)
-
-walk-listed : (R : List Row) (p m : ℕ) (ds : List Due) → walkFrom p ds R ≡ Passed m → (q : ℕ) (v : Answer) → listedFrom q R v ≡ v
+walk-listed : (R : List Row) (p m : ℕ) (ds : List Due) → walkFrom p ds R ≡ Told m → (q : ℕ) (v : Answer) → listedFrom q R v ≡ v
 unfolding walkFrom listedFrom
 walk-listed [] p m ds e q v = refl
 walk-listed (r ∷ rs) p m [] e q v = absurd (let y : _≡_ {A = ℕ} 0 1 = cc in omega arith)
@@ -57,48 +39,48 @@ walk-listed (r ∷ rs) p m (d ∷ ds) e q v =
     let a = asked d (r .0) (asNatural (r .1)) (suc p) (w .0) (w .1) in
     rw (word-listed (r .0) (d .sort) (a .count) (a .of)) (walk-listed rs (suc p) m (operandsDue d (r .0) (asNatural (r .1)) (w .0) ++ ds) (w .2) (suc q) v)
 
-pub listed-walk : (R : List Row) (q m : ℕ) (v : Answer) → listedFrom q R v ≡ Passed m → v ≡ Passed m
+pub listed-walk : (R : List Row) (q m : ℕ) (v : Answer) → listedFrom q R v ≡ Told m → v ≡ Told m
 unfolding listedFrom
 listed-walk [] q m v e = e
-listed-walk (r ∷ rs) q m v e = go (ltb word-rest (r .0)) (listed-walk rs (suc q) m v) e
+listed-walk (r ∷ rs) q m v e = go (isListed (r .0)) (listed-walk rs (suc q) m v) e
   where
-    go : (b : Bool) → (listedFrom (suc q) rs v ≡ Passed m → v ≡ Passed m) → cond b (Refused (LineForm (suc q))) (listedFrom (suc q) rs v) ≡ Passed m → v ≡ Passed m
-    go true f e = absurd (let y : _≡_ {A = ℕ} 0 1 = cc in omega arith)
-    go false f e = f e
+    go : (b : Bool) → (listedFrom (suc q) rs v ≡ Told m → v ≡ Told m) → cond b (listedFrom (suc q) rs v) (Refused (LineForm (suc q))) ≡ Told m → v ≡ Told m
+    go true f e = f e
+    go false f e = absurd (let y : _≡_ {A = ℕ} 0 1 = cc in omega arith)
 
 -- ---- question 2 of the kinds does not depend on what is asked behind it
 
-pub all-listed : (R : List Row) (p m : ℕ) (v w : Answer) → listedFrom p R v ≡ Passed m → listedFrom p R w ≡ w
+pub all-listed : (R : List Row) (p m : ℕ) (v w : Answer) → listedFrom p R v ≡ Told m → listedFrom p R w ≡ w
 unfolding listedFrom
 all-listed [] p m v w e = refl
-all-listed (r ∷ rs) p m v w e = go (ltb word-rest (r .0)) (all-listed rs (suc p) m v w) e
+all-listed (r ∷ rs) p m v w e = go (isListed (r .0)) (all-listed rs (suc p) m v w) e
   where
-    go : (b : Bool) → (listedFrom (suc p) rs v ≡ Passed m → listedFrom (suc p) rs w ≡ w)
-        → cond b (Refused (LineForm (suc p))) (listedFrom (suc p) rs v) ≡ Passed m → cond b (Refused (LineForm (suc p))) (listedFrom (suc p) rs w) ≡ w
-    go true f e = absurd (let y : _≡_ {A = ℕ} 0 1 = cc in omega arith)
-    go false f e = f e
+    go : (b : Bool) → (listedFrom (suc p) rs v ≡ Told m → listedFrom (suc p) rs w ≡ w)
+        → cond b (listedFrom (suc p) rs v) (Refused (LineForm (suc p))) ≡ Told m → cond b (listedFrom (suc p) rs w) (Refused (LineForm (suc p))) ≡ w
+    go true f e = f e
+    go false f e = absurd (let y : _≡_ {A = ℕ} 0 1 = cc in omega arith)
 
-pub one-unlisted : (R : List Row) (p m : ℕ) (q : Refusal) (w : Answer) → listedFrom p R (Passed m) ≡ Refused q → listedFrom p R w ≡ Refused q
+pub one-unlisted : (R : List Row) (p m : ℕ) (q : Refusal) (w : Answer) → listedFrom p R (Told m) ≡ Refused q → listedFrom p R w ≡ Refused q
 unfolding listedFrom
 one-unlisted [] p m q w e = absurd (let y : _≡_ {A = ℕ} 0 1 = cc in omega arith)
-one-unlisted (r ∷ rs) p m q w e = go (ltb word-rest (r .0)) (one-unlisted rs (suc p) m q w) e
+one-unlisted (r ∷ rs) p m q w e = go (isListed (r .0)) (one-unlisted rs (suc p) m q w) e
   where
-    go : (b : Bool) → (listedFrom (suc p) rs (Passed m) ≡ Refused q → listedFrom (suc p) rs w ≡ Refused q)
-        → cond b (Refused (LineForm (suc p))) (listedFrom (suc p) rs (Passed m)) ≡ Refused q
-        → cond b (Refused (LineForm (suc p))) (listedFrom (suc p) rs w) ≡ Refused q
-    go true f e = e
-    go false f e = f e
+    go : (b : Bool) → (listedFrom (suc p) rs (Told m) ≡ Refused q → listedFrom (suc p) rs w ≡ Refused q)
+        → cond b (listedFrom (suc p) rs (Told m)) (Refused (LineForm (suc p))) ≡ Refused q
+        → cond b (listedFrom (suc p) rs w) (Refused (LineForm (suc p))) ≡ Refused q
+    go true f e = f e
+    go false f e = e
 
 -- ---- a whole table
 
 module _ (s : Sort) (R : List Row) (m : ℕ) where
-  pub table-walk : walkTable s R ≡ Passed m → walkFrom 0 (due s noNames ∷ []) R ≡ Passed m
+  pub table-walk : walkTable s R ≡ Told m → walkFrom 0 (due s noNames ∷ []) R ≡ Told m
   unfolding walkTable
   table-walk e = listed-walk R 0 m (walkFrom 0 (due s noNames ∷ []) R) e
 
-  pub walk-table : walkFrom 0 (due s noNames ∷ []) R ≡ Passed m → walkTable s R ≡ Passed m
+  pub walk-table : walkFrom 0 (due s noNames ∷ []) R ≡ Told m → walkTable s R ≡ Told m
   unfolding walkTable
   walk-table e = walk-listed R 0 m (due s noNames ∷ []) e 0 (walkFrom 0 (due s noNames ∷ []) R) ∙ e
 
-  pub table-passed : walkTable s R ≡ Passed m → m ≡ length R
+  pub table-passed : walkTable s R ≡ Told m → m ≡ length R
   table-passed e = omega (arith, walk-length R 0 m (due s noNames ∷ []) (table-walk e))

@@ -19,7 +19,8 @@ use Rattle.meaning.specs.Limits.{IsCount}
 use Rattle.meaning.specs.Rows.{offsetRows, valueRows, placeRows, commandRows, allCellsRows, loopsRows}
 use Rattle.syntax.specs.declared.names.Names.{Names}
 use Rattle.syntax.specs.declared.operands.Due.{Due}
-use Rattle.syntax.specs.Ranges.{asNatural, oneOf, inRange}
+use Rattle.words.specs.Groups.{oneOf}
+use Rattle.syntax.specs.Ranges.{asNatural, inRange}
 use Rattle.syntax.specs.Names.{noNames, names, openedBy, namesFit}
 use Rattle.syntax.specs.Operands.{due, operandOf, operandsDue}
 use Rattle.syntax.specs.InRange.{OffsetInRange, CommandInRange, AllCounts, LoopsInRange}

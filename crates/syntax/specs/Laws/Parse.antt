@@ -7,7 +7,8 @@ use native.Mathlib.Omega.{arith}
 use borrow.Author.Tests.{leb-true, eqb-true}
 use lib.Dec.{eqb}
 use lib.IntN.{ℤ}
-use Rattle.words.specs.Kinds.{Row, word-plan, word-mappar, word-mapseq, word-redseq, word-loops, word-for, word-par, word-new}
+use Rattle.words.specs.Kinds.{Row, word-plan, word-redseq, word-loops, word-new}
+use Rattle.refusals.specs.declared.Answer.the-variants.{Told}
 use Rattle.words.specs.Words.{table}
 use Rattle.words.specs.declared.Sort.{Sort}
 use Rattle.words.specs.declared.Sort.the-variants as sort
@@ -15,10 +16,10 @@ use Rattle.meaning.specs.Types.{DataType}
 use Rattle.meaning.specs.Terms.{Term, Plan}
 use Rattle.meaning.specs.Loops.{Offset, Place, Value, Command, Loops}
 use Rattle.meaning.specs.Rows.{planRows, loopsRows}
-use Rattle.syntax.specs.declared.Answer.the-variants.{Passed}
 use Rattle.syntax.specs.declared.names.Names.{Names}
 use Rattle.syntax.specs.declared.operands.Due.{Due}
-use Rattle.syntax.specs.Ranges.{asNatural, oneOf, inRange}
+use Rattle.words.specs.Groups.{oneOf, isMap, isLoop}
+use Rattle.syntax.specs.Ranges.{asNatural, inRange}
 use Rattle.syntax.specs.Names.{noNames, names, openedBy}
 use Rattle.syntax.specs.Operands.{due, operandOf, operandsDue}
 use Rattle.syntax.specs.Walk.{walkFrom}
@@ -58,17 +59,17 @@ head-few s N k n h r = go (eqb k word-plan) refl (eqb k word-loops) refl h
 
 opened-few : (s : Sort) (N : Names) (k n : ℕ) → N .inputs ≤ 8 → inRange s N k n ≡ true → openedBy k n N .inputs ≤ 8
 unfolding openedBy
-opened-few s N k n h r = go (oneOf k (word-plan ∷ word-loops ∷ [])) refl (oneOf k (word-mappar ∷ word-mapseq ∷ [])) (eqb k word-redseq) (oneOf k (word-for ∷ word-par ∷ [])) (eqb k word-new)
+opened-few s N k n h r = go (oneOf k (word-plan ∷ word-loops ∷ [])) refl (isMap k) (isLoop k) (eqb k word-redseq) (eqb k word-new)
   where
     go : (a : Bool) → oneOf k (word-plan ∷ word-loops ∷ []) ≡ a → (b c d e : Bool)
-        → cond a (names n (N .variables) (N .counters) (N .regions))
-        (cond b (names (N .inputs) (N .variables + 1) (N .counters) (N .regions))
-        (cond c (names (N .inputs) (N .variables + 2) (N .counters) (N .regions))
-        (cond d (names (N .inputs) (N .variables) (N .counters + 1) (N .regions))
+        → cond b (names (N .inputs) (N .variables + 1) (N .counters) (N .regions))
+        (cond c (names (N .inputs) (N .variables) (N .counters + 1) (N .regions))
+        (cond a (names n (N .variables) (N .counters) (N .regions))
+        (cond d (names (N .inputs) (N .variables + 2) (N .counters) (N .regions))
         (cond e (names (N .inputs) (N .variables) (N .counters) (N .regions + 1)) N)))) .inputs ≤ 8
-    go true p b c d e = head-few s N k n p r
-    go false p true c d e = h
-    go false p false true d e = h
+    go a p true c d e = h
+    go a p false true d e = h
+    go true p false false d e = head-few s N k n p r
     go false p false false true e = h
     go false p false false false true = h
     go false p false false false false = h
@@ -90,7 +91,7 @@ node d k z m a h q f =
     each-word (d .sort) (Node d) (nodes (d .sort) (d .names) h) k (q .count) (q .of) z a (q .ranged) (q .fit)
     (subst (λ (i : ℕ). Forest (operandsDue d k (asNatural z) i) a) (q .operands) f)
 
-pub parse : (R : List Row) (p m : ℕ) (ds : List Due) → Few ds → walkFrom p ds R ≡ Passed m → Forest ds R
+pub parse : (R : List Row) (p m : ℕ) (ds : List Due) → Few ds → walkFrom p ds R ≡ Told m → Forest ds R
 unfolding walkFrom
 parse [] p m [] h e = refl
 parse [] p m (d ∷ ds) h e = absurd (let y : _≡_ {A = ℕ} 0 1 = cc in omega arith)
@@ -102,8 +103,8 @@ parse (r ∷ rs) p m (d ∷ ds) h e =
     let s = parted (operandsDue d (r .0) (asNatural (r .1)) (w .0)) ds rs f in
     (r ∷ s .0, s .1, ap (λ (l : List Row). r ∷ l) (s .2), node d (r .0) (r .1) (w .0) (s .0) (h .0) q (s .3), s .4)
 
-pub plan-parsed : (R : List Row) (m : ℕ) → walkFrom 0 (due sort.Plan noNames ∷ []) R ≡ Passed m → (P : Plan) × PlanInRange P × (R ≡ planRows P)
+pub plan-parsed : (R : List Row) (m : ℕ) → walkFrom 0 (due sort.Plan noNames ∷ []) R ≡ Told m → (P : Plan) × PlanInRange P × (R ≡ planRows P)
 plan-parsed R m e = one (due sort.Plan noNames) R (parse R 0 m (due sort.Plan noNames ∷ []) (omega arith, tt) e) refl
 
-pub loops-parsed : (R : List Row) (m : ℕ) → walkFrom 0 (due sort.Loops noNames ∷ []) R ≡ Passed m → (L : Loops) × LoopsInRange L × (R ≡ loopsRows L)
+pub loops-parsed : (R : List Row) (m : ℕ) → walkFrom 0 (due sort.Loops noNames ∷ []) R ≡ Told m → (L : Loops) × LoopsInRange L × (R ≡ loopsRows L)
 loops-parsed R m e = one (due sort.Loops noNames) R (parse R 0 m (due sort.Loops noNames ∷ []) (omega arith, tt) e) refl

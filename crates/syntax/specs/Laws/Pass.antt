@@ -9,11 +9,11 @@ use borrow.Author.Tests.{le-leb}
 use lib.Dec.{leb}
 use lib.IntN.{ℤ}
 use lib.ListN.{length, length-append}
+use Rattle.refusals.specs.declared.Answer.the-variants.{Told}
 use Rattle.words.specs.Kinds.{Row}
 use Rattle.words.specs.Words.{operandsOf}
 use Rattle.words.specs.declared.Operands.the-variants.{Count}
 use Rattle.meaning.specs.Limits.{IsCount}
-use Rattle.syntax.specs.declared.Answer.the-variants.{Passed}
 use Rattle.syntax.specs.declared.names.Names.{Names}
 use Rattle.syntax.specs.declared.operands.Due.{Due}
 use Rattle.syntax.specs.Ranges.{asNatural, inRange}
@@ -35,7 +35,7 @@ both d os a b f g p ds R =
     let e : p + length a + length b ≡ p + length (a ++ b) = simp length-append (omega arith) in
     ap (walkFrom p (d ∷ (os ++ ds))) (append-assoc a b R) ∙ f p (os ++ ds) (b ++ R) ∙ g (p + length a) ds R ∙ ap (λ (q : ℕ). walkFrom q ds R) e
 
-row-asked : (d : Due) (k : ℕ) (z : ℤ) (m : ℕ) (a : List Row) → ((line : ℕ) → askRow d k (asNatural z) line ≡ Passed m) → Passes (operandsDue d k (asNatural z) m) a → Passes (d ∷ []) ((k, z) ∷ a)
+row-asked : (d : Due) (k : ℕ) (z : ℤ) (m : ℕ) (a : List Row) → ((line : ℕ) → askRow d k (asNatural z) line ≡ Told m) → Passes (operandsDue d k (asNatural z) m) a → Passes (d ∷ []) ((k, z) ∷ a)
 unfolding walkFrom
 row-asked d k z m a h f p ds R =
     rw (h (suc p)) (f (suc p) ds R ∙ ap (λ (q : ℕ). walkFrom q ds R) (omega arith))

@@ -18,11 +18,12 @@ use Rattle.meaning.specs.Limits.{IsCount}
 use Rattle.meaning.specs.Rows.{operationWord, loopWord, offsetRows, valueRows, placeRows, commandRows, allCellsRows, loopsRows}
 use Rattle.syntax.specs.declared.names.Names.{Names}
 use Rattle.syntax.specs.declared.operands.Due.{Due}
-use Rattle.syntax.specs.Ranges.{oneOf, inRange}
+use Rattle.words.specs.Groups.{oneOf}
+use Rattle.syntax.specs.Ranges.{inRange}
 use Rattle.syntax.specs.Names.{noNames, names, openedBy, Bounded}
 use Rattle.syntax.specs.Operands.{due, operandOf, operandsDue}
 use Rattle.syntax.specs.InRange.{OffsetInRange, PlaceInRange, ValueInRange, CommandInRange, AllCounts, LoopsInRange}
-use Rattle.syntax.specs.Laws.Each.{Each, _also_}
+use Rattle.syntax.specs.Laws.Each.{_also_}
 use Rattle.syntax.specs.Laws.Heads.{copies, copies-more, operands-copies, each-operation}
 use Rattle.syntax.specs.Laws.Pass.{Passes, none, both, row, count-in, inputsOnly, small}
 
@@ -50,7 +51,7 @@ module _ (N : Names) (b : Bounded N) where
   pass-place (Place.region d o) h = row (due sort.Place N) word-loc (pos d) 1 (offsetRows o) refl (lt-ltb d (N .regions) (h .0)) b (pass-offset o (h .1))
 
   pass-value-operation : (a : List Row) → Passes (W ∷ W ∷ []) a → (o : Operation) → Passes (W ∷ []) ((operationWord o, pos 0) ∷ a)
-  unfolding operandsOf table operandsDue operandOf openedBy inRange oneOf Each
+  unfolding operandsOf table operandsDue operandOf openedBy inRange oneOf
   pass-value-operation a f o =
       each-operation (λ w. Passes (W ∷ []) ((w, pos 0) ∷ a))
       (row W word-add (pos 0) 2 a refl refl b f

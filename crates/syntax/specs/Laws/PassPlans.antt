@@ -17,11 +17,12 @@ use Rattle.meaning.specs.Terms.{LoopKind, Term, Plan}
 use Rattle.meaning.specs.Rows.{operationWord, mapWord, typeRows, termRows, allTypeRows, planRows}
 use Rattle.syntax.specs.declared.names.Names.{Names}
 use Rattle.syntax.specs.declared.operands.Due.{Due}
-use Rattle.syntax.specs.Ranges.{oneOf, inRange}
+use Rattle.words.specs.Groups.{oneOf}
+use Rattle.syntax.specs.Ranges.{inRange}
 use Rattle.syntax.specs.Names.{noNames, names, openedBy, Bounded}
 use Rattle.syntax.specs.Operands.{due, operandOf, operandsDue}
 use Rattle.syntax.specs.InRange.{TypeInRange, AllTypesInRange, TermInRange, PlanInRange}
-use Rattle.syntax.specs.Laws.Each.{Each, _also_}
+use Rattle.syntax.specs.Laws.Each.{_also_}
 use Rattle.syntax.specs.Laws.Heads.{copies, operands-copies, each-operation}
 use Rattle.syntax.specs.Laws.Pass.{Passes, none, both, row, count-in, inputsOnly, small}
 
@@ -49,7 +50,7 @@ abbrev T : Names → Due
 T N = due sort.Term N
 
 pass-operation : (N : Names) (b : Bounded N) (a : List Row) → Passes (T N ∷ T N ∷ []) a → (o : Operation) → Passes (T N ∷ []) ((operationWord o, pos 0) ∷ a)
-unfolding operandsOf table operandsDue operandOf openedBy inRange oneOf Each
+unfolding operandsOf table operandsDue operandOf openedBy inRange oneOf
 pass-operation N b a f o =
     each-operation (λ w. Passes (T N ∷ []) ((w, pos 0) ∷ a))
     (row (T N) word-add (pos 0) 2 a refl refl b f

@@ -10,6 +10,9 @@ use lib.Dec.{leb}
 use lib.ListN.{length}
 use Rattle.refusals.specs.declared.Refusal.{Refusal}
 use Rattle.refusals.specs.declared.Refusal.the-variants.{LoopsLength, WriteCount}
+use Rattle.refusals.specs.declared.Answer.{Answer}
+use Rattle.refusals.specs.declared.Answer.the-variants.{Told, Refused}
+use Rattle.refusals.specs.Answers.{unlessRefused}
 use Rattle.meaning.specs.Types.{DataType}
 use Rattle.meaning.specs.Terms.{Plan}
 use Rattle.meaning.specs.Typing.{HasType}
@@ -19,27 +22,23 @@ use Rattle.meaning.specs.Counts.{planWrites}
 use Rattle.meaning.specs.Limits.{PlanWithin}
 use Rattle.meaning.specs.Translation.{translation}
 use Rattle.meaning.specs.Theorems.{own-loops-pass, own-writes}
-use Rattle.syntax.specs.declared.Answer.{Answer}
-use Rattle.syntax.specs.declared.Answer.the-variants as check
-use Rattle.typing.specs.Entry.{checkText}
+use Rattle.typing.specs.Entry.{checkPlanText}
 use Rattle.loops.specs.declared.Checked.the-variants.{Passes, Refused as NoPass}
 use Rattle.loops.specs.Check.{askWrites, unless, checkLoops, checkTable}
 use Rattle.loops.specs.Laws.Passing.{pass-loops}
 use Rattle.loops.specs.Theorems.{tree-checked}
 use Rattle.loops.specs.TableTheorems.{few-rows}
-use Rattle.translate.specs.declared.Made.{Made}
-use Rattle.translate.specs.declared.Made.the-variants.{Rows, Refused}
-use Rattle.translate.specs.Entry.{madeRows, makePlan, afterCheck, planIn, makeText}
+use Rattle.translate.specs.Entry.{madeRows, makePlan, planIn, makeText}
 use Rattle.translate.specs.Making.{byCheck}
 
-pub no-rows : {A : Type 0} {q : Refusal} {n : ℕ} → Refused q ≡ Rows n → A
+pub no-rows : {A : Type 0} {q : Refusal} {n : ℕ} → Refused q ≡ Told n → A
 no-rows e = absurd (let clash : _≡_ {A = ℕ} 0 1 = cc in omega arith)
 
 -- ---- plans
 
 module _ (P : Plan) where
-  abbrev byWrites : Bool → Made
-  byWrites b = cond b (Rows (length (madeRows P))) (Refused WriteCount)
+  abbrev byWrites : Bool → Answer
+  byWrites b = cond b (Told (length (madeRows P))) (Refused WriteCount)
 
   pub plan-short : length (madeRows P) ≤ 4096 → makePlan P ≡ byWrites (leb (planWrites P) 16777216)
   unfolding makePlan
@@ -50,12 +49,12 @@ module _ (P : Plan) where
   plan-long h = ap (λ (b : Bool). cond b (byWrites (leb (planWrites P) 16777216)) (Refused LoopsLength)) (lt-leb _ _ h)
 
   -- a plan that makes rows makes those, few enough and with few enough writes
-  pub plan-made : (n : ℕ) → makePlan P ≡ Rows n → (length (madeRows P) ≡ n) × (n ≤ 4096) × (planWrites P ≤ 16777216)
+  pub plan-made : (n : ℕ) → makePlan P ≡ Told n → (length (madeRows P) ≡ n) × (n ≤ 4096) × (planWrites P ≤ 16777216)
   unfolding makePlan
   plan-made n e = go (leb (length (madeRows P)) 4096) (leb (planWrites P) 16777216) refl refl e
     where
       go : (a b : Bool) → leb (length (madeRows P)) 4096 ≡ a → leb (planWrites P) 16777216 ≡ b
-          → cond a (byWrites b) (Refused LoopsLength) ≡ Rows n
+          → cond a (byWrites b) (Refused LoopsLength) ≡ Told n
           → (length (madeRows P) ≡ n) × (n ≤ 4096) × (planWrites P ≤ 16777216)
       go true true x y e =
           let l : length (madeRows P) ≡ n = cc in
@@ -93,26 +92,26 @@ module _ (P : Plan) where
 -- ---- texts
 
 module _ (ws : List (List ℕ)) (t : List ℕ) where
-  pub text-passed : (m : ℕ) → checkText ws t ≡ check.Passed m → makeText ws t ≡ makePlan (planIn ws t)
+  pub text-passed : (m : ℕ) → checkPlanText ws t ≡ Told m → makeText ws t ≡ makePlan (planIn ws t)
   unfolding makeText
-  text-passed m e = ap (λ (a : Answer). afterCheck a (makePlan (planIn ws t))) e
+  text-passed m e = ap (λ (a : Answer). unlessRefused a (makePlan (planIn ws t))) e
 
-  pub text-refused : (q : Refusal) → checkText ws t ≡ check.Refused q → makeText ws t ≡ Refused q
+  pub text-refused : (q : Refusal) → checkPlanText ws t ≡ Refused q → makeText ws t ≡ Refused q
   unfolding makeText
-  text-refused q e = ap (λ (a : Answer). afterCheck a (makePlan (planIn ws t))) e
+  text-refused q e = ap (λ (a : Answer). unlessRefused a (makePlan (planIn ws t))) e
 
   -- by the check of the plan
-  pub by-check : {A : Type 0} → ((m : ℕ) → checkText ws t ≡ check.Passed m → A) → ((q : Refusal) → checkText ws t ≡ check.Refused q → A) → A
-  by-check {A} passed refused = go (checkText ws t) refl
+  pub by-check : {A : Type 0} → ((m : ℕ) → checkPlanText ws t ≡ Told m → A) → ((q : Refusal) → checkPlanText ws t ≡ Refused q → A) → A
+  by-check {A} passed refused = go (checkPlanText ws t) refl
     where
-      go : (a : Answer) → checkText ws t ≡ a → A
-      go (check.Passed m) e = passed m e
-      go (check.Refused q) e = refused q e
+      go : (a : Answer) → checkPlanText ws t ≡ a → A
+      go (Told m) e = passed m e
+      go (Refused q) e = refused q e
 
   -- a text that makes rows passes the check of plans, and its plan makes them
-  pub text-made : (n : ℕ) → makeText ws t ≡ Rows n → ((m : ℕ) × (checkText ws t ≡ check.Passed m)) × (makePlan (planIn ws t) ≡ Rows n)
+  pub text-made : (n : ℕ) → makeText ws t ≡ Told n → ((m : ℕ) × (checkPlanText ws t ≡ Told m)) × (makePlan (planIn ws t) ≡ Told n)
   text-made n e =
       by-check (λ m f. ((m, f), sym (text-passed m f) ∙ e)) (λ q f. no-rows (sym (text-refused q f) ∙ e))
 
-  pub text-count : (n : ℕ) → makeText ws t ≡ Rows n → (length (madeRows (planIn ws t)) ≡ n) × (n ≤ 4096) × (planWrites (planIn ws t) ≤ 16777216)
+  pub text-count : (n : ℕ) → makeText ws t ≡ Told n → (length (madeRows (planIn ws t)) ≡ n) × (n ≤ 4096) × (planWrites (planIn ws t) ≤ 16777216)
   text-count n e = plan-made (planIn ws t) n (text-made n e .1)

@@ -4,18 +4,17 @@ use mathlib.Core.List.{List}
 use Prim.Native.Nat.{ℕ, _≤_}
 use native.Mathlib.Omega.{arith}
 use lib.ListN.{length}
+use Rattle.refusals.specs.declared.Answer.{Answer}
+use Rattle.refusals.specs.declared.Answer.the-variants.{Told, Refused}
 use Rattle.words.specs.Kinds.{Row}
 use Rattle.words.specs.Words.{lookUp}
 use Rattle.texts.specs.Texts.{linesOf}
 use Rattle.lines.specs.Reading.{rowsIn, reading, planLimits}
 use Rattle.lines.specs.Laws.{rows-read}
-use Rattle.lines.specs.declared.Reading.{Reading}
-use Rattle.lines.specs.declared.Reading.the-variants as read
 use Rattle.meaning.specs.Rows.{planRows}
-use Rattle.syntax.specs.declared.Answer.the-variants.{Passed}
 use Rattle.syntax.specs.Reading.{planOf}
 use Rattle.syntax.specs.Theorems.{plan-tree}
-use Rattle.typing.specs.Entry.{checkText}
+use Rattle.typing.specs.Entry.{checkPlanText}
 use Rattle.typing.specs.Accepted.{Numbers32}
 use Rattle.typing.specs.Laws.EntryQuestions.{passed-refused}
 use Rattle.typing.specs.Laws.Plans.{plan-accepted}
@@ -24,15 +23,15 @@ use Rattle.typing.specs.Laws.Texts.{read-within, rows-printable, printable-numb
 use Rattle.translate.specs.Entry.{planIn}
 use Rattle.translate.specs.Accepted.{TextPlan}
 
-pub text-plan : (ws : List (List ℕ)) (t : List ℕ) (m : ℕ) → checkText ws t ≡ Passed m → TextPlan ws t (planIn ws t)
+pub text-plan : (ws : List (List ℕ)) (t : List ℕ) (m : ℕ) → checkPlanText ws t ≡ Told m → TextPlan ws t (planIn ws t)
 text-plan ws t m e = go (reading (lookUp ws) planLimits t) refl
   where
     R : List Row
     R = rowsIn (lookUp ws) (linesOf t)
 
-    go : (r : Reading) → reading (lookUp ws) planLimits t ≡ r → TextPlan ws t (planOf R)
-    go (read.Refused q) f = passed-refused (sym e ∙ unread-text ws t q f)
-    go (read.Rows k) f =
+    go : (r : Answer) → reading (lookUp ws) planLimits t ≡ r → TextPlan ws t (planOf R)
+    go (Refused q) f = passed-refused (sym e ∙ unread-text ws t q f)
+    go (Told k) f =
         let a = passed-rows R m (sym (read-text ws t k f) ∙ e) in
         let p = plan-tree R (a .0) in
         let few : length (planRows (planOf R)) ≤ 256 =

@@ -50,8 +50,8 @@ same-returns t c =
     let entry = c .before .before .before .before .before .before .before .before in
     let at-as-array = c .before .before .before .before .before .before .as-array in
     let at-arrays = c .before .before .before .before .arrays in
-    answer-no (λ e. told-no-array (entry .args .nodes .now) (entry .args .b) (c .enum-told .given .1)
-    (c .before .before .as-array2 .ensures) _ _ (sym e ∙ told-array (entry .args .nodes .now) (entry .args .a)
+    answer-no (λ e. told-no-array (entry .args .types .now) (entry .args .b) (c .enum-told .given .1)
+    (c .before .before .as-array2 .ensures) _ _ (sym e ∙ told-array (entry .args .types .now) (entry .args .a)
     (at-arrays .given .1) (at-as-array .ensures) .0))
 
 same-returns-2 : (t : ℕ) → same-lts.Need-returns-2 (same-calls t) (same-at t) same.Post
@@ -60,8 +60,8 @@ same-returns-2 t c =
     let at-as-array = c .before .before .before .before .before .before .before .before .as-array in
     let at-arrays = c .before .before .before .before .before .before .arrays in
     let at-as-array2 = c .before .before .before .before .as-array2 in
-    answer-no (arrays-differ (told-array (entry .args .nodes .now) (entry .args .a) (at-arrays .given .1)
-    (at-as-array .ensures) .0) (told-array (entry .args .nodes .now) (entry .args .b)
+    answer-no (arrays-differ (told-array (entry .args .types .now) (entry .args .a) (at-arrays .given .1)
+    (at-as-array .ensures) .0) (told-array (entry .args .types .now) (entry .args .b)
     (c .before .before .other .given .1) (at-as-array2 .ensures) .0) (c .if1 .taken))
 
 same-same-requires : (t : ℕ) → same-lts.Need-same-requires (same-calls t) (same-at t) same.Post
@@ -72,18 +72,18 @@ same-same-requires t c κs =
       omega (
         arith,
         entry .pre .0,
-        told-array (entry .args .nodes .now) (entry .args .a) (at-arrays .given .1)
+        told-array (entry .args .types .now) (entry .args .a) (at-arrays .given .1)
             (at-as-array .ensures) .1,
       ),
       (
         sound-below (entry .pre .1 .0) (omega (
           arith,
           told-array
-              (entry .args .nodes .now) (entry .args .a) (at-arrays .given .1) (at-as-array .ensures) .1,
+              (entry .args .types .now) (entry .args .a) (at-arrays .given .1) (at-as-array .ensures) .1,
         )),
         sound-below (entry .pre .1 .1) (omega (
           arith,
-          told-array (entry .args .nodes .now) (entry .args .b)
+          told-array (entry .args .types .now) (entry .args .b)
               (c .before .before .other .given .1) (c .before .before .before .before .as-array2 .ensures) .1,
         )),
       ),
@@ -95,8 +95,8 @@ same-returns-3 t c =
     let at-as-array = c .before .before .before .before .before .before .before .before .before .as-array in
     let at-arrays = c .before .before .before .before .before .before .before .arrays in
     let at-as-array2 = c .before .before .before .before .before .as-array2 in
-    arrays-same (c .same .result) (told-array (entry .args .nodes .now) (entry .args .a) (at-arrays .given .1)
-    (at-as-array .ensures) .0) (told-array (entry .args .nodes .now) (entry .args .b)
+    arrays-same (c .same .result) (told-array (entry .args .types .now) (entry .args .a) (at-arrays .given .1)
+    (at-as-array .ensures) .0) (told-array (entry .args .types .now) (entry .args .b)
     (c .before .before .before .other .given .1) (at-as-array2 .ensures) .0) (c .before .if1 .left)
     (c .same .ensures)
 
@@ -111,8 +111,8 @@ same-returns-4 t c =
     let entry = c .before .before .before .before .before .before .before .before .before .before .before in
     let at-as-pair = c .before .before .before .before .before .before .as-pair in
     let at-pairs = c .before .before .before .before .pairs in
-    answer-no (λ e. told-no-pair (entry .args .nodes .now) (entry .args .b) (c .enum-told3 .given .1)
-    (c .before .before .as-pair2 .ensures) _ _ (sym e ∙ told-pair (entry .args .nodes .now) (entry .args .a)
+    answer-no (λ e. told-no-pair (entry .args .types .now) (entry .args .b) (c .enum-told3 .given .1)
+    (c .before .before .as-pair2 .ensures) _ _ (sym e ∙ told-pair (entry .args .types .now) (entry .args .a)
     (at-pairs .given .1) (at-as-pair .ensures) .0))
 
 same-same-requires-2 : (t : ℕ) → same-lts.Need-same-requires-2 (same-calls t) (same-at t) same.Post
@@ -123,18 +123,18 @@ same-same-requires-2 t c κs =
       omega (
         arith,
         entry .pre .0,
-        told-pair (entry .args .nodes .now) (entry .args .a) (at-pairs .given .1)
+        told-pair (entry .args .types .now) (entry .args .a) (at-pairs .given .1)
             (at-as-pair .ensures) .1,
       ),
       (
         sound-below (entry .pre .1 .0) (omega (
           arith,
           told-pair
-              (entry .args .nodes .now) (entry .args .a) (at-pairs .given .1) (at-as-pair .ensures) .1,
+              (entry .args .types .now) (entry .args .a) (at-pairs .given .1) (at-as-pair .ensures) .1,
         )),
         sound-below (entry .pre .1 .1) (omega (
           arith,
-          told-pair (entry .args .nodes .now) (entry .args .b)
+          told-pair (entry .args .types .now) (entry .args .b)
               (c .before .other2 .given .1) (c .before .before .before .as-pair2 .ensures) .1,
         )),
       ),
@@ -147,8 +147,8 @@ same-returns-5 t c =
     let at-as-pair = c .before .before .before .before .before .before .before .before .before .as-pair in
     let at-pairs = c .before .before .before .before .before .before .before .pairs in
     let at-as-pair2 = c .before .before .before .before .before .as-pair2 in
-    answer-no (firsts-differ (told-pair (entry .args .nodes .now) (entry .args .a) (at-pairs .given .1)
-    (at-as-pair .ensures) .0) (told-pair (entry .args .nodes .now) (entry .args .b)
+    answer-no (firsts-differ (told-pair (entry .args .types .now) (entry .args .a) (at-pairs .given .1)
+    (at-as-pair .ensures) .0) (told-pair (entry .args .types .now) (entry .args .b)
     (c .before .before .before .other2 .given .1) (at-as-pair2 .ensures) .0)
     (c .before .same2 .ensures .1 (not-true _ (c .if2 .taken))))
 
@@ -161,18 +161,18 @@ same-same-requires-3 t c κs =
       omega (
         arith,
         entry .pre .0,
-        told-pair (entry .args .nodes .now) (entry .args .a) (at-pairs .given .1)
+        told-pair (entry .args .types .now) (entry .args .a) (at-pairs .given .1)
             (at-as-pair .ensures) .2,
       ),
       (
         sound-below (entry .pre .1 .0) (omega (
           arith,
           told-pair
-              (entry .args .nodes .now) (entry .args .a) (at-pairs .given .1) (at-as-pair .ensures) .2,
+              (entry .args .types .now) (entry .args .a) (at-pairs .given .1) (at-as-pair .ensures) .2,
         )),
         sound-below (entry .pre .1 .1) (omega (
           arith,
-          told-pair (entry .args .nodes .now) (entry .args .b)
+          told-pair (entry .args .types .now) (entry .args .b)
               (c .before .before .before .other2 .given .1)
               (c .before .before .before .before .before .as-pair2 .ensures) .2,
         )),
@@ -187,8 +187,8 @@ same-returns-6 t c =
     let at-pairs = c .before .before .before .before .before .before .before .before .pairs in
     let at-as-pair2 = c .before .before .before .before .before .before .as-pair2 in
     let at-other2 = c .before .before .before .before .other2 in
-    pairs-same (c .same3 .result) (told-pair (entry .args .nodes .now) (entry .args .a) (at-pairs .given .1)
-    (at-as-pair .ensures) .0) (told-pair (entry .args .nodes .now) (entry .args .b) (at-other2 .given .1)
+    pairs-same (c .same3 .result) (told-pair (entry .args .types .now) (entry .args .a) (at-pairs .given .1)
+    (at-as-pair .ensures) .0) (told-pair (entry .args .types .now) (entry .args .b) (at-other2 .given .1)
     (at-as-pair2 .ensures) .0) (c .before .before .same2 .ensures .0 (not-false _ (c .before .if2 .left)))
     (c .same3 .ensures)
 
@@ -200,8 +200,8 @@ same-returns-7 t c =
     let entry = c .before .before .before .before .before .before .before .before in
     let at-as-array = c .before .before .before .before .before .before .as-array in
     let at-enum-told2 = c .before .before .before .before .enum-told2 in
-    numbers-same (c .is-number .result) (neither _ (told-no-array (entry .args .nodes .now) (entry .args .a)
-    (at-enum-told2 .given .1) (at-as-array .ensures)) (told-no-pair (entry .args .nodes .now)
+    numbers-same (c .is-number .result) (neither _ (told-no-array (entry .args .types .now) (entry .args .a)
+    (at-enum-told2 .given .1) (at-as-array .ensures)) (told-no-pair (entry .args .types .now)
     (entry .args .a) (c .before .enum-told4 .given .1) (c .before .before .before .as-pair .ensures)))
     (c .is-number .ensures)
 

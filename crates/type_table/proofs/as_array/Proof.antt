@@ -8,13 +8,13 @@ use Rattle.type_table.proofs.as_array.Tie as tie
 returns : tie.Need-returns
 returns c =
     let entry = c .before .before .before .before in
-    no-array (entry .args .nodes .now) (entry .args .place) (entry .pre)
+    no-array (entry .args .types .now) (entry .args .place) (entry .pre)
     (λ k. c .if1 .taken (c .before .kind-in .ensures ∙ k))
 
 returns-2 : tie.Need-returns-2
 returns-2 c =
     let entry = c .before .before .before .before .before .before in
-    rw (c .before .left-in .ensures, c .right-in .ensures) (its-array (entry .args .nodes .now) (entry .args .place)
+    rw (c .before .left-in .ensures, c .right-in .ensures) (its-array (entry .args .types .now) (entry .args .place)
     (entry .pre) (sym (c .before .before .before .kind-in .ensures) ∙ c .before .before .if1 .left))
 
 pub as-array-spec : {M : Type 1} → statement M

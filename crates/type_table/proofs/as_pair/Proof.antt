@@ -8,13 +8,13 @@ use Rattle.type_table.proofs.as_pair.Tie as tie
 returns : tie.Need-returns
 returns c =
     let entry = c .before .before .before .before in
-    no-pair (entry .args .nodes .now) (entry .args .place) (entry .pre)
+    no-pair (entry .args .types .now) (entry .args .place) (entry .pre)
     (omega (arith, c .before .kind-in .ensures, c .if1 .taken))
 
 returns-2 : tie.Need-returns-2
 returns-2 c =
     let entry = c .before .before .before .before .before .before in
-    rw (c .before .left-in .ensures, c .right-in .ensures) (its-pair (entry .args .nodes .now) (entry .args .place)
+    rw (c .before .left-in .ensures, c .right-in .ensures) (its-pair (entry .args .types .now) (entry .args .place)
     (entry .pre) (omega (arith, c .before .before .before .kind-in .ensures, c .before .before .if1 .left)))
 
 pub as-pair-spec : {M : Type 1} → statement M

@@ -9,9 +9,9 @@ use Rattle.type_table.proofs.is_number.Tie as tie
 returns : tie.Need-returns
 returns c =
     let entry = c .before .before .before in (
-      (λ e. its-number (entry .args .nodes .now) (entry .args .place) (entry .pre)
+      (λ e. its-number (entry .args .types .now) (entry .args .place) (entry .pre)
           (sym (c .kind-in .ensures) ∙ eqb-true _ _ e)),
-      (λ e. no-number (entry .args .nodes .now)
+      (λ e. no-number (entry .args .types .now)
           (entry .args .place) (entry .pre) (λ k. eqb-false _ _ e (c .kind-in .ensures ∙ k))),
     )
 

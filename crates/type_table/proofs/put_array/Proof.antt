@@ -29,7 +29,7 @@ node-requires c κs =
         arith,
         entry .pre .5,
         length-within (entry .args .count)
-            (typeAt (entry .args .nodes .now) (entry .args .element)) (entry .pre .0 .each (entry .args .element)
+            (typeAt (entry .args .types .now) (entry .args .element)) (entry .pre .0 .each (entry .args .element)
             (entry .pre .3) .within .0),
       ),
       omega (arith, (entry .pre)),
@@ -38,7 +38,7 @@ node-requires c κs =
 returns : tie.Need-returns
 returns c =
     let entry = c .before .before .before .before .before .before .before in
-    rw (c .node .ensures) (array-put (entry .args .nodes .now) (entry .args .len) (entry .pre .0) (entry .pre .1)
+    rw (c .node .ensures) (array-put (entry .args .types .now) (entry .args .len) (entry .pre .0) (entry .pre .1)
     (entry .pre .2) (entry .args .count) (entry .args .element) _ _ (entry .pre .3) (entry .pre .4)
     (entry .pre .5) (entry .pre .6) (ap (λ (n : ℕ). 1 + n) (c .before .before .before .before .levels .ensures))
     (c .before .array-cells .ensures ∙ ap (λ (n : ℕ). entry .args .count * n)

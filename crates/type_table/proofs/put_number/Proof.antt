@@ -5,7 +5,7 @@ use Rattle.type_table.proofs.put_number.Statement.{statement}
 use Rattle.type_table.proofs.put_number.Tie as tie
 
 returns : tie.Need-returns
-returns c = rw (c .node .ensures) (number-put (c .before .before .args .nodes .now) (c .before .before .pre))
+returns c = rw (c .node .ensures) (number-put (c .before .before .args .types .now) (c .before .before .pre))
 
 pub put-number-spec : {M : Type 1} → statement M
 put-number-spec = tie.close (tie.spec (λ c κs. search needs) (λ c. search needs) (λ c. search needs) returns)

@@ -61,7 +61,7 @@ node-requires c κs =
 returns : tie.Need-returns
 returns c =
     let entry = c .before .before .before .before .before .before .before .before .before .before .before in
-    rw (c .node .ensures) (pair-put (entry .args .nodes .now) (entry .args .len) (entry .pre .0) (entry .pre .1)
+    rw (c .node .ensures) (pair-put (entry .args .types .now) (entry .args .len) (entry .pre .0) (entry .pre .1)
     (entry .pre .2) (entry .args .first) (entry .args .second) _ _ (entry .pre .3) (entry .pre .4)
     (entry .pre .5) (entry .pre .6) (ap (λ (n : ℕ). 1 + n)
     (c .before .before .before .before .before .greater .ensures ∙ ap₂ max

@@ -1,18 +1,22 @@
--- The check of rows and of a text puts its questions in order: each step of `checkText` is the first "no" of its part of the list.
+-- The check of rows and of a text puts its questions in order: each step of `checkPlanText` is the first "no" of its part of the list.
 -- Assumes nothing.
 use mathlib.Core.Path.{_≡_, refl, sym, ap, _∙_, subst}
-use mathlib.Core.Bool.{Bool, true, false, not, cond, _&&_}
+use mathlib.Core.Bool.{Bool, true, false, cond, _&&_}
 use mathlib.Core.List.{List, [], _∷_, _++_}
 use mathlib.Core.Logic.{_↔_, ⊎-elim}
 use Prim.Native.Nat.{ℕ, suc, _+_, _-_, _≤_}
 use native.Mathlib.Nat.{zero-add, add-zero, add-suc, suc-add}
 use native.Mathlib.Omega.{arith}
-use lib.Dec.{T, eqb, leb, ltb, leb→le}
+use lib.Dec.{T, eqb, leb, leb→le}
 use lib.Ieee.Fits.{and-l, and-r}
 use lib.ListN.{length, getD}
 use Rattle.refusals.specs.declared.Refusal.{Refusal}
 use Rattle.refusals.specs.declared.Refusal.the-variants.{TextForm, LineForm, RowDue, NumberRange, NameCount}
-use Rattle.words.specs.Kinds.{Row, word-rest}
+use Rattle.words.specs.Kinds.{Row}
+use Rattle.words.specs.Groups.{isListed}
+use Rattle.refusals.specs.declared.Answer.{Answer}
+use Rattle.refusals.specs.declared.Answer.the-variants.{Told, Refused}
+use Rattle.refusals.specs.Answers.{after, unlessRefused}
 use Rattle.words.specs.Words.{lookUp, operandsOf}
 use Rattle.words.specs.declared.Found.{Found}
 use Rattle.words.specs.declared.Operands.{Operands}
@@ -25,20 +29,16 @@ use Rattle.lines.specs.Laws.{lines-uncounted}
 use Rattle.lines.specs.declared.Limits.{Limits}
 use Rattle.lines.specs.declared.Line.{Line}
 use Rattle.lines.specs.declared.Line.the-variants.{IsRow, NoRow}
-use Rattle.lines.specs.declared.Reading.{Reading}
-use Rattle.lines.specs.declared.Reading.the-variants as read
-use Rattle.syntax.specs.declared.Answer.{Answer}
-use Rattle.syntax.specs.declared.Answer.the-variants.{Passed, Refused}
 use Rattle.syntax.specs.declared.operands.Due.{Due}
 use Rattle.syntax.specs.Ranges.{asNatural, inRange}
 use Rattle.syntax.specs.Names.{noNames, openedBy, namesFit}
 use Rattle.syntax.specs.Operands.{inputsCounted, due, operandsDue}
-use Rattle.syntax.specs.Walk.{firstNo, askRow, after, walkFrom, listedFrom, walkTable}
+use Rattle.syntax.specs.Walk.{firstNo, askRow, walkFrom, listedFrom, walkTable}
 use Rattle.syntax.specs.Reading.{planOf}
 use Rattle.typing.specs.Check.{typed, refused, checkPlan}
 use Rattle.typing.specs.Questions.{Question, ask, AllYes, FirstNo}
 use Rattle.typing.specs.TypeQuestions.{planQuestions}
-use Rattle.typing.specs.Entry.{answered, checkRows, afterReading, checkText}
+use Rattle.typing.specs.Entry.{answered, checkPlanRows, checkPlanText}
 use Rattle.typing.specs.EntryQuestions.{isRow, lineQuestions, formQuestions, readQuestions, isOfSort, countOf, walkQuestions, kindQuestions, rowQuestions, textQuestions}
 use Rattle.typing.specs.Laws.Questions.{yes-or-no, all-asked, ask-append, first-asked, end-asked, ask-through}
 use Rattle.typing.specs.Laws.TypeQuestions.{planType, plan-asks}
@@ -46,24 +46,24 @@ use Rattle.typing.specs.Laws.TypeQuestions.{planType, plan-asks}
 -- ---- 1 to 3
 
 lines-ask : (head : List ℕ → Found) (n : ℕ) (ls : List (List ℕ))
-    → formed head n ls ≡ ask read.Refused (lineQuestions head n ls) (read.Rows (n + length ls))
+    → formed head n ls ≡ ask Refused (lineQuestions head n ls) (Told (n + length ls))
 unfolding formed lineQuestions ask
-lines-ask head n [] = ap read.Rows (sym (add-zero n))
+lines-ask head n [] = ap Told (sym (add-zero n))
 lines-ask head n (l ∷ ls) =
     go (lineOf head l)
     (lines-ask head (suc n) ls
-    ∙ ap (λ (m : ℕ). ask read.Refused (lineQuestions head (suc n) ls) (read.Rows m)) (suc-add n (length ls) ∙ sym (add-suc n (length ls))))
+    ∙ ap (λ (m : ℕ). ask Refused (lineQuestions head (suc n) ls) (Told m)) (suc-add n (length ls) ∙ sym (add-suc n (length ls))))
   where
-    go : (x : Line) → formed head (suc n) ls ≡ ask read.Refused (lineQuestions head (suc n) ls) (read.Rows (n + suc (length ls)))
-        → whether x (formed head (suc n) ls) (read.Refused (LineForm (suc n)))
-        ≡ cond (isRow x) (ask read.Refused (lineQuestions head (suc n) ls) (read.Rows (n + suc (length ls)))) (read.Refused (LineForm (suc n)))
+    go : (x : Line) → formed head (suc n) ls ≡ ask Refused (lineQuestions head (suc n) ls) (Told (n + suc (length ls)))
+        → whether x (formed head (suc n) ls) (Refused (LineForm (suc n)))
+        ≡ cond (isRow x) (ask Refused (lineQuestions head (suc n) ls) (Told (n + suc (length ls)))) (Refused (LineForm (suc n)))
     go (IsRow k z) e = e
     go NoRow e = refl
 
 -- the lines of a text, from the first on
-formed-asks : (head : List ℕ → Found) (ls : List (List ℕ)) → formed head 0 ls ≡ ask read.Refused (lineQuestions head 0 ls) (read.Rows (length ls))
+formed-asks : (head : List ℕ → Found) (ls : List (List ℕ)) → formed head 0 ls ≡ ask Refused (lineQuestions head 0 ls) (Told (length ls))
 formed-asks head ls =
-    lines-ask head 0 ls ∙ ap (λ (n : ℕ). ask read.Refused (lineQuestions head 0 ls) (read.Rows n)) (zero-add (length ls))
+    lines-ask head 0 ls ∙ ap (λ (n : ℕ). ask Refused (lineQuestions head 0 ls) (Told n)) (zero-add (length ls))
 
 -- a text that is closed within a limit has no more bytes
 closed-short : (limit : ℕ) (t : List ℕ) → closed limit t ≡ true → length t ≤ limit
@@ -73,18 +73,18 @@ closed-short limit t e =
     leb→le (length t) limit (and-r (leb 1 (length t)) (leb (length t) limit) sized)
 
 pub reading-asks : (head : List ℕ → Found) (limits : Limits) (t : List ℕ)
-    → reading head limits t ≡ ask read.Refused (readQuestions head limits t) (read.Rows (length (linesOf t)))
+    → reading head limits t ≡ ask Refused (readQuestions head limits t) (Told (length (linesOf t)))
 unfolding reading readQuestions formQuestions ask
 reading-asks head limits t =
     let ls : List (List ℕ) = linesOf t in
-    ap (λ (r : Reading). cond (closed (limits .bytes) t) r (read.Refused TextForm))
+    ap (λ (r : Answer). cond (closed (limits .bytes) t) r (Refused TextForm))
     (ap (limited (limits .lines)) (formed-asks head ls)
-    ∙ ask-through read.Refused read.Refused (limited (limits .lines)) (λ r. refl) (lineQuestions head 0 ls) (read.Rows (length ls))
-    ∙ sym (ask-append read.Refused (lineQuestions head 0 ls) _ (read.Rows (length ls))))
+    ∙ ask-through Refused Refused (limited (limits .lines)) (λ r. refl) (lineQuestions head 0 ls) (Told (length ls))
+    ∙ sym (ask-append Refused (lineQuestions head 0 ls) _ (Told (length ls))))
 
 -- Where a text of so many bytes has no more lines than may be, question 3 is never answered "no".
 pub reading-asks-form : (head : List ℕ → Found) (limits : Limits) (t : List ℕ) → limits .bytes ≤ limits .lines
-    → reading head limits t ≡ ask read.Refused (formQuestions head (limits .bytes) t) (read.Rows (length (linesOf t)))
+    → reading head limits t ≡ ask Refused (formQuestions head (limits .bytes) t) (Told (length (linesOf t)))
 unfolding reading formQuestions ask
 reading-asks-form head limits t h = go (closed (limits .bytes) t) refl
   where
@@ -92,8 +92,8 @@ reading-asks-form head limits t h = go (closed (limits .bytes) t) refl
     few e = let l = closed-short (limits .bytes) t e in omega (arith, l, h)
 
     go : (b : Bool) → closed (limits .bytes) t ≡ b
-        → cond b (limited (limits .lines) (formed head 0 (linesOf t))) (read.Refused TextForm)
-        ≡ cond b (ask read.Refused (lineQuestions head 0 (linesOf t)) (read.Rows (length (linesOf t)))) (read.Refused TextForm)
+        → cond b (limited (limits .lines) (formed head 0 (linesOf t))) (Refused TextForm)
+        ≡ cond b (ask Refused (lineQuestions head 0 (linesOf t)) (Told (length (linesOf t)))) (Refused TextForm)
     go true e = lines-uncounted head (limits .lines) t (few e) ∙ formed-asks head (linesOf t)
     go false e = refl
 
@@ -102,17 +102,12 @@ reading-asks-form head limits t h = go (closed (limits .bytes) t) refl
 pub kinds-ask : (p : ℕ) (R : List Row) (next : Answer) → listedFrom p R next ≡ ask Refused (kindQuestions p R) next
 unfolding listedFrom kindQuestions ask
 kinds-ask p [] next = refl
-kinds-ask p (r ∷ rs) next = go (ltb word-rest (r .0)) (kinds-ask (suc p) rs next)
-  where
-    go : (b : Bool) → listedFrom (suc p) rs next ≡ ask Refused (kindQuestions (suc p) rs) next
-        → cond b (Refused (LineForm (suc p))) (listedFrom (suc p) rs next)
-        ≡ cond (not b) (ask Refused (kindQuestions (suc p) rs) next) (Refused (LineForm (suc p)))
-    go true e = refl
-    go false e = e
+kinds-ask p (r ∷ rs) next =
+    ap (λ (a : Answer). cond (isListed (r .0)) a (Refused (LineForm (suc p)))) (kinds-ask (suc p) rs next)
 
-walk-asks : (R : List Row) (p : ℕ) (ds : List Due) → walkFrom p ds R ≡ ask Refused (walkQuestions p ds R) (Passed (p + length R))
+walk-asks : (R : List Row) (p : ℕ) (ds : List Due) → walkFrom p ds R ≡ ask Refused (walkQuestions p ds R) (Told (p + length R))
 unfolding walkFrom askRow walkQuestions ask
-walk-asks [] p [] = ap Passed (sym (add-zero p))
+walk-asks [] p [] = ap Told (sym (add-zero p))
 walk-asks [] p (d ∷ ds) = refl
 walk-asks (r ∷ rs) p [] = refl
 walk-asks (r ∷ rs) p (d ∷ ds) =
@@ -120,7 +115,7 @@ walk-asks (r ∷ rs) p (d ∷ ds) =
     (namesFit (openedBy (r .0) (asNatural (r .1)) (d .names)))
     (λ m.
     walk-asks rs (suc p) (dues m)
-    ∙ ap (λ (n : ℕ). ask Refused (walkQuestions (suc p) (dues m) rs) (Passed n)) (suc-add p (length rs) ∙ sym (add-suc p (length rs))))
+    ∙ ap (λ (n : ℕ). ask Refused (walkQuestions (suc p) (dues m) rs) (Told n)) (suc-add p (length rs) ∙ sym (add-suc p (length rs))))
   where
     inputs : ℕ
     inputs = inputsCounted (d .sort) (asNatural (r .1))
@@ -129,11 +124,11 @@ walk-asks (r ∷ rs) p (d ∷ ds) =
     dues m = operandsDue d (r .0) (asNatural (r .1)) m ++ ds
 
     go : (o : Operands) (ranged fit : Bool)
-        → ((m : ℕ) → walkFrom (suc p) (dues m) rs ≡ ask Refused (walkQuestions (suc p) (dues m) rs) (Passed (p + suc (length rs))))
+        → ((m : ℕ) → walkFrom (suc p) (dues m) rs ≡ ask Refused (walkQuestions (suc p) (dues m) rs) (Told (p + suc (length rs))))
         → after (firstNo o ranged fit inputs (suc p)) (λ m. walkFrom (suc p) (dues m) rs)
         ≡ cond (isOfSort o)
         (cond ranged
-        (cond fit (ask Refused (walkQuestions (suc p) (dues (inputs + countOf o)) rs) (Passed (p + suc (length rs)))) (Refused (NameCount (suc p))))
+        (cond fit (ask Refused (walkQuestions (suc p) (dues (inputs + countOf o)) rs) (Told (p + suc (length rs)))) (Refused (NameCount (suc p))))
         (Refused (NumberRange (suc p))))
         (Refused (RowDue (suc p)))
     go NotOfSort ranged fit h = refl
@@ -143,58 +138,58 @@ walk-asks (r ∷ rs) p (d ∷ ds) =
 
 -- of a plan's table or of loops'
 pub table-asks : (s : Sort) (R : List Row)
-    → walkTable s R ≡ ask Refused (kindQuestions 0 R ++ walkQuestions 0 (due s noNames ∷ []) R) (Passed (length R))
+    → walkTable s R ≡ ask Refused (kindQuestions 0 R ++ walkQuestions 0 (due s noNames ∷ []) R) (Told (length R))
 unfolding walkTable
 table-asks s R =
     let walk : List Question = walkQuestions 0 (due s noNames ∷ []) R in
     kinds-ask 0 R _
-    ∙ ap (ask Refused (kindQuestions 0 R)) (walk-asks R 0 _ ∙ ap (λ (n : ℕ). ask Refused walk (Passed n)) (zero-add (length R)))
-    ∙ sym (ask-append Refused (kindQuestions 0 R) walk (Passed (length R)))
+    ∙ ap (ask Refused (kindQuestions 0 R)) (walk-asks R 0 _ ∙ ap (λ (n : ℕ). ask Refused walk (Told n)) (zero-add (length R)))
+    ∙ sym (ask-append Refused (kindQuestions 0 R) walk (Told (length R)))
 
 -- ---- all of them
 
-pub rows-ask : (R : List Row) → checkRows R ≡ ask Refused (rowQuestions R) (Passed (length R))
-unfolding checkRows rowQuestions
+pub rows-ask : (R : List Row) → checkPlanRows R ≡ ask Refused (rowQuestions R) (Told (length R))
+unfolding checkPlanRows rowQuestions
 rows-ask R =
     let walk : List Question = kindQuestions 0 R ++ walkQuestions 0 (due sort.Plan noNames ∷ []) R in
     let next : Answer → Answer = λ a. after a (λ n. answered n (checkPlan (planOf R))) in
     ap next (table-asks sort.Plan R)
-    ∙ ask-through Refused Refused next (λ r. refl) walk (Passed (length R))
+    ∙ ask-through Refused Refused next (λ r. refl) walk (Told (length R))
     ∙ ap (ask Refused walk)
     (ap (answered (length R)) (plan-asks (planOf R))
     ∙ ask-through refused Refused (answered (length R)) (λ r. refl) (planQuestions (planOf R)) (typed (planType (planOf R))))
-    ∙ sym (ask-append Refused walk (planQuestions (planOf R)) (Passed (length R)))
+    ∙ sym (ask-append Refused walk (planQuestions (planOf R)) (Told (length R)))
 
 pub text-asks : (ws : List (List ℕ)) (t : List ℕ)
-    → checkText ws t ≡ ask Refused (textQuestions ws t) (Passed (length (rowsIn (lookUp ws) (linesOf t))))
-unfolding checkText textQuestions
+    → checkPlanText ws t ≡ ask Refused (textQuestions ws t) (Told (length (rowsIn (lookUp ws) (linesOf t))))
+unfolding checkPlanText textQuestions
 text-asks ws t =
     let R : List Row = rowsIn (lookUp ws) (linesOf t) in
-    let next : Reading → Answer = λ r. afterReading r (checkRows R) in
+    let next : Answer → Answer = λ r. unlessRefused r (checkPlanRows R) in
     ap next (reading-asks (lookUp ws) planLimits t)
-    ∙ ask-through read.Refused Refused next (λ r. refl) (readQuestions (lookUp ws) planLimits t) (read.Rows (length (linesOf t)))
+    ∙ ask-through Refused Refused next (λ r. refl) (readQuestions (lookUp ws) planLimits t) (Told (length (linesOf t)))
     ∙ ap (ask Refused (readQuestions (lookUp ws) planLimits t)) (rows-ask R)
-    ∙ sym (ask-append Refused (readQuestions (lookUp ws) planLimits t) (rowQuestions R) (Passed (length R)))
+    ∙ sym (ask-append Refused (readQuestions (lookUp ws) planLimits t) (rowQuestions R) (Told (length R)))
 
 -- ---- who is refused got a first "no"; who passes is answered "yes" throughout
 
-pub passed-refused : {n : ℕ} {q : Refusal} {A : Type 0} → Passed n ≡ Refused q → A
+pub passed-refused : {n : ℕ} {q : Refusal} {A : Type 0} → Told n ≡ Refused q → A
 passed-refused e = absurd (let clash : _≡_ {A = ℕ} 0 1 = cc in omega arith)
 
-module _ (v : Answer) (qs : List Question) (n : ℕ) (asks : v ≡ ask Refused qs (Passed n)) where
+module _ (v : Answer) (qs : List Question) (n : ℕ) (asks : v ≡ ask Refused qs (Told n)) where
   pub asked-refused : (q : Refusal) → (v ≡ Refused q) ↔ FirstNo qs q
   asked-refused q = (
     (λ e.
-        ⊎-elim (λ h. passed-refused (sym (asks ∙ all-asked Refused qs (Passed n) h) ∙ e))
+        ⊎-elim (λ h. passed-refused (sym (asks ∙ all-asked Refused qs (Told n) h) ∙ e))
         (λ f.
-        let same : Refused (f .0) ≡ Refused q = sym (asks ∙ first-asked Refused qs (Passed n) (f .0) (f .1)) ∙ e in
+        let same : Refused (f .0) ≡ Refused q = sym (asks ∙ first-asked Refused qs (Told n) (f .0) (f .1)) ∙ e in
         let is : f .0 ≡ q = cc in subst (FirstNo qs) is (f .1))
         (yes-or-no qs)),
-    (λ f. asks ∙ first-asked Refused qs (Passed n) q f),
+    (λ f. asks ∙ first-asked Refused qs (Told n) q f),
   )
 
-  pub asked-passed : (v ≡ Passed n) ↔ AllYes qs
+  pub asked-passed : (v ≡ Told n) ↔ AllYes qs
   asked-passed = (
-    (λ e. end-asked Refused qs (Passed n) (Passed n) (λ r f. passed-refused (sym f)) (sym asks ∙ e) .0),
-    (λ h. asks ∙ all-asked Refused qs (Passed n) h),
+    (λ e. end-asked Refused qs (Told n) (Told n) (λ r f. passed-refused (sym f)) (sym asks ∙ e) .0),
+    (λ h. asks ∙ all-asked Refused qs (Told n) h),
   )

@@ -4,18 +4,19 @@ use mathlib.Core.List.{List}
 use Prim.Native.Nat.{ℕ, _≤_}
 use lib.ListN.{length}
 use Rattle.refusals.specs.declared.Refusal.{Refusal}
+use Rattle.refusals.specs.declared.Answer.{Answer}
+use Rattle.refusals.specs.declared.Answer.the-variants.{Told, Refused}
+use Rattle.refusals.specs.Answers.{after}
 use Rattle.words.specs.Kinds.{Row}
 use Rattle.words.specs.declared.Sort.the-variants as sort
 use Rattle.meaning.specs.Types.{DataType}
 use Rattle.meaning.specs.Terms.{Plan}
 use Rattle.meaning.specs.Rows.{planRows}
-use Rattle.syntax.specs.declared.Answer.{Answer}
-use Rattle.syntax.specs.declared.Answer.the-variants.{Passed, Refused}
-use Rattle.syntax.specs.Walk.{after, walkTable}
+use Rattle.syntax.specs.Walk.{walkTable}
 use Rattle.syntax.specs.Reading.{planOf}
 use Rattle.syntax.specs.Theorems.{WalksWell, all-passed, plan-walks, plan-read, plan-unique, plan-tree}
 use Rattle.typing.specs.Check.{Verdict, typed, refused, checkPlan}
-use Rattle.typing.specs.Entry.{answered, checkRows}
+use Rattle.typing.specs.Entry.{answered, checkPlanRows}
 use Rattle.typing.specs.Accepted.{Admitted, AcceptedRows}
 use Rattle.typing.specs.Laws.EntryQuestions.{passed-refused}
 use Rattle.typing.specs.Laws.Plans.{plan-accepted, plan-accepts}
@@ -23,12 +24,12 @@ use Rattle.typing.specs.Laws.Plans.{plan-accepted, plan-accepts}
 -- ---- what the check of rows is made of
 
 -- rows that walk well are put to questions 7 and 8
-pub walked-rows : (R : List Row) → WalksWell sort.Plan R → checkRows R ≡ answered (length R) (checkPlan (planOf R))
-unfolding checkRows
+pub walked-rows : (R : List Row) → WalksWell sort.Plan R → checkPlanRows R ≡ answered (length R) (checkPlan (planOf R))
+unfolding checkPlanRows
 walked-rows R w = ap (λ (a : Answer). after a (λ n. answered n (checkPlan (planOf R)))) w
 
-pub unwalked-rows : (R : List Row) (q : Refusal) → walkTable sort.Plan R ≡ Refused q → checkRows R ≡ Refused q
-unfolding checkRows
+pub unwalked-rows : (R : List Row) (q : Refusal) → walkTable sort.Plan R ≡ Refused q → checkPlanRows R ≡ Refused q
+unfolding checkPlanRows
 unwalked-rows R q w = ap (λ (a : Answer). after a (λ n. answered n (checkPlan (planOf R)))) w
 
 -- a table walks well or is refused
@@ -36,15 +37,15 @@ pub by-walk : {A : Type 0} (R : List Row) → (WalksWell sort.Plan R → A) → 
 by-walk {A} R well ill = go (walkTable sort.Plan R) refl
   where
     go : (a : Answer) → walkTable sort.Plan R ≡ a → A
-    go (Passed m) e = well (all-passed sort.Plan R m e)
+    go (Told m) e = well (all-passed sort.Plan R m e)
     go (Refused q) e = ill q e
 
-answered-passed : (n m : ℕ) (v : Verdict) → answered n v ≡ Passed m → (t : DataType) × (v ≡ typed t) × (n ≡ m)
+answered-passed : (n m : ℕ) (v : Verdict) → answered n v ≡ Told m → (t : DataType) × (v ≡ typed t) × (n ≡ m)
 answered-passed n m (typed t) e = (t, refl, cc)
 answered-passed n m (refused q) e = passed-refused (sym e)
 
 -- what passes has walked well, and its plan has a type
-pub passed-rows : (R : List Row) (m : ℕ) → checkRows R ≡ Passed m
+pub passed-rows : (R : List Row) (m : ℕ) → checkPlanRows R ≡ Told m
     → WalksWell sort.Plan R × (length R ≡ m) × ((t : DataType) × (checkPlan (planOf R) ≡ typed t))
 passed-rows R m e =
     by-walk R
@@ -53,7 +54,7 @@ passed-rows R m e =
 
 -- ---- accepted
 
-pub accepted-rows : (R : List Row) → length R ≤ 256 → checkRows R ≡ Passed (length R) → AcceptedRows R
+pub accepted-rows : (R : List Row) → length R ≤ 256 → checkPlanRows R ≡ Told (length R) → AcceptedRows R
 accepted-rows R few e =
     let a = passed-rows R (length R) e in
     let p = plan-tree R (a .0) in
@@ -65,7 +66,7 @@ accepted-rows R few e =
       only = λ Q f. plan-unique Q (planOf R) (sym f ∙ p .1);
     }
 
-pub admitted-rows : (P : Plan) → Admitted P → checkRows (planRows P) ≡ Passed (length (planRows P))
+pub admitted-rows : (P : Plan) → Admitted P → checkPlanRows (planRows P) ≡ Told (length (planRows P))
 admitted-rows P a =
     walked-rows (planRows P) (plan-walks (planRows P) .1 (P, a .in-range, refl))
     ∙ ap (λ (Q : Plan). answered (length (planRows P)) (checkPlan Q)) (plan-read P)

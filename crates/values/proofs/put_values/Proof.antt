@@ -5,7 +5,7 @@ use lib.ListN.{length, drop, length-set}
 use mir.Facts.{toZ-ofZ}
 use borrow.Author.Needs.{needs}
 use Rattle.words.specs.Kinds.{rowsOf}
-use Rattle.values.specs.Steps.{stored}
+use Rattle.values.specs.Stored.{stored}
 use Rattle.values.proofs.Stored.{stored-next, stored-end}
 use Rattle.values.proofs.put_values.Statement.{statement}
 use Rattle.values.proofs.put_values.Tie as tie

@@ -2,7 +2,7 @@
 use mathlib.Core.Path.{_≡_, refl, sym, ap, _∙_}
 use mathlib.Core.Bool.{Bool, cond}
 use Prim.Native.Nat.{_+_, _-_, _≤_}
-use lib.ListN.{drop}
+use lib.ListN.{drop, length}
 use borrow.Author.Needs.{needs}
 use native.Mathlib.Omega.{arith}
 use Rattle.words.specs.Packed.{packed, packedTable}
@@ -13,10 +13,10 @@ use Rattle.words.proofs.look_up.Statement.{statement}
 use Rattle.words.proofs.look_up.Tie as tie
 
 abbrev Inv-loop : tie.InvT-loop
-Inv-loop letters table kind₀ kind = (kind ≤ 38) × (lookUp words letters ≡ lookFrom kind (drop kind words) letters)
+Inv-loop letters table kind₀ kind = (kind ≤ length words) × (lookUp words letters ≡ lookFrom kind (drop kind words) letters)
 
 abbrev μ-loop : tie.MeasureT-loop
-μ-loop letters table kind₀ kind = 38 - kind
+μ-loop letters table kind₀ kind = length words - kind
 
 row-in-requires : tie.Need-row-in-requires Inv-loop μ-loop
 unfolding packed packedTable table
@@ -34,11 +34,14 @@ returns c =
     (a .letters .now))) (sym (c .before .same .ensures (turn .kind) (c .before .before .row-in .ensures)) ∙
     c .if1 .taken))
 
+loop-less : tie.Need-loop-less Inv-loop μ-loop
+loop-less c = omega (arith, words-count)
+
 loop-again : tie.Need-loop-again Inv-loop μ-loop
 loop-again c =
     let a = c .before .before .before .before .before .before .before .args in
     let turn = c .before .before .before .before .before .loop in (
-      search needs,
+      omega (arith, words-count),
       turn .inv .1
           ∙ look-next words (a .letters .now) (turn .kind) (omega (arith, words-count))
           ∙ ap
@@ -53,5 +56,5 @@ returns-2 c = sym (c .before .loop .inv .1 ∙ look-end words (c .before .before
 pub look-up-spec : {M : Type 1} → statement M
 look-up-spec =
     tie.close
-    (tie.spec Inv-loop μ-loop (λ c. search needs) row-in-requires same-requires (λ c. search needs) returns (λ c. search needs)
-    (λ c. search needs) loop-again returns-2)
+    (tie.spec Inv-loop μ-loop (λ c. search needs) row-in-requires same-requires returns (λ c. search needs) loop-less loop-again
+    returns-2)

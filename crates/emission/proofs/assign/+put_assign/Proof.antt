@@ -1,9 +1,12 @@
 -- `put_assign` meets its contract: by the type; the nodes that a step needs are put behind those in use.
 use native.Mathlib.Omega.{arith}
 use borrow.Author.Needs.{needs}
-use Prim.Native.Nat.{ℕ, _<_, _+_}
+use mathlib.Core.Path.{_≡_}
+use Prim.Native.Nat.{ℕ, suc, _+_, _*_, _≤_, _<_}
 use borrow.Fn.Kinds.{In}
 use borrow.Fn.PlainCycle.{Measures, is, falls, and}
+use Rattle.meaning.specs.Types.{DataType, array, levels}
+use Rattle.type_table.specs.Table.{typeAt}
 use Rattle.emission.specs.Laws.Assign.{both-grown, array-levels, pair-levels, few-elements, assign-number, assign-array, assign-pair}
 use Rattle.emission.specs.Laws.Assign.{pair-grown}
 use Rattle.emission.specs.Laws.Offsets.{is-number}
@@ -49,273 +52,180 @@ put-assign-calls t = (
   put-set-reads.Learnt,
 )
 
-put-assign-returns : (t : ℕ) → put-assign-lts.Need-returns (put-assign-calls t) (put-assign-at t) put-assign.Post
-put-assign-returns t c = (put-none-past _ _ _ _ (omega arith), grown-none _ _ (c .before .before .pre .1 .6))
+module _ (t : ℕ) where
+  -- at the entry; where the type is an array; where it is a pair; and the way back from each
+  abbrev Entry : Type 0
+  Entry = put-assign-lts.Start (put-assign-calls t) (put-assign-at t) put-assign.Post
 
-put-assign-as-array-requires : (t : ℕ) → put-assign-lts.Need-as-array-requires (put-assign-calls t) (put-assign-at t) put-assign.Post
-put-assign-as-array-requires t c κs = sound-below (c .before .before .pre .1 .0) (omega (arith, c .before .before .pre .1 .1))
+  abbrev IsArray : Type 0
+  IsArray = put-assign-lts.After-array (put-assign-calls t) (put-assign-at t) put-assign.Post
 
-put-assign-cast-put-count : (t : ℕ) → put-assign-lts.Need-cast-put-count (put-assign-calls t) (put-assign-at t) put-assign.Post
-put-assign-cast-put-count t c =
-    let entry = c .before .before .before .before .before .before .before .before in
-    let told = told-array (entry .args .types .now) (entry .args .place)
-    (c .before .before .before .array .given .1) (c .before .before .before .before .before .as-array .ensures)
-    in
-    omega (
-      arith,
-      few-elements (entry .args .types .now) (entry .args .place) _ _ (sound-below (entry .pre .1 .0)
-          (omega (arith, entry .pre .1 .1))) (told .0),
-    )
+  abbrev IsPair : Type 0
+  IsPair = put-assign-lts.After-pair (put-assign-calls t) (put-assign-at t) put-assign.Post
 
-put-assign-push-both-requires : (t : ℕ) → put-assign-lts.Need-push-both-requires (put-assign-calls t) (put-assign-at t) put-assign.Post
-put-assign-push-both-requires t c κs =
-    let entry = c .before .before .before .before .before .before .before .before .before .before in
-    let told = told-array (entry .args .types .now) (entry .args .place)
-    (c .before .before .before .before .before .array .given .1) (c .before .before .before .before .before .before .before .as-array .ensures)
-    in
-    let l = array-levels _ _ _ (told .0) in
-    (omega (arith, l, entry .pre .1 .4), entry .pre .1 .2, entry .pre .1 .3, entry .pre .1 .6)
+  abbrev entry : IsArray → Entry
+  entry c = c .before .before .before .before .before
 
-put-assign-add-put-assign : (t : ℕ) → put-assign-lts.Need-add-put-assign (put-assign-calls t) (put-assign-at t) put-assign.Post
-put-assign-add-put-assign t c =
-    let entry = c .before .before .before .before .before .before .before .before .before .before .before
-    .before .before .before in
-    let told = told-array (entry .args .types .now) (entry .args .place) (c .before .before .before .before .before .before .before .before .before .array .given .1)
-    (c .before .before .before .before .before .before .before .before .before .before .before
-    .as-array .ensures) in
-    let l = array-levels _ _ _ (told .0) in
-    omega (arith, l, entry .pre .1 .4, entry .pre .1 .5)
+  abbrev pair-entry : IsPair → Entry
+  pair-entry c = c .before .before .before .before .before .before .before .before
 
-put-assign-add-put-assign-2 : (t : ℕ) → put-assign-lts.Need-add-put-assign-2 (put-assign-calls t) (put-assign-at t) put-assign.Post
-put-assign-add-put-assign-2 t c =
-    let entry = c .before .before .before .before .before .before .before .before .before .before .before
-    .before .before .before in
-    let told = told-array (entry .args .types .now) (entry .args .place) (c .before .before .before .before .before .before .before .before .before .array .given .1)
-    (c .before .before .before .before .before .before .before .before .before .before .before
-    .as-array .ensures) in
-    let l = array-levels _ _ _ (told .0) in
-    omega (arith, l, entry .pre .1 .4, entry .pre .1 .5)
+  its-array : (c : IsArray) → (typeAt (entry c .args .types .now) (entry c .args .place) ≡ array (c .array .given .0 .0)
+      (typeAt (entry c .args .types .now) (c .array .given .0 .1 .0))) × (c .array .given .0 .1 .0 < entry c .args .place)
+  its-array c = told-array (entry c .args .types .now) (entry c .args .place) (c .array .given .1) (c .before .before .as-array .ensures)
 
-put-assign-add-put-assign-3 : (t : ℕ) → put-assign-lts.Need-add-put-assign-3 (put-assign-calls t) (put-assign-at t) put-assign.Post
-put-assign-add-put-assign-3 t c =
-    let entry = c .before .before .before .before .before .before .before .before .before .before .before
-    .before .before .before in
-    let told = told-array (entry .args .types .now) (entry .args .place) (c .before .before .before .before .before .before .before .before .before .array .given .1)
-    (c .before .before .before .before .before .before .before .before .before .before .before
-    .as-array .ensures) in
-    let l = array-levels _ _ _ (told .0) in
-    omega (arith, l, entry .pre .1 .4, entry .pre .1 .5)
+  -- room for the nodes and counters of its elements
+  array-room : (c : IsArray)
+      → (entry c .args .len + 2 * suc (levels (typeAt (entry c .args .types .now) (c .array .given .0 .1 .0))) ≤ 4096)
+      × (entry c .args .counters + suc (levels (typeAt (entry c .args .types .now) (c .array .given .0 .1 .0))) < 65536)
+  array-room c = let l = array-levels _ _ _ (its-array c .0) in (omega (arith, l, entry c .pre .1 .4), omega (arith, l, entry c .pre .1 .5))
 
-put-assign-put-assign-requires : (t : ℕ) → put-assign-lts.Need-put-assign-requires (put-assign-calls t) (put-assign-at t) put-assign.Post
-put-assign-put-assign-requires t c κs =
-    let entry = c .before .before .before .before .before .before .before .before .before .before .before
-    .before .before .before in
-    let told = told-array (entry .args .types .now) (entry .args .place) (c .before .before .before .before .before .before .before .before .before .array .given .1)
-    (c .before .before .before .before .before .before .before .before .before .before .before
-    .as-array .ensures) in
-    let l = array-levels _ _ _ (told .0) in (
-      omega (arith, told .1, entry .pre .0),
-      (
-        entry .pre .1 .0,
-        omega (arith, told .1, entry .pre .1 .1),
-        omega
-            arith,
-        omega arith,
-        omega (arith, l, entry .pre .1 .4),
-        omega (arith, l, entry .pre .1 .5),
-        both-grown _
-            _ _ _ _ _ _ (c .before .before .before .push-both .ensures) .size,
-      ),
-    )
+  its-pair : (c : IsPair) → (typeAt (pair-entry c .args .types .now) (pair-entry c .args .place) ≡ DataType.pair
+      (typeAt (pair-entry c .args .types .now) (c .pair .given .0 .0))
+      (typeAt (pair-entry c .args .types .now) (c .pair .given .0 .1 .0))) × (c .pair .given .0 .0 < pair-entry c .args .place)
+      × (c .pair .given .0 .1 .0 < pair-entry c .args .place)
+  its-pair c = told-pair (pair-entry c .args .types .now) (pair-entry c .args .place) (c .pair .given .1)
+      (c .before .before .as-pair .ensures)
 
-put-assign-returns-2 : (t : ℕ) → put-assign-lts.Need-returns-2 (put-assign-calls t) (put-assign-at t) put-assign.Post
-put-assign-returns-2 t c =
-    let entry = c .before .before .before .before .before .before .before .before .before .before .before
-    .before .before .before .before in
-    let at-push-both = c .before .before .before .before .push-both in
-    let told = told-array (entry .args .types .now) (entry .args .place) (c .before .before .before .before .before .before .before .before .before .before .array .given .1)
-    (c .before .before .before .before .before .before .before .before .before .before .before
-    .before .as-array .ensures) in
-    let l = array-levels _ _ _ (told .0) in (
-      assign-array (entry .args .types .now) (entry .args .plan .now) (entry .args .references .now)
-          (entry .args .place) (entry .args .value) (entry .args .target) (entry .args .counters)
-          (entry .args .regions) _ _ (entry .args .len) (omega (arith, l, entry .pre .1 .4)) (entry .pre .1 .2)
-          (entry .pre .1 .3) _ _ _ _ (omega (arith, entry .pre .1 .5)) (told .0) (c .before .before .before .before .before .before .put-count .ensures)
-          (at-push-both .ensures) (c .put-assign .ensures .0),
-      grown-more _ _ _ (entry .args .len)
-          ((entry .args .len) + 2) (omega arith) (both-grown _ _ _ _ _ _ _ (at-push-both .ensures))
-          (c .put-assign .ensures .1),
-    )
+  -- and of its parts
+  abbrev PartRoom : IsPair → ℕ → Type 0
+  PartRoom c i = (pair-entry c .args .len + 2 * suc (levels (typeAt (pair-entry c .args .types .now) i)) ≤ 4096) × (pair-entry
+      c .args .counters + suc (levels (typeAt (pair-entry c .args .types .now) i)) < 65536)
 
-put-assign-as-pair-requires : (t : ℕ) → put-assign-lts.Need-as-pair-requires (put-assign-calls t) (put-assign-at t) put-assign.Post
-put-assign-as-pair-requires t c κs =
-    let entry = c .before .before .before .before .before in
-    sound-below (entry .pre .1 .0) (omega (arith, entry .pre .1 .1))
+  part-room : (c : IsPair) → PartRoom c (c .pair .given .0 .0) × PartRoom c (c .pair .given .0 .1 .0)
+  part-room c =
+      let e = pair-entry c in let l = pair-levels _ _ _ (its-pair c .0) in
+      ((omega (arith, l, e .pre .1 .4), omega (arith, l, e .pre .1 .5)), (omega (arith, l, e .pre .1 .4), omega (arith, l, e .pre .1 .5)))
 
-put-assign-put-set-requires : (t : ℕ) → put-assign-lts.Need-put-set-requires (put-assign-calls t) (put-assign-at t) put-assign.Post
-put-assign-put-set-requires t c κs =
-    let entry = c .before .before .before .before .before .before .before .before .before .before .before in (
-      entry .pre .1 .0,
-      omega (arith, entry .pre .1 .2, entry .pre .1 .4),
-      omega
-          (arith, entry .pre .1 .3, entry .pre .1 .4),
-    )
+  push-both-requires : put-assign-lts.Need-push-both-requires (put-assign-calls t) (put-assign-at t) put-assign.Post
+  push-both-requires c κs =
+      let b = c .before .before .before .before .before in let q = entry b .pre .1 in (omega (arith, array-room b), q .2, q .3, q .6)
 
-put-assign-returns-3 : (t : ℕ) → put-assign-lts.Need-returns-3 (put-assign-calls t) (put-assign-at t) put-assign.Post
-put-assign-returns-3 t c =
-    let entry = c .before .before .before .before .before .before .before .before .before .before .before .before in
-    let at-as-array = c .before .before .before .before .before .before .before .before .before .as-array in
-    let at-enum-told = c .before .before .before .before .before .before .before .enum-told in
-    let at-as-pair = c .before .before .before .before .before .before .as-pair in
-    let at-enum-told2 = c .before .before .before .before .enum-told2 in (
-      assign-number (entry .args .types .now) (entry .args .plan .now) (entry .args .references .now)
-          (entry .args .place) (entry .args .value) (entry .args .target) (entry .args .counters)
-          (entry .args .regions) _ _ (is-number _ (told-no-array (entry .args .types .now) (entry .args .place)
-          (at-enum-told .given .1) (at-as-array .ensures)) (told-no-pair (entry .args .types .now)
-          (entry .args .place) (at-enum-told2 .given .1) (at-as-pair .ensures))) (c .put-set .ensures),
-      grown-none
-          _ _ (entry .pre .1 .6),
-    )
+  element-requires : put-assign-lts.Need-put-assign-requires (put-assign-calls t) (put-assign-at t) put-assign.Post
+  element-requires c κs =
+      let b = c .before .before .before .before .before .before .before .before .before in let e = entry b in let h = its-array b .1 in
+      let l = array-room b in (
+        omega (arith, h, e .pre .0),
+        (
+          e .pre .1 .0,
+          omega (arith, h, e .pre .1 .1),
+          omega arith,
+          omega arith,
+          omega (arith, l),
+          omega (arith, l),
+          both-grown _ _ _ _ _ _ _ (c .before .before .before .push-both .ensures) .size,
+        ),
+      )
 
-put-assign-push-both-requires-2 : (t : ℕ) → put-assign-lts.Need-push-both-requires-2 (put-assign-calls t) (put-assign-at t) put-assign.Post
-put-assign-push-both-requires-2 t c κs =
-    let entry = c .before .before .before .before .before .before .before .before .before .before .before
-    .before .before in
-    let told = told-pair (entry .args .types .now) (entry .args .place)
-    (c .before .before .before .before .before .pair .given .1) (c .before .before .before .before .before .before .before .as-pair .ensures)
-    in
-    let l = pair-levels _ _ _ (told .0) in
-    (omega (arith, l, entry .pre .1 .4), entry .pre .1 .2, entry .pre .1 .3, entry .pre .1 .6)
+  returns-array : put-assign-lts.Need-returns-2 (put-assign-calls t) (put-assign-at t) put-assign.Post
+  returns-array c =
+      let b = c .before .before .before .before .before .before .before .before .before .before in let a = entry b .args in
+      let q = entry b .pre .1 in let p = c .before .before .before .before .push-both in (
+        assign-array (a .types .now) (a .plan .now) (a .references .now) (a .place) (a .value) (a .target) (a .counters) (a .regions) _
+            _ (a .len) (omega (arith, array-room b)) (q .2) (q .3) _ _ _ _ (omega (arith, q .5)) (its-array b .0)
+            (c .before .before .before .before .before .before .put-count .ensures) (p .ensures) (c .put-assign .ensures .0),
+        grown-more _ _ _ (a .len) (a .len + 2) (omega arith) (both-grown _ _ _ _ _ _ _ (p .ensures)) (c .put-assign .ensures .1),
+      )
 
-put-assign-add-put-assign-4 : (t : ℕ) → put-assign-lts.Need-add-put-assign-4 (put-assign-calls t) (put-assign-at t) put-assign.Post
-put-assign-add-put-assign-4 t c =
-    let entry = c .before .before .before .before .before .before .before .before .before .before .before
-    .before .before .before .before .before .before in
-    let told = told-pair (entry .args .types .now) (entry .args .place) (c .before .before .before .before .before .before .before .before .before .pair .given .1)
-    (c .before .before .before .before .before .before .before .before .before .before .before .as-pair .ensures)
-    in
-    let l = pair-levels _ _ _ (told .0) in
-    omega (arith, l, entry .pre .1 .4)
+  returns-number : put-assign-lts.Need-returns-3 (put-assign-calls t) (put-assign-at t) put-assign.Post
+  returns-number c =
+      let a = c .before .before .before .before .before .before .before .before .before .before .before .before .args in
+      let no-array = told-no-array (a .types .now) (a .place)
+      (c .before .before .before .before .before .before .before .enum-told .given .1)
+      (c .before .before .before .before .before .before .before .before .before .as-array .ensures) in
+      let no-pair = told-no-pair (a .types .now) (a .place) (c .before .before .before .before .enum-told2 .given .1)
+      (c .before .before .before .before .before .before .as-pair .ensures) in (
+        assign-number (a .types .now) (a .plan .now) (a .references .now) (a .place) (a .value) (a .target) (a .counters) (a .regions) _
+            _ (is-number _ no-array no-pair) (c .put-set .ensures),
+        grown-none _ _
+            (c .before .before .before .before .before .before .before .before .before .before .before .before .pre .1 .6),
+      )
 
-put-assign-add-put-assign-5 : (t : ℕ) → put-assign-lts.Need-add-put-assign-5 (put-assign-calls t) (put-assign-at t) put-assign.Post
-put-assign-add-put-assign-5 t c =
-    let entry = c .before .before .before .before .before .before .before .before .before .before .before
-    .before .before .before .before .before .before in
-    let told = told-pair (entry .args .types .now) (entry .args .place) (c .before .before .before .before .before .before .before .before .before .pair .given .1)
-    (c .before .before .before .before .before .before .before .before .before .before .before .as-pair .ensures)
-    in
-    let l = pair-levels _ _ _ (told .0) in
-    omega (arith, l, entry .pre .1 .4)
+  first-requires : put-assign-lts.Need-put-assign-requires-2 (put-assign-calls t) (put-assign-at t) put-assign.Post
+  first-requires c κs =
+      let b = c .before .before .before .before .before .before .before .before .before in let e = pair-entry b in let h = its-pair b .1 in
+      let l = part-room b .0 in (
+        omega (arith, h, e .pre .0),
+        (
+          e .pre .1 .0,
+          omega (arith, h, e .pre .1 .1),
+          omega arith,
+          omega arith,
+          omega (arith, l),
+          omega (arith, l),
+          both-grown _ _ _ _ _ _ _ (c .before .before .before .push-both2 .ensures) .size,
+        ),
+      )
 
-put-assign-put-assign-requires-2 :
-    (t : ℕ) → put-assign-lts.Need-put-assign-requires-2 (put-assign-calls t) (put-assign-at t) put-assign.Post
-put-assign-put-assign-requires-2 t c κs =
-    let entry = c .before .before .before .before .before .before .before .before .before .before .before
-    .before .before .before .before .before .before in
-    let told = told-pair (entry .args .types .now) (entry .args .place) (c .before .before .before .before .before .before .before .before .before .pair .given .1)
-    (c .before .before .before .before .before .before .before .before .before .before .before .as-pair .ensures)
-    in
-    let l = pair-levels _ _ _ (told .0) in (
-      omega (arith, told .1, entry .pre .0),
-      (
-        entry .pre .1 .0,
-        omega (arith, told .1, entry .pre .1 .1),
-        omega
-            arith,
-        omega arith,
-        omega (arith, l, entry .pre .1 .4),
-        omega (arith, l, entry .pre .1 .5),
-        both-grown _
-            _ _ _ _ _ _ (c .before .before .before .push-both2 .ensures) .size,
-      ),
-    )
+  second-requires : put-assign-lts.Need-put-assign-requires-3 (put-assign-calls t) (put-assign-at t) put-assign.Post
+  second-requires c κs =
+      let b = c .before .before .before .before .before .before .before .before .before .before .before .before .before .before .before in
+      let e = pair-entry b in let h = its-pair b .2 in let l = part-room b .1 in (
+        omega (arith, h, e .pre .0),
+        (
+          e .pre .1 .0,
+          omega (arith, h, e .pre .1 .1),
+          omega arith,
+          omega arith,
+          omega (arith, l),
+          omega (arith, l),
+          both-grown _ _ _ _ _ _ _ (c .before .before .before .push-both3 .ensures) .size,
+        ),
+      )
 
-put-assign-push-both-requires-3 : (t : ℕ) → put-assign-lts.Need-push-both-requires-3 (put-assign-calls t) (put-assign-at t) put-assign.Post
-put-assign-push-both-requires-3 t c κs =
-    let entry = c .before .before .before .before .before .before .before .before .before .before .before
-    .before .before .before .before .before .before .before .before in
-    let told = told-pair (entry .args .types .now) (entry .args .place) (c .before .before .before .before .before .before .before .before .before .before .before
-    .pair .given .1) (c .before .before .before .before .before .before .before .before .before .before .before
-    .before .before .as-pair .ensures) in
-    let l = pair-levels _ _ _ (told .0) in (
-      omega (arith, l, entry .pre .1 .4),
-      entry .pre .1 .2,
-      entry .pre .1 .3,
-      c .before .put-assign2 .ensures .1 .size,
-    )
+  returns-pair : put-assign-lts.Need-returns-4 (put-assign-calls t) (put-assign-at t) put-assign.Post
+  returns-pair c =
+      let b = c .before .before .before .before .before .before .before .before .before .before .before .before .before
+      .before .before .before in let a = pair-entry b .args in let q = pair-entry b .pre .1 in
+      let p = c .before .before .before .before .before .before .before .before .before .before .push-both2 in
+      let o = c .before .before .before .before .before .before .put-assign2 in
+      let r = c .before .before .before .before .push-both3 in let z = c .put-assign3 in (
+        assign-pair (a .types .now) (a .plan .now) (a .references .now) (a .place) (a .value) (a .target) (a .counters) (a .regions) _ _
+            (a .len) (omega (arith, part-room b .0)) (q .2) (q .3) _ _ _ _ _ _ _ (its-pair b .0)
+            (c .before .before .before .before .before .before .before .before .before .before .before .before .put-count2 .ensures)
+            (p .ensures) (o .ensures .0) (o .ensures .1) (r .ensures) (z .ensures .0),
+        pair-grown _ _ _ _ _ (a .len) _ _ (p .ensures) (o .ensures .1) (r .ensures) (z .ensures .1),
+      )
 
-put-assign-add-put-assign-6 : (t : ℕ) → put-assign-lts.Need-add-put-assign-6 (put-assign-calls t) (put-assign-at t) put-assign.Post
-put-assign-add-put-assign-6 t c =
-    let entry = c .before .before .before .before .before .before .before .before .before .before .before
-    .before .before .before .before .before .before .before .before .before .before .before .before in
-    let told = told-pair (entry .args .types .now) (entry .args .place) (c .before .before .before .before .before .before .before .before .before .before .before
-    .before .before .before .before .pair .given .1) (c .before .before .before .before .before .before .before .before .before .before .before
-    .before .before .before .before .before .before .as-pair .ensures) in
-    let l = pair-levels _ _ _ (told .0) in
-    omega (arith, l, entry .pre .1 .4)
-
-put-assign-add-put-assign-7 : (t : ℕ) → put-assign-lts.Need-add-put-assign-7 (put-assign-calls t) (put-assign-at t) put-assign.Post
-put-assign-add-put-assign-7 t c =
-    let entry = c .before .before .before .before .before .before .before .before .before .before .before
-    .before .before .before .before .before .before .before .before .before .before .before .before in
-    let told = told-pair (entry .args .types .now) (entry .args .place) (c .before .before .before .before .before .before .before .before .before .before .before
-    .before .before .before .before .pair .given .1) (c .before .before .before .before .before .before .before .before .before .before .before
-    .before .before .before .before .before .before .as-pair .ensures) in
-    let l = pair-levels _ _ _ (told .0) in
-    omega (arith, l, entry .pre .1 .4)
-
-put-assign-put-assign-requires-3 :
-    (t : ℕ) → put-assign-lts.Need-put-assign-requires-3 (put-assign-calls t) (put-assign-at t) put-assign.Post
-put-assign-put-assign-requires-3 t c κs =
-    let entry = c .before .before .before .before .before .before .before .before .before .before .before
-    .before .before .before .before .before .before .before .before .before .before .before .before in
-    let told = told-pair (entry .args .types .now) (entry .args .place) (c .before .before .before .before .before .before .before .before .before .before .before
-    .before .before .before .before .pair .given .1) (c .before .before .before .before .before .before .before .before .before .before .before
-    .before .before .before .before .before .before .as-pair .ensures) in
-    let l = pair-levels _ _ _ (told .0) in (
-      omega (arith, told .2, entry .pre .0),
-      (
-        entry .pre .1 .0,
-        omega (arith, told .2, entry .pre .1 .1),
-        omega
-            arith,
-        omega arith,
-        omega (arith, l, entry .pre .1 .4),
-        omega (arith, l, entry .pre .1 .5),
-        both-grown _
-            _ _ _ _ _ _ (c .before .before .before .push-both3 .ensures) .size,
-      ),
-    )
-
-put-assign-returns-4 : (t : ℕ) → put-assign-lts.Need-returns-4 (put-assign-calls t) (put-assign-at t) put-assign.Post
-put-assign-returns-4 t c =
-    let entry = c .before .before .before .before .before .before .before .before .before .before .before
-    .before .before .before .before .before .before .before .before .before .before .before .before .before in
-    let at-push-both2 = c .before .before .before .before .before .before .before .before .before .before
-    .push-both2 in
-    let at-put-assign2 = c .before .before .before .before .before .before .put-assign2 in
-    let at-push-both3 = c .before .before .before .before .push-both3 in
-    let told = told-pair (entry .args .types .now) (entry .args .place) (c .before .before .before .before .before .before .before .before .before .before .before
-    .before .before .before .before .before .pair .given .1) (c .before .before .before .before .before .before .before .before .before .before .before
-    .before .before .before .before .before .before .before .as-pair .ensures) in
-    let l = pair-levels _ _ _ (told .0) in (
-      assign-pair (entry .args .types .now) (entry .args .plan .now) (entry .args .references .now)
-          (entry .args .place) (entry .args .value) (entry .args .target) (entry .args .counters)
-          (entry .args .regions) _ _ (entry .args .len) (omega (arith, l, entry .pre .1 .4)) (entry .pre .1 .2)
-          (entry .pre .1 .3) _ _ _ _ _ _ _ (told .0) (c .before .before .before .before .before .before .before .before .before .before .before
-          .before .put-count2 .ensures) (at-push-both2 .ensures) (at-put-assign2 .ensures .0)
-          (at-put-assign2 .ensures .1) (at-push-both3 .ensures) (c .put-assign3 .ensures .0),
-      pair-grown _ _ _ _ _
-          (entry .args .len) _ _ (at-push-both2 .ensures) (at-put-assign2 .ensures .1) (at-push-both3 .ensures)
-          (c .put-assign3 .ensures .1),
-    )
+  meets : {M : Type 1} → put-assign-lts.Closed (put-assign-calls t) (put-assign-at t) put-assign.Post M
+  meets =
+      put-assign-lts.spec (put-assign-calls t) (put-assign-at t) put-assign.Post
+      (λ c. (put-none-past _ _ _ _ (omega arith), grown-none _ _ (c .before .before .pre .1 .6)))
+      (λ c κs. sound-below (c .before .before .pre .1 .0) (omega (arith, c .before .before .pre .1 .1))) (λ c. search needs)
+      (λ c.
+      let b = c .before .before .before in let e = entry b in
+      omega (
+        arith,
+        few-elements (e .args .types .now) (e .args .place) _ _
+            (sound-below (e .pre .1 .0) (omega (arith, e .pre .1 .1))) (its-array b .0),
+      )) (λ c κs. search needs) push-both-requires
+      (λ c. omega (arith, array-room (c .before .before .before .before .before .before .before .before .before)))
+      (λ c. omega (arith, array-room (c .before .before .before .before .before .before .before .before .before)))
+      (λ c. omega (arith, array-room (c .before .before .before .before .before .before .before .before .before))) element-requires
+      returns-array (λ c. search needs)
+      (λ c κs. sound-below (c .before .before .before .before .before .pre .1 .0)
+      (omega (arith, c .before .before .before .before .before .pre .1 .1))) (λ c. search needs) (λ c. search needs)
+      (λ c κs.
+      let q = c .before .before .before .before .before .before .before .before .before .before .before .pre .1 in
+      (q .0, omega (arith, q .2, q .4), omega (arith, q .3, q .4))) returns-number (λ c κs. search needs)
+      (λ c κs.
+      let b = c .before .before .before .before .before in let q = pair-entry b .pre .1 in
+      (omega (arith, part-room b), q .2, q .3, q .6))
+      (λ c. omega (arith, part-room (c .before .before .before .before .before .before .before .before .before)))
+      (λ c. omega (arith, part-room (c .before .before .before .before .before .before .before .before .before))) first-requires
+      (λ c κs.
+      let b = c .before .before .before .before .before .before .before .before .before .before .before in
+      let q = pair-entry b .pre .1 in (omega (arith, part-room b), q .2, q .3, c .before .put-assign2 .ensures .1 .size))
+      (λ c. omega (
+        arith,
+        part-room
+            (c .before .before .before .before .before .before .before .before .before .before .before .before .before .before .before),
+      ))
+      (λ c. omega (
+        arith,
+        part-room
+            (c .before .before .before .before .before .before .before .before .before .before .before .before .before .before .before),
+      ))
+      second-requires returns-pair
 
 pub +put-assign-spec : {M : Type 1} → statement M
-+put-assign-spec = close μ-put-assign λ t. put-assign-lts.spec (put-assign-calls t)
-    (put-assign-at t) put-assign.Post (put-assign-returns t) (put-assign-as-array-requires t) (λ c. search needs)
-    (put-assign-cast-put-count t) (λ c κs. search needs) (put-assign-push-both-requires t) (put-assign-add-put-assign t)
-    (put-assign-add-put-assign-2 t) (put-assign-add-put-assign-3 t) (put-assign-put-assign-requires t) (put-assign-returns-2 t)
-    (λ c. search needs) (put-assign-as-pair-requires t) (λ c. search needs) (λ c. search needs) (put-assign-put-set-requires t)
-    (put-assign-returns-3 t) (λ c κs. search needs) (put-assign-push-both-requires-2 t) (put-assign-add-put-assign-4 t)
-    (put-assign-add-put-assign-5 t) (put-assign-put-assign-requires-2 t) (put-assign-push-both-requires-3 t)
-    (put-assign-add-put-assign-6 t) (put-assign-add-put-assign-7 t) (put-assign-put-assign-requires-3 t) (put-assign-returns-4 t)
++put-assign-spec = close μ-put-assign (λ t. meets t)

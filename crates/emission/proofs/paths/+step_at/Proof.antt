@@ -5,7 +5,7 @@ use mathlib.Core.Path.{ap, _∙_}
 use Prim.Native.Nat.{ℕ, _<_}
 use borrow.Fn.Kinds.{In}
 use borrow.Fn.PlainCycle.{Measures, is, falls, and}
-use Rattle.emission.specs.Laws.Steps.{found-none, found-own, found-deeper, gone-made}
+use Rattle.emission.specs.Laws.PathSteps.{found-none, found-own, found-deeper, gone-made}
 use Rattle.emission.specs.Changes.{changeOf}
 use Rattle.emission.proofs.paths.step_at.Reads as step-at
 use Rattle.emission.proofs.paths.step_at.Kinds as step-at-kinds

@@ -1,6 +1,6 @@
 -- `change_of` meets its contract: kind by kind.
 use mathlib.Core.Path.{refl}
-use Rattle.emission.specs.Laws.Steps.{unchanged}
+use Rattle.emission.specs.Laws.PathSteps.{unchanged}
 use Rattle.emission.proofs.paths.change_of.Statement.{statement}
 use Rattle.emission.proofs.paths.change_of.Tie as tie
 

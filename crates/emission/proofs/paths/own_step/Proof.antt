@@ -1,7 +1,7 @@
 -- `own_step` meets its contract: change by change.
 use mathlib.Core.Path.{refl}
 use borrow.Author.Needs.{needs}
-use Rattle.emission.specs.Laws.Steps.{own-as, at-first, at-later}
+use Rattle.emission.specs.Laws.PathSteps.{own-as, at-first, at-later}
 use Rattle.emission.proofs.paths.own_step.Statement.{statement}
 use Rattle.emission.proofs.paths.own_step.Tie as tie
 

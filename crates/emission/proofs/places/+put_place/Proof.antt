@@ -67,175 +67,133 @@ put-place-calls t = (
   put-place.Post,
 )
 
-put-place-returns : (t : ℕ) → put-place-lts.Need-returns (put-place-calls t) (put-place-at t) put-place.Post
-put-place-returns t c =
-    let entry = c .before .before .before .before .before .before .before .before in (
-      place-left (entry .args .types .now) (entry .args .counters) (entry .args .regions)
-          (entry .args .references .now) (entry .args .from) _ _ (c .before .before .before .before .before .left-in .ensures)
-          (c .before .before .before .before .right-in .ensures) _ _ _ (omega arith) (c .put-nowhere .ensures),
-      entry .pre .1 .3,
-    )
+module _ (t : ℕ) where
+  -- at the entry; where the node's class is known; and the way back
+  abbrev Entry : Type 0
+  Entry = put-place-lts.Start (put-place-calls t) (put-place-at t) put-place.Post
 
-put-place-returns-2 : (t : ℕ) → put-place-lts.Need-returns-2 (put-place-calls t) (put-place-at t) put-place.Post
-put-place-returns-2 t c =
-    let entry = c .before .before .before .before .before .before .before .before .before in (
-      place-right (entry .args .types .now) (entry .args .counters) (entry .args .regions)
-          (entry .args .references .now) (entry .args .from) _ _ (c .before .before .before .before .before .before .left-in .ensures)
-          (c .before .before .before .before .before .right-in .ensures) _ _ _ (omega arith)
-          (c .put-nowhere2 .ensures),
-      entry .pre .1 .3,
-    )
+  abbrev Classed : Type 0
+  Classed = put-place-lts.After-class-of (put-place-calls t) (put-place-at t) put-place.Post
 
-put-place-put-offset-requires : (t : ℕ) → put-place-lts.Need-put-offset-requires (put-place-calls t) (put-place-at t) put-place.Post
-put-place-put-offset-requires t c κs =
-    let entry = c .before .before .before .before .before .before .before .before .before .before .before
-    .before .before .before .before .before .before in
-    (entry .pre .1 .0, omega (arith, entry .pre .1 .2))
+  abbrev entry : Classed → Entry
+  entry k = k .before .before .before .before .before .before .before .before
 
-put-place-put-offset-requires-2 : (t : ℕ) → put-place-lts.Need-put-offset-requires-2 (put-place-calls t) (put-place-at t) put-place.Post
-put-place-put-offset-requires-2 t c κs =
-    let entry = c .before .before .before .before .before .before .before .before .before .before .before
-    .before .before .before .before .before .before .before .before in
-    (entry .pre .1 .0, omega (arith, entry .pre .1 .2))
+  returns-left : put-place-lts.Need-returns (put-place-calls t) (put-place-at t) put-place.Post
+  returns-left c =
+      let a = c .before .before .before .before .before .before .before .before .args in (
+        place-left (a .types .now) (a .counters) (a .regions) (a .references .now) (a .from) _ _
+            (c .before .before .before .before .before .left-in .ensures) (c .before .before .before .before .right-in .ensures) _ _ _
+            (omega arith) (c .put-nowhere .ensures),
+        c .before .before .before .before .before .before .before .before .pre .1 .3,
+      )
 
-put-place-put-place-requires : (t : ℕ) → put-place-lts.Need-put-place-requires (put-place-calls t) (put-place-at t) put-place.Post
-put-place-put-place-requires t c κs =
-    let entry = c .before .before .before .before .before .before .before .before .before .before .before
-    .before .before .before in
-    let at-operand-written = c .before .before .before .operand-written in
-    let h = written-below (changeOf (kindIn (getD (entry .args .references .now) (entry .args .from) 0)))
-    (leftIn (getD (entry .args .references .now) (entry .args .from) 0)) (entry .args .from)
-    (omega (
-      arith,
-      c .before .before .before .before .before .before .before .before .before .before .before
-          .left-in .ensures,
-    )) in (
-      omega (arith, h, at-operand-written .ensures, entry .pre .0),
-      (
-        entry .pre .1 .0,
-        omega
-            (arith, h, at-operand-written .ensures, entry .pre .1 .1),
-        omega
-            (arith, h, at-operand-written .ensures, entry .pre .1 .2),
-        length-set (entry .args .changes .now)
-            (entry .args .depth) (getD (entry .args .references .now) (entry .args .from) 0) ∙ entry .pre .1 .3,
-      ),
-    )
+  returns-right : put-place-lts.Need-returns-2 (put-place-calls t) (put-place-at t) put-place.Post
+  returns-right c =
+      let a = c .before .before .before .before .before .before .before .before .before .args in (
+        place-right (a .types .now) (a .counters) (a .regions) (a .references .now) (a .from) _ _
+            (c .before .before .before .before .before .before .left-in .ensures)
+            (c .before .before .before .before .before .right-in .ensures) _ _ _ (omega arith) (c .put-nowhere2 .ensures),
+        c .before .before .before .before .before .before .before .before .before .pre .1 .3,
+      )
 
-put-place-returns-3 : (t : ℕ) → put-place-lts.Need-returns-3 (put-place-calls t) (put-place-at t) put-place.Post
-put-place-returns-3 t c =
-    let entry = c .before .before .before .before .before .before .before .before .before .before .before
-    .before .before .before .before .before .before .before in (
-      place-output (entry .args .types .now) (entry .args .counters) (entry .args .regions)
-          (entry .args .references .now) (entry .args .from) _ _ (c .before .before .before .before .before .before .before .before .before .before .before
-          .before .before .before .before .left-in .ensures) (c .before .before .before .before .before .before .before .before .before .before .before
-          .before .before .before .right-in .ensures) _ _ _ (omega arith) (omega arith) _ _ _
-          (c .before .before .before .before .before .before .before .before .before .before .class-of .ensures)
-          (c .before .before .before .before .before .before .before .before .before .before .before .kind-in .ensures)
-          (c .before .before .before .before .before .before .before .before .enum-told .given .1) refl _ _
-          (c .before .type-in .ensures) (c .before .before .before .before .before .put-count .ensures)
-          (c .put-offset .ensures),
-      entry .pre .1 .3,
-    )
+  operand-requires : put-place-lts.Need-put-place-requires (put-place-calls t) (put-place-at t) put-place.Post
+  operand-requires c κs =
+      let k = c .before .before .before .before .before .before in let a = entry k .args in let q = entry k .pre in
+      let r = c .before .before .before .operand-written .ensures in let w = getD (a .references .now) (a .from) 0 in
+      let h = written-below (changeOf (kindIn w)) (leftIn w) (a .from) (omega
+      (arith, k .before .before .before .before .before .left-in .ensures)) in (
+        omega (arith, h, r, q .0),
+        (
+          q .1 .0,
+          omega (arith, h, r, q .1 .1),
+          omega (arith, h, r, q .1 .2),
+          length-set (a .changes .now) (a .depth) w ∙ q .1 .3,
+        ),
+      )
 
-put-place-returns-4 : (t : ℕ) → put-place-lts.Need-returns-4 (put-place-calls t) (put-place-at t) put-place.Post
-put-place-returns-4 t c =
-    let entry = c .before .before .before .before .before .before .before .before .before .before .before
-    .before .before .before .before .before .before .before .before .before in (
-      place-region (entry .args .types .now) (entry .args .counters) (entry .args .regions)
-          (entry .args .references .now) (entry .args .from) _ _ (c .before .before .before .before .before .before .before .before .before .before .before
-          .before .before .before .before .before .before .left-in .ensures) (c .before .before .before .before .before .before .before .before .before .before .before
-          .before .before .before .before .before .right-in .ensures) _ _ _ (omega arith) (omega arith) _ _ _
-          (c .before .before .before .before .before .before .before .before .before .before .before
-          .before .class-of .ensures) (c .before .before .before .before .before .before .before .before .before .before .before
-          .before .before .kind-in .ensures) (c .before .before .before .before .before .before .before .before .before .before .enum-told2 .given .1)
-          refl _ _ _ _ (c .before .before .before .before .before .before .before .number-in .ensures)
-          (c .before .before .before .before .before .before .from-innermost .ensures) (c .before .type-in2 .ensures)
-          (c .before .before .before .before .before .put-count2 .ensures) (c .put-offset2 .ensures),
-      entry .pre .1 .3,
-    )
+  returns-output : put-place-lts.Need-returns-3 (put-place-calls t) (put-place-at t) put-place.Post
+  returns-output c =
+      let k = c .before .before .before .before .before .before .before .before .before .before in let a = entry k .args in (
+        place-output (a .types .now) (a .counters) (a .regions) (a .references .now) (a .from) _ _
+            (k .before .before .before .before .before .left-in .ensures) (k .before .before .before .before .right-in .ensures) _ _ _
+            (omega arith) (omega arith) _ _ _ (k .class-of .ensures) (k .before .kind-in .ensures)
+            (c .before .before .before .before .before .before .before .before .enum-told .given .1) refl _ _ (c .before .type-in .ensures)
+            (c .before .before .before .before .before .put-count .ensures) (c .put-offset .ensures),
+        entry k .pre .1 .3,
+      )
 
-put-place-returns-5 : (t : ℕ) → put-place-lts.Need-returns-5 (put-place-calls t) (put-place-at t) put-place.Post
-put-place-returns-5 t c =
-    let entry = c .before .before .before .before .before .before .before .before .before .before .before
-    .before .before .before .before in (
-      place-rearranged (entry .args .types .now) (entry .args .counters) (entry .args .regions)
-          (entry .args .references .now) (entry .args .from) _ _ (c .before .before .before .before .before .before .before .before .before .before .before
-          .before .left-in .ensures) (c .before .before .before .before .before .before .before .before .before .before .before
-          .right-in .ensures) _ _ _ (omega arith) (omega arith) _ _ _ (c .before .before .before .before .before .before .before .class-of .ensures)
-          (c .before .before .before .before .before .before .before .before .kind-in .ensures)
-          (c .before .before .before .before .before .enum-told3 .given .1) refl _ _ (path-push
-          (entry .args .changes .now) (entry .args .depth) _ (omega (
-            arith,
-            entry .pre .1 .1,
-            entry .pre .1 .2,
-            entry .pre .1 .3,
-            c .before .before .before .before .before .before .before .before .before .before .if1 .left,
-          )))
-          (c .before .before .before .before .operand-written .ensures) (c .put-place .ensures .0),
-      c .put-place .ensures .1,
-    )
+  returns-region : put-place-lts.Need-returns-4 (put-place-calls t) (put-place-at t) put-place.Post
+  returns-region c =
+      let k = c .before .before .before .before .before .before .before .before .before .before .before .before in let a = entry k .args in (
+        place-region (a .types .now) (a .counters) (a .regions) (a .references .now) (a .from) _ _
+            (k .before .before .before .before .before .left-in .ensures) (k .before .before .before .before .right-in .ensures) _ _ _
+            (omega arith) (omega arith) _ _ _ (k .class-of .ensures) (k .before .kind-in .ensures)
+            (c .before .before .before .before .before .before .before .before .before .before .enum-told2 .given .1) refl _ _ _ _
+            (c .before .before .before .before .before .before .before .number-in .ensures)
+            (c .before .before .before .before .before .before .from-innermost .ensures) (c .before .type-in2 .ensures)
+            (c .before .before .before .before .before .put-count2 .ensures) (c .put-offset2 .ensures),
+        entry k .pre .1 .3,
+      )
 
-put-place-returns-6 : (t : ℕ) → put-place-lts.Need-returns-6 (put-place-calls t) (put-place-at t) put-place.Post
-put-place-returns-6 t c =
-    let entry = c .before .before .before .before .before .before .before .before .before .before .before
-    .before .before in (
-      place-nowhere (entry .args .types .now) (entry .args .counters) (entry .args .regions)
-          (entry .args .references .now) (entry .args .from) _ _ (c .before .before .before .before .before .before .before .before .before .before .left-in .ensures)
-          (c .before .before .before .before .before .before .before .before .before .right-in .ensures) _ _ _
-          (omega arith) (omega arith) _ _ _ (c .before .before .before .before .before .class-of .ensures)
-          (c .before .before .before .before .before .before .kind-in .ensures)
-          (c .before .before .before .enum-told4 .given .1) refl (c .put-nowhere3 .ensures),
-      entry .pre .1 .3,
-    )
+  returns-rearranged : put-place-lts.Need-returns-5 (put-place-calls t) (put-place-at t) put-place.Post
+  returns-rearranged c =
+      let k = c .before .before .before .before .before .before .before in let a = entry k .args in let q = entry k .pre .1 in (
+        place-rearranged (a .types .now) (a .counters) (a .regions) (a .references .now) (a .from) _ _
+            (k .before .before .before .before .before .left-in .ensures) (k .before .before .before .before .right-in .ensures) _ _ _
+            (omega arith) (omega arith) _ _ _ (k .class-of .ensures) (k .before .kind-in .ensures)
+            (c .before .before .before .before .before .enum-told3 .given .1) refl _ _ (path-push (a .changes .now) (a .depth) _
+            (omega (arith, q .1, q .2, q .3, k .before .before .before .if1 .left)))
+            (c .before .before .before .before .operand-written .ensures) (c .put-place .ensures .0),
+        c .put-place .ensures .1,
+      )
 
-put-place-returns-7 : (t : ℕ) → put-place-lts.Need-returns-7 (put-place-calls t) (put-place-at t) put-place.Post
-put-place-returns-7 t c =
-    let entry = c .before .before .before .before .before .before .before .before .before .before .before
-    .before .before in (
-      place-nowhere (entry .args .types .now) (entry .args .counters) (entry .args .regions)
-          (entry .args .references .now) (entry .args .from) _ _ (c .before .before .before .before .before .before .before .before .before .before .left-in .ensures)
-          (c .before .before .before .before .before .before .before .before .before .right-in .ensures) _ _ _
-          (omega arith) (omega arith) _ _ _ (c .before .before .before .before .before .class-of .ensures)
-          (c .before .before .before .before .before .before .kind-in .ensures)
-          (c .before .before .before .enum-told5 .given .1) refl (c .put-nowhere4 .ensures),
-      entry .pre .1 .3,
-    )
-
-put-place-returns-8 : (t : ℕ) → put-place-lts.Need-returns-8 (put-place-calls t) (put-place-at t) put-place.Post
-put-place-returns-8 t c =
-    let entry = c .before .before .before .before .before .before .before .before .before .before .before
-    .before .before in (
-      place-nowhere (entry .args .types .now) (entry .args .counters) (entry .args .regions)
-          (entry .args .references .now) (entry .args .from) _ _ (c .before .before .before .before .before .before .before .before .before .before .left-in .ensures)
-          (c .before .before .before .before .before .before .before .before .before .right-in .ensures) _ _ _
-          (omega arith) (omega arith) _ _ _ (c .before .before .before .before .before .class-of .ensures)
-          (c .before .before .before .before .before .before .kind-in .ensures)
-          (c .before .before .before .enum-told6 .given .1) refl (c .put-nowhere5 .ensures),
-      entry .pre .1 .3,
-    )
-
-put-place-returns-9 : (t : ℕ) → put-place-lts.Need-returns-9 (put-place-calls t) (put-place-at t) put-place.Post
-put-place-returns-9 t c =
-    let entry = c .before .before .before .before .before .before .before .before .before .before .before
-    .before .before in (
-      place-nowhere (entry .args .types .now) (entry .args .counters) (entry .args .regions)
-          (entry .args .references .now) (entry .args .from) _ _ (c .before .before .before .before .before .before .before .before .before .before .left-in .ensures)
-          (c .before .before .before .before .before .before .before .before .before .right-in .ensures) _ _ _
-          (omega arith) (omega arith) _ _ _ (c .before .before .before .before .before .class-of .ensures)
-          (c .before .before .before .before .before .before .kind-in .ensures)
-          (c .before .before .before .enum-told7 .given .1) refl (c .put-nowhere6 .ensures),
-      entry .pre .1 .3,
-    )
+  meets : {M : Type 1} → put-place-lts.Closed (put-place-calls t) (put-place-at t) put-place.Post M
+  meets =
+      put-place-lts.spec (put-place-calls t) (put-place-at t) put-place.Post
+      (λ c. search needs) (λ c. search needs) (λ c κs. search needs) (λ c κs. search needs) (λ c κs. search needs) returns-left
+      (λ c κs. search needs) returns-right (λ c κs. search needs) (λ c κs. search needs) (λ c. search needs) (λ c κs. search needs)
+      (λ c κs. search needs)
+      (λ c κs.
+      let q = entry (c .before .before .before .before .before .before .before .before .before) .pre .1 in (q .0, omega (arith, q .2)))
+      (λ c. search needs) (λ c κs. search needs) (λ c κs. search needs) (λ c κs. search needs) (λ c κs. search needs)
+      (λ c κs.
+      let q = entry (c .before .before .before .before .before .before .before .before .before .before .before) .pre .1 in
+      (q .0, omega (arith, q .2))) (λ c. search needs) (λ c κs. search needs) (λ c. search needs) (λ c. search needs)
+      (λ c. search needs) operand-requires (λ c. search needs) (λ c κs. search needs) (λ c. search needs) (λ c κs. search needs)
+      (λ c. search needs) (λ c κs. search needs) (λ c. search needs) (λ c κs. search needs) returns-output returns-region
+      returns-rearranged
+      (λ c.
+      let k = c .before .before .before .before .before in let a = entry k .args in (
+        place-nowhere (a .types .now) (a .counters) (a .regions) (a .references .now) (a .from) _ _
+            (k .before .before .before .before .before .left-in .ensures) (k .before .before .before .before .right-in .ensures) _ _ _
+            (omega arith) (omega arith) _ _ _ (k .class-of .ensures) (k .before .kind-in .ensures)
+            (c .before .before .before .enum-told4 .given .1) refl (c .put-nowhere3 .ensures),
+        entry k .pre .1 .3,
+      ))
+      (λ c.
+      let k = c .before .before .before .before .before in let a = entry k .args in (
+        place-nowhere (a .types .now) (a .counters) (a .regions) (a .references .now) (a .from) _ _
+            (k .before .before .before .before .before .left-in .ensures) (k .before .before .before .before .right-in .ensures) _ _ _
+            (omega arith) (omega arith) _ _ _ (k .class-of .ensures) (k .before .kind-in .ensures)
+            (c .before .before .before .enum-told5 .given .1) refl (c .put-nowhere4 .ensures),
+        entry k .pre .1 .3,
+      ))
+      (λ c.
+      let k = c .before .before .before .before .before in let a = entry k .args in (
+        place-nowhere (a .types .now) (a .counters) (a .regions) (a .references .now) (a .from) _ _
+            (k .before .before .before .before .before .left-in .ensures) (k .before .before .before .before .right-in .ensures) _ _ _
+            (omega arith) (omega arith) _ _ _ (k .class-of .ensures) (k .before .kind-in .ensures)
+            (c .before .before .before .enum-told6 .given .1) refl (c .put-nowhere5 .ensures),
+        entry k .pre .1 .3,
+      ))
+      (λ c.
+      let k = c .before .before .before .before .before in let a = entry k .args in (
+        place-nowhere (a .types .now) (a .counters) (a .regions) (a .references .now) (a .from) _ _
+            (k .before .before .before .before .before .left-in .ensures) (k .before .before .before .before .right-in .ensures) _ _ _
+            (omega arith) (omega arith) _ _ _ (k .class-of .ensures) (k .before .kind-in .ensures)
+            (c .before .before .before .enum-told7 .given .1) refl (c .put-nowhere6 .ensures),
+        entry k .pre .1 .3,
+      ))
 
 pub +put-place-spec : {M : Type 1} → statement M
-+put-place-spec = close μ-put-place λ t. put-place-lts.spec (put-place-calls t)
-    (put-place-at t) put-place.Post (λ c. search needs) (λ c. search needs) (λ c κs. search needs) (λ c κs. search needs)
-    (λ c κs. search needs) (put-place-returns t) (λ c κs. search needs) (put-place-returns-2 t) (λ c κs. search needs)
-    (λ c κs. search needs) (λ c. search needs) (λ c κs. search needs) (λ c κs. search needs) (put-place-put-offset-requires t)
-    (λ c. search needs) (λ c κs. search needs) (λ c κs. search needs) (λ c κs. search needs) (λ c κs. search needs)
-    (put-place-put-offset-requires-2 t) (λ c. search needs) (λ c κs. search needs) (λ c. search needs) (λ c. search needs)
-    (λ c. search needs) (put-place-put-place-requires t) (λ c. search needs) (λ c κs. search needs) (λ c. search needs)
-    (λ c κs. search needs) (λ c. search needs) (λ c κs. search needs) (λ c. search needs) (λ c κs. search needs)
-    (put-place-returns-3 t) (put-place-returns-4 t) (put-place-returns-5 t) (put-place-returns-6 t) (put-place-returns-7 t)
-    (put-place-returns-8 t) (put-place-returns-9 t)
++put-place-spec = close μ-put-place (λ t. meets t)

@@ -1,7 +1,7 @@
 -- `class_of` meets its contract: kind by kind.
-use native.Mathlib.Omega.{arith}
-use mathlib.Core.Path.{refl}
-use Rattle.emission.specs.Laws.Operands.{class-low, class-operation, class-high}
+use mathlib.Core.Path.{refl, sym, _∙_}
+use borrow.Author.Needs.{needs}
+use Rattle.emission.specs.Laws.Operands.{class-operation, class-other}
 use Rattle.emission.proofs.references.class_of.Statement.{statement}
 use Rattle.emission.proofs.references.class_of.Tie as tie
 
@@ -21,23 +21,17 @@ returns-5 : tie.Need-returns-5
 returns-5 c = rw (c .if5 .taken) refl
 
 returns-6 : tie.Need-returns-6
-returns-6 c = class-low (c .before .before .before .before .before .before .args .kind)
-    (c .before .before .before .before .before .if1 .left) (c .before .before .before .before .if2 .left)
-    (c .before .before .before .if3 .left) (c .before .before .if4 .left) (c .before .if5 .left) (omega arith)
+returns-6 c =
+    class-operation _ (c .before .before .before .before .before .before .if1 .left) (c .before .before .before .before .before .if2 .left)
+    (c .before .before .before .before .if3 .left) (c .before .before .before .if4 .left) (c .before .before .if5 .left)
+    (sym (c .before .is-operation .ensures) ∙ c .if6 .taken)
 
 returns-7 : tie.Need-returns-7
-returns-7 c = class-operation (c .before .before .before .before .before .before .before .args .kind)
-    (c .before .before .before .before .before .before .if1 .left)
-    (c .before .before .before .before .before .if2 .left) (c .before .before .before .before .if3 .left)
-    (c .before .before .before .if4 .left) (c .before .before .if5 .left) (omega arith) (omega arith)
-
-returns-8 : tie.Need-returns-8
-returns-8 c = class-high (c .before .before .before .before .before .before .before .args .kind)
-    (c .before .before .before .before .before .before .if1 .left)
-    (c .before .before .before .before .before .if2 .left) (c .before .before .before .before .if3 .left)
-    (c .before .before .before .if4 .left) (c .before .before .if5 .left) (omega arith) (omega arith)
+returns-7 c =
+    class-other _ (c .before .before .before .before .before .before .if1 .left) (c .before .before .before .before .before .if2 .left)
+    (c .before .before .before .before .if3 .left) (c .before .before .before .if4 .left) (c .before .before .if5 .left)
+    (sym (c .before .is-operation .ensures) ∙ c .if6 .left)
 
 pub class-of-spec : {M : Type 1} → statement M
 class-of-spec =
-    tie.close
-    (tie.spec returns returns-2 returns-3 returns-4 returns-5 returns-6 returns-7 returns-8)
+    tie.close (tie.spec returns returns-2 returns-3 returns-4 returns-5 (λ c κs. search needs) returns-6 returns-7)

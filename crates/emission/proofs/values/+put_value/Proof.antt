@@ -68,271 +68,197 @@ put-value-calls t = (
   operand-read-reads.Learnt,
 )
 
-put-value-returns : (t : ℕ) → put-value-lts.Need-returns (put-value-calls t) (put-value-at t) put-value.Post
-put-value-returns t c = (put-none-past _ _ _ _ (omega arith), (refl, c .before .before .before .before .before .pre .1 .3))
+module _ (t : ℕ) where
+  -- at the entry; where the node's class is known; and the way back
+  abbrev Entry : Type 0
+  Entry = put-value-lts.Start (put-value-calls t) (put-value-at t) put-value.Post
 
-put-value-returns-2 : (t : ℕ) → put-value-lts.Need-returns-2 (put-value-calls t) (put-value-at t) put-value.Post
-put-value-returns-2 t c =
-    let entry = c .before .before .before .before .before .before .before .before .before in (
-      value-left (entry .args .types .now) (entry .args .plan .now) (entry .args .counters) (entry .args .regions)
-          (entry .args .references .now) (entry .args .from) _ _ (c .before .before .before .before .before .before .left-in .ensures)
-          (c .before .before .before .before .before .right-in .ensures) _ _ _ (omega arith) (c .put-count .ensures),
-      (refl, entry .pre .1 .3),
-    )
+  abbrev Classed : Type 0
+  Classed = put-value-lts.After-class-of (put-value-calls t) (put-value-at t) put-value.Post
 
-put-value-returns-3 : (t : ℕ) → put-value-lts.Need-returns-3 (put-value-calls t) (put-value-at t) put-value.Post
-put-value-returns-3 t c =
-    let entry = c .before .before .before .before .before .before .before .before .before .before in (
-      value-right (entry .args .types .now) (entry .args .plan .now) (entry .args .counters) (entry .args .regions)
-          (entry .args .references .now) (entry .args .from) _ _ (c .before .before .before .before .before .before .before .left-in .ensures)
-          (c .before .before .before .before .before .before .right-in .ensures) _ _ _ (omega arith)
-          (c .put-count2 .ensures),
-      (refl, entry .pre .1 .3),
-    )
+  abbrev entry : Classed → Entry
+  entry k = k .before .before .before .before .before .before .before .before .before
 
-put-value-put-offset-requires : (t : ℕ) → put-value-lts.Need-put-offset-requires (put-value-calls t) (put-value-at t) put-value.Post
-put-value-put-offset-requires t c κs =
-    let entry = c .before .before .before .before .before .before .before .before .before .before .before
-    .before .before .before .before .before .before .before .before in
-    (entry .pre .1 .0, omega (arith, entry .pre .1 .2))
+  returns-left : put-value-lts.Need-returns-2 (put-value-calls t) (put-value-at t) put-value.Post
+  returns-left c =
+      let a = c .before .before .before .before .before .before .before .before .before .args in (
+        value-left (a .types .now) (a .plan .now) (a .counters) (a .regions) (a .references .now) (a .from) _ _
+            (c .before .before .before .before .before .before .left-in .ensures)
+            (c .before .before .before .before .before .right-in .ensures) _ _ _ (omega arith) (c .put-count .ensures),
+        (
+          refl,
+          c .before .before .before .before .before .before .before .before .before .pre .1 .3,
+        ),
+      )
 
-put-value-put-offset-requires-2 : (t : ℕ) → put-value-lts.Need-put-offset-requires-2 (put-value-calls t) (put-value-at t) put-value.Post
-put-value-put-offset-requires-2 t c κs =
-    let entry = c .before .before .before .before .before .before .before .before .before .before .before
-    .before .before .before .before .before .before .before .before .before in
-    (entry .pre .1 .0, omega (arith, entry .pre .1 .2))
+  returns-right : put-value-lts.Need-returns-3 (put-value-calls t) (put-value-at t) put-value.Post
+  returns-right c =
+      let a = c .before .before .before .before .before .before .before .before .before .before .args in (
+        value-right (a .types .now) (a .plan .now) (a .counters) (a .regions) (a .references .now) (a .from) _ _
+            (c .before .before .before .before .before .before .before .left-in .ensures)
+            (c .before .before .before .before .before .before .right-in .ensures) _ _ _ (omega arith) (c .put-count2 .ensures),
+        (
+          refl,
+          c .before .before .before .before .before .before .before .before .before .before .pre .1 .3,
+        ),
+      )
 
-put-value-put-value-requires : (t : ℕ) → put-value-lts.Need-put-value-requires (put-value-calls t) (put-value-at t) put-value.Post
-put-value-put-value-requires t c κs =
-    let entry = c .before .before .before .before .before .before .before .before .before .before .before
-    .before .before .before .before .before .before in
-    let at-if2 = c .before .before .before .before .before .before .before .before .before .before .before .if2 in (
-      omega (arith, at-if2 .left, entry .pre .0),
-      (
-        entry .pre .1 .0,
-        omega (arith, at-if2 .left, entry .pre .1 .1),
-        omega (arith, at-if2 .left, entry .pre .1 .2),
-        entry .pre .1 .3,
-      ),
-    )
+  negated-requires : put-value-lts.Need-put-value-requires (put-value-calls t) (put-value-at t) put-value.Post
+  negated-requires c κs =
+      let k = c .before .before .before .before .before .before .before .before in let q = entry k .pre in
+      let l = k .before .before .before .if2 .left in
+      (omega (arith, l, q .0), (q .1 .0, omega (arith, l, q .1 .1), omega (arith, l, q .1 .2), q .1 .3))
 
-put-value-put-value-requires-2 : (t : ℕ) → put-value-lts.Need-put-value-requires-2 (put-value-calls t) (put-value-at t) put-value.Post
-put-value-put-value-requires-2 t c κs =
-    let entry = c .before .before .before .before .before .before .before .before .before .before .before
-    .before .before .before .before .before .before .before in
-    let at-if2 = c .before .before .before .before .before .before .before .before .before .before .before
-    .before .if2 in (
-      omega (arith, at-if2 .left, entry .pre .0),
-      (
-        entry .pre .1 .0,
-        omega (arith, at-if2 .left, entry .pre .1 .1),
-        omega (arith, at-if2 .left, entry .pre .1 .2),
-        entry .pre .1 .3,
-      ),
-    )
+  first-requires : put-value-lts.Need-put-value-requires-2 (put-value-calls t) (put-value-at t) put-value.Post
+  first-requires c κs =
+      let k = c .before .before .before .before .before .before .before .before .before in let q = entry k .pre in
+      let l = k .before .before .before .if2 .left in
+      (omega (arith, l, q .0), (q .1 .0, omega (arith, l, q .1 .1), omega (arith, l, q .1 .2), q .1 .3))
 
-put-value-put-value-requires-3 : (t : ℕ) → put-value-lts.Need-put-value-requires-3 (put-value-calls t) (put-value-at t) put-value.Post
-put-value-put-value-requires-3 t c κs =
-    let entry = c .before .before .before .before .before .before .before .before .before .before .before
-    .before .before .before .before .before .before .before .before .before .before .before in
-    let at-if3 = c .before .before .before .before .before .before .before .before .before .before .before
-    .before .before .before .before .if3 in (
-      omega (arith, at-if3 .left, entry .pre .0),
-      (
-        entry .pre .1 .0,
-        omega (arith, at-if3 .left, entry .pre .1 .1),
-        omega (arith, at-if3 .left, entry .pre .1 .2),
-        c .before .before .before .put-value2 .ensures .1 .1,
-      ),
-    )
+  second-requires : put-value-lts.Need-put-value-requires-3 (put-value-calls t) (put-value-at t) put-value.Post
+  second-requires c κs =
+      let k = c .before .before .before .before .before .before .before .before .before .before .before .before .before in
+      let q = entry k .pre in let l = k .before .before .if3 .left in (
+        omega (arith, l, q .0),
+        (
+          q .1 .0,
+          omega (arith, l, q .1 .1),
+          omega (arith, l, q .1 .2),
+          c .before .before .before .put-value2 .ensures .1 .1,
+        ),
+      )
 
-put-value-operand-read-requires : (t : ℕ) → put-value-lts.Need-operand-read-requires (put-value-calls t) (put-value-at t) put-value.Post
-put-value-operand-read-requires t c κs = omega (
-  arith,
-  c .before .before .before .before .before .before .before .before .before .before .before .before .pre .1 .2,
-)
+  operand-requires : put-value-lts.Need-put-value-requires-4 (put-value-calls t) (put-value-at t) put-value.Post
+  operand-requires c κs =
+      let k = c .before .before .before .before .before .before .before in let a = entry k .args in let q = entry k .pre in
+      let r = c .before .before .before .operand-read .ensures in let w = getD (a .references .now) (a .from) 0 in
+      let h = read-below (changeOf (kindIn w)) (pathOf (a .changes .now) (a .depth)) (leftIn w) (rightIn w) (a .from) (omega (
+        arith,
+        k .before .before .before .before .before .before .left-in .ensures,
+        k .before .before .before .if2 .left,
+      )) (omega (
+        arith,
+        k .before .before .before .before .before .right-in .ensures,
+        k .before .before .if3 .left,
+      )) in (
+        omega (arith, h, r, q .0),
+        (
+          q .1 .0,
+          omega (arith, h, r, q .1 .1),
+          omega (arith, h, r, q .1 .2),
+          length-set (a .changes .now) (a .depth) w ∙ q .1 .3,
+        ),
+      )
 
-put-value-put-value-requires-4 : (t : ℕ) → put-value-lts.Need-put-value-requires-4 (put-value-calls t) (put-value-at t) put-value.Post
-put-value-put-value-requires-4 t c κs =
-    let entry = c .before .before .before .before .before .before .before .before .before .before .before
-    .before .before .before .before .before in
-    let at-operand-read = c .before .before .before .operand-read in
-    let h = read-below (changeOf (kindIn (getD (entry .args .references .now) (entry .args .from) 0)))
-    (pathOf (entry .args .changes .now) (entry .args .depth)) (leftIn
-    (getD (entry .args .references .now) (entry .args .from) 0)) (rightIn
-    (getD (entry .args .references .now) (entry .args .from) 0)) (entry .args .from)
-    (omega (
-      arith,
-      c .before .before .before .before .before .before .before .before .before .before .before
-          .before .before .left-in .ensures,
-      c .before .before .before .before .before .before .before .before .before .before .if2 .left,
-    ))
-    (omega (
-      arith,
-      c .before .before .before .before .before .before .before .before .before .before .before
-          .before .right-in .ensures,
-      c .before .before .before .before .before .before .before .before .before .if3 .left,
-    )) in (
-      omega (arith, h, at-operand-read .ensures, entry .pre .0),
-      (
-        entry .pre .1 .0,
-        omega
-            (arith, h, at-operand-read .ensures, entry .pre .1 .1),
-        omega
-            (arith, h, at-operand-read .ensures, entry .pre .1 .2),
-        length-set (entry .args .changes .now)
-            (entry .args .depth) (getD (entry .args .references .now) (entry .args .from) 0) ∙ entry .pre .1 .3,
-      ),
-    )
+  returns-literal : put-value-lts.Need-returns-4 (put-value-calls t) (put-value-at t) put-value.Post
+  returns-literal c =
+      let k = c .before .before .before .before .before .before in let a = entry k .args in (
+        value-literal (a .types .now) (a .plan .now) (a .counters) (a .regions) (a .references .now) (a .from) _ _
+            (k .before .before .before .before .before .before .left-in .ensures)
+            (k .before .before .before .before .before .right-in .ensures) _ _ _ (omega (arith, k .before .before .before .if2 .left))
+            (omega (arith, k .before .before .if3 .left)) _ _ _ (k .class-of .ensures) (k .before .kind-in .ensures)
+            (c .before .before .before .before .enum-told .given .1) refl _ (c .before .number-in .ensures) (c .put-literal .ensures),
+        (refl, entry k .pre .1 .3),
+      )
 
-put-value-returns-4 : (t : ℕ) → put-value-lts.Need-returns-4 (put-value-calls t) (put-value-at t) put-value.Post
-put-value-returns-4 t c =
-    let entry = c .before .before .before .before .before .before .before .before .before .before .before
-    .before .before .before .before in (
-      value-literal (entry .args .types .now) (entry .args .plan .now) (entry .args .counters) (entry .args .regions)
-          (entry .args .references .now) (entry .args .from) _ _ (c .before .before .before .before .before .before .before .before .before .before .before
-          .before .left-in .ensures) (c .before .before .before .before .before .before .before .before .before .before .before
-          .right-in .ensures) _ _ _ (omega arith) (omega arith) _ _ _ (c .before .before .before .before .before .before .class-of .ensures)
-          (c .before .before .before .before .before .before .before .kind-in .ensures)
-          (c .before .before .before .before .enum-told .given .1) refl _ (c .before .number-in .ensures)
-          (c .put-literal .ensures),
-      (refl, entry .pre .1 .3),
-    )
+  returns-input : put-value-lts.Need-returns-5 (put-value-calls t) (put-value-at t) put-value.Post
+  returns-input c =
+      let k = c .before .before .before .before .before .before .before .before .before .before .before in let a = entry k .args in (
+        value-input (a .types .now) (a .plan .now) (a .counters) (a .regions) (a .references .now) (a .from) _ _
+            (k .before .before .before .before .before .before .left-in .ensures)
+            (k .before .before .before .before .before .right-in .ensures) _ _ _ (omega (arith, k .before .before .before .if2 .left))
+            (omega (arith, k .before .before .if3 .left)) _ _ _ (k .class-of .ensures) (k .before .kind-in .ensures)
+            (c .before .before .before .before .before .before .before .before .before .enum-told2 .given .1) refl _ _ _
+            (c .before .before .before .before .before .before .number-in2 .ensures) (c .before .type-in .ensures)
+            (c .before .before .before .before .before .put-count3 .ensures) (c .put-offset .ensures),
+        (refl, entry k .pre .1 .3),
+      )
 
-put-value-returns-5 : (t : ℕ) → put-value-lts.Need-returns-5 (put-value-calls t) (put-value-at t) put-value.Post
-put-value-returns-5 t c =
-    let entry = c .before .before .before .before .before .before .before .before .before .before .before
-    .before .before .before .before .before .before .before .before .before in (
-      value-input (entry .args .types .now) (entry .args .plan .now) (entry .args .counters) (entry .args .regions)
-          (entry .args .references .now) (entry .args .from) _ _ (c .before .before .before .before .before .before .before .before .before .before .before
-          .before .before .before .before .before .before .left-in .ensures) (c .before .before .before .before .before .before .before .before .before .before .before
-          .before .before .before .before .before .right-in .ensures) _ _ _ (omega arith) (omega arith) _ _ _
-          (c .before .before .before .before .before .before .before .before .before .before .before
-          .class-of .ensures) (c .before .before .before .before .before .before .before .before .before .before .before
-          .before .kind-in .ensures) (c .before .before .before .before .before .before .before .before .before .enum-told2 .given .1)
-          refl _ _ _ (c .before .before .before .before .before .before .number-in2 .ensures)
-          (c .before .type-in .ensures) (c .before .before .before .before .before .put-count3 .ensures)
-          (c .put-offset .ensures),
-      (refl, entry .pre .1 .3),
-    )
+  returns-region : put-value-lts.Need-returns-6 (put-value-calls t) (put-value-at t) put-value.Post
+  returns-region c =
+      let k = c .before .before .before .before .before .before .before .before .before .before .before .before in let a = entry k .args in (
+        value-region (a .types .now) (a .plan .now) (a .counters) (a .regions) (a .references .now) (a .from) _ _
+            (k .before .before .before .before .before .before .left-in .ensures)
+            (k .before .before .before .before .before .right-in .ensures) _ _ _ (omega (arith, k .before .before .before .if2 .left))
+            (omega (arith, k .before .before .if3 .left)) _ _ _ (k .class-of .ensures) (k .before .kind-in .ensures)
+            (c .before .before .before .before .before .before .before .before .before .before .enum-told3 .given .1) refl _ _ _ _
+            (c .before .before .before .before .before .before .before .number-in3 .ensures)
+            (c .before .before .before .before .before .before .from-innermost .ensures) (c .before .type-in2 .ensures)
+            (c .before .before .before .before .before .put-count4 .ensures) (c .put-offset2 .ensures),
+        (refl, entry k .pre .1 .3),
+      )
 
-put-value-returns-6 : (t : ℕ) → put-value-lts.Need-returns-6 (put-value-calls t) (put-value-at t) put-value.Post
-put-value-returns-6 t c =
-    let entry = c .before .before .before .before .before .before .before .before .before .before .before
-    .before .before .before .before .before .before .before .before .before .before in (
-      value-region (entry .args .types .now) (entry .args .plan .now) (entry .args .counters) (entry .args .regions)
-          (entry .args .references .now) (entry .args .from) _ _ (c .before .before .before .before .before .before .before .before .before .before .before
-          .before .before .before .before .before .before .before .left-in .ensures)
-          (c .before .before .before .before .before .before .before .before .before .before .before
-          .before .before .before .before .before .before .right-in .ensures) _ _ _ (omega arith) (omega arith) _
-          _ _ (c .before .before .before .before .before .before .before .before .before .before .before
-          .before .class-of .ensures) (c .before .before .before .before .before .before .before .before .before .before .before
-          .before .before .kind-in .ensures) (c .before .before .before .before .before .before .before .before .before .before .enum-told3 .given .1)
-          refl _ _ _ _ (c .before .before .before .before .before .before .before .number-in3 .ensures)
-          (c .before .before .before .before .before .before .from-innermost .ensures) (c .before .type-in2 .ensures)
-          (c .before .before .before .before .before .put-count4 .ensures) (c .put-offset2 .ensures),
-      (refl, entry .pre .1 .3),
-    )
+  returns-output : put-value-lts.Need-returns-7 (put-value-calls t) (put-value-at t) put-value.Post
+  returns-output c =
+      let k = c .before .before .before .before .before in let a = entry k .args in (
+        value-output (a .types .now) (a .plan .now) (a .counters) (a .regions) (a .references .now) (a .from) _ _
+            (k .before .before .before .before .before .before .left-in .ensures)
+            (k .before .before .before .before .before .right-in .ensures) _ _ _ (omega (arith, k .before .before .before .if2 .left))
+            (omega (arith, k .before .before .if3 .left)) _ _ _ (k .class-of .ensures) (k .before .kind-in .ensures)
+            (c .before .before .before .enum-told4 .given .1) refl (c .put-count5 .ensures),
+        (refl, entry k .pre .1 .3),
+      )
 
-put-value-returns-7 : (t : ℕ) → put-value-lts.Need-returns-7 (put-value-calls t) (put-value-at t) put-value.Post
-put-value-returns-7 t c =
-    let entry = c .before .before .before .before .before .before .before .before .before .before .before
-    .before .before .before in (
-      value-output (entry .args .types .now) (entry .args .plan .now) (entry .args .counters) (entry .args .regions)
-          (entry .args .references .now) (entry .args .from) _ _ (c .before .before .before .before .before .before .before .before .before .before .before
-          .left-in .ensures) (c .before .before .before .before .before .before .before .before .before .before
-          .right-in .ensures) _ _ _ (omega arith) (omega arith) _ _ _ (c .before .before .before .before .before .class-of .ensures)
-          (c .before .before .before .before .before .before .kind-in .ensures)
-          (c .before .before .before .enum-told4 .given .1) refl (c .put-count5 .ensures),
-      (refl, entry .pre .1 .3),
-    )
+  returns-negation : put-value-lts.Need-returns-8 (put-value-calls t) (put-value-at t) put-value.Post
+  returns-negation c =
+      let k = c .before .before .before .before .before .before .before .before .before in let a = entry k .args in (
+        value-negation (a .types .now) (a .plan .now) (a .counters) (a .regions) (a .references .now) (a .from) _ _
+            (k .before .before .before .before .before .before .left-in .ensures)
+            (k .before .before .before .before .before .right-in .ensures) _ _ _ (omega (arith, k .before .before .before .if2 .left))
+            (omega (arith, k .before .before .if3 .left)) _ _ _ (k .class-of .ensures) (k .before .kind-in .ensures)
+            (c .before .before .before .before .before .before .before .enum-told5 .given .1) refl _
+            (c .before .before .before .before .put-count6 .ensures) (c .put-value .ensures .0),
+        c .put-value .ensures .1,
+      )
 
-put-value-returns-8 : (t : ℕ) → put-value-lts.Need-returns-8 (put-value-calls t) (put-value-at t) put-value.Post
-put-value-returns-8 t c =
-    let entry = c .before .before .before .before .before .before .before .before .before .before .before
-    .before .before .before .before .before .before .before in (
-      value-negation (entry .args .types .now) (entry .args .plan .now) (entry .args .counters)
-          (entry .args .regions) (entry .args .references .now) (entry .args .from) _ _
-          (c .before .before .before .before .before .before .before .before .before .before .before
-          .before .before .before .before .left-in .ensures) (c .before .before .before .before .before .before .before .before .before .before .before
-          .before .before .before .right-in .ensures) _ _ _ (omega arith) (omega arith) _ _ _
-          (c .before .before .before .before .before .before .before .before .before .class-of .ensures)
-          (c .before .before .before .before .before .before .before .before .before .before .kind-in .ensures)
-          (c .before .before .before .before .before .before .before .enum-told5 .given .1) refl _
-          (c .before .before .before .before .put-count6 .ensures) (c .put-value .ensures .0),
-      c .put-value .ensures .1,
-    )
+  returns-operation : put-value-lts.Need-returns-9 (put-value-calls t) (put-value-at t) put-value.Post
+  returns-operation c =
+      let k = c .before .before .before .before .before .before .before .before .before .before .before .before .before .before in
+      let a = entry k .args in let o = c .before .before .before .before .put-value2 in let z = c .put-value3 in (
+        value-operation (a .types .now) (a .plan .now) (a .counters) (a .regions) (a .references .now) (a .from) _ _
+            (k .before .before .before .before .before .before .left-in .ensures)
+            (k .before .before .before .before .before .right-in .ensures) _ _ _ (omega (arith, k .before .before .before .if2 .left))
+            (omega (arith, k .before .before .if3 .left)) _ _ _ (k .class-of .ensures) (k .before .kind-in .ensures)
+            (c .before .before .before .before .before .before .before .before .before .before .before .before .enum-told6 .given .1) refl _
+            _ _ _ (c .before .before .before .before .before .before .before .before .before .kind-in2 .ensures)
+            (path-agree _ _ (a .depth) (o .ensures .1 .0))
+            (c .before .before .before .before .before .before .before .before .put-count7 .ensures) (o .ensures .0) (z .ensures .0),
+        (z .ensures .1 .0 ∙ o .ensures .1 .0, z .ensures .1 .1),
+      )
 
-put-value-returns-9 : (t : ℕ) → put-value-lts.Need-returns-9 (put-value-calls t) (put-value-at t) put-value.Post
-put-value-returns-9 t c =
-    let entry = c .before .before .before .before .before .before .before .before .before .before .before
-    .before .before .before .before .before .before .before .before .before .before .before .before in
-    let at-left-in = c .before .before .before .before .before .before .before .before .before .before .before
-    .before .before .before .before .before .before .before .before .before .left-in in
-    let at-right-in = c .before .before .before .before .before .before .before .before .before .before .before
-    .before .before .before .before .before .before .before .before .right-in in
-    let at-if2 = c .before .before .before .before .before .before .before .before .before .before .before
-    .before .before .before .before .before .before .if2 in
-    let at-if3 = c .before .before .before .before .before .before .before .before .before .before .before
-    .before .before .before .before .before .if3 in
-    let at-kind-in = c .before .before .before .before .before .before .before .before .before .before .before
-    .before .before .before .before .kind-in in
-    let at-class-of = c .before .before .before .before .before .before .before .before .before .before .before
-    .before .before .before .class-of in
-    let at-enum-told6 = c .before .before .before .before .before .before .before .before .before .before .before
-    .before .enum-told6 in
-    let at-kind-in2 = c .before .before .before .before .before .before .before .before .before .kind-in2 in
-    let at-put-count7 = c .before .before .before .before .before .before .before .before .put-count7 in
-    let at-put-value2 = c .before .before .before .before .put-value2 in (
-      value-operation (entry .args .types .now) (entry .args .plan .now) (entry .args .counters)
-          (entry .args .regions) (entry .args .references .now) (entry .args .from) _ _ (at-left-in .ensures)
-          (at-right-in .ensures) _ _ _ (omega (arith, at-if2 .left)) (omega (arith, at-if3 .left)) _ _ _
-          (at-class-of .ensures) (at-kind-in .ensures) (at-enum-told6 .given .1) refl _ _ _ _ (at-kind-in2 .ensures)
-          (path-agree _ _ (entry .args .depth) (at-put-value2 .ensures .1 .0)) (at-put-count7 .ensures)
-          (at-put-value2 .ensures .0) (c .put-value3 .ensures .0),
-      (
-        c .put-value3 .ensures .1 .0 ∙
-            at-put-value2 .ensures .1 .0,
-        c .put-value3 .ensures .1 .1,
-      ),
-    )
+  returns-rearranged : put-value-lts.Need-returns-10 (put-value-calls t) (put-value-at t) put-value.Post
+  returns-rearranged c =
+      let k = c .before .before .before .before .before .before .before .before in let a = entry k .args in let q = entry k .pre .1 in
+      let z = c .put-value4 in (
+        value-rearranged (a .types .now) (a .plan .now) (a .counters) (a .regions) (a .references .now) (a .from) _ _
+            (k .before .before .before .before .before .before .left-in .ensures)
+            (k .before .before .before .before .before .right-in .ensures) _ _ _ (omega (arith, k .before .before .before .if2 .left))
+            (omega (arith, k .before .before .if3 .left)) _ _ _ (k .class-of .ensures) (k .before .kind-in .ensures)
+            (c .before .before .before .before .before .before .enum-told7 .given .1) refl _ _ (path-push (a .changes .now) (a .depth) _
+            (omega (arith, q .1, q .2, q .3, k .before .before .before .if2 .left)))
+            (c .before .before .before .before .operand-read .ensures) (z .ensures .0),
+        (below-push (a .changes .now) _ (a .depth) _ (z .ensures .1 .0), z .ensures .1 .1),
+      )
 
-put-value-returns-10 : (t : ℕ) → put-value-lts.Need-returns-10 (put-value-calls t) (put-value-at t) put-value.Post
-put-value-returns-10 t c =
-    let entry = c .before .before .before .before .before .before .before .before .before .before .before
-    .before .before .before .before .before .before in (
-      value-rearranged (entry .args .types .now) (entry .args .plan .now) (entry .args .counters)
-          (entry .args .regions) (entry .args .references .now) (entry .args .from) _ _
-          (c .before .before .before .before .before .before .before .before .before .before .before
-          .before .before .before .left-in .ensures) (c .before .before .before .before .before .before .before .before .before .before .before
-          .before .before .right-in .ensures) _ _ _ (omega arith) (omega arith) _ _ _
-          (c .before .before .before .before .before .before .before .before .class-of .ensures)
-          (c .before .before .before .before .before .before .before .before .before .kind-in .ensures)
-          (c .before .before .before .before .before .before .enum-told7 .given .1) refl _ _
-          (path-push (entry .args .changes .now) (entry .args .depth) _ (omega (
-            arith,
-            entry .pre .1 .1,
-            entry .pre .1 .2,
-            entry .pre .1 .3,
-            c .before .before .before .before .before .before .before .before .before .before .before
-                .if2 .left,
-          ))) (c .before .before .before .before .operand-read .ensures) (c .put-value4 .ensures .0),
-      (
-        below-push (entry .args .changes .now) _ (entry .args .depth) _ (c .put-value4 .ensures .1 .0),
-        c .put-value4 .ensures .1 .1,
-      ),
-    )
+  meets : {M : Type 1} → put-value-lts.Closed (put-value-calls t) (put-value-at t) put-value.Post M
+  meets =
+      put-value-lts.spec (put-value-calls t) (put-value-at t) put-value.Post
+      (λ c. search needs) (λ c. search needs) (λ c κs. search needs) (λ c κs. search needs)
+      (λ c. (put-none-past _ _ _ _ (omega arith), (refl, c .before .before .before .before .before .pre .1 .3))) (λ c κs. search needs)
+      returns-left (λ c κs. search needs) returns-right (λ c κs. search needs) (λ c κs. search needs) (λ c. search needs)
+      (λ c κs. search needs) (λ c κs. search needs) (λ c. search needs) (λ c κs. search needs) (λ c κs. search needs)
+      (λ c κs. search needs)
+      (λ c κs.
+      let q = entry (c .before .before .before .before .before .before .before .before .before .before) .pre .1 in
+      (q .0, omega (arith, q .2))) (λ c. search needs) (λ c κs. search needs) (λ c κs. search needs) (λ c κs. search needs)
+      (λ c κs. search needs)
+      (λ c κs.
+      let q = entry (c .before .before .before .before .before .before .before .before .before .before .before) .pre .1 in
+      (q .0, omega (arith, q .2))) (λ c. search needs) (λ c κs. search needs) (λ c. search needs) (λ c κs. search needs)
+      negated-requires (λ c. search needs) (λ c κs. search needs) (λ c κs. search needs) first-requires second-requires
+      (λ c. search needs) (λ c κs. omega (arith, entry (c .before .before .before) .pre .1 .2)) (λ c. search needs) (λ c. search needs)
+      (λ c. search needs) operand-requires returns-literal returns-input returns-region returns-output returns-negation
+      returns-operation returns-rearranged
 
 pub +put-value-spec : {M : Type 1} → statement M
-+put-value-spec = close μ-put-value λ t. put-value-lts.spec (put-value-calls t)
-    (put-value-at t) put-value.Post (λ c. search needs) (λ c. search needs) (λ c κs. search needs) (λ c κs. search needs)
-    (put-value-returns t) (λ c κs. search needs) (put-value-returns-2 t) (λ c κs. search needs) (put-value-returns-3 t)
-    (λ c κs. search needs) (λ c κs. search needs) (λ c. search needs) (λ c κs. search needs) (λ c κs. search needs)
-    (λ c. search needs) (λ c κs. search needs) (λ c κs. search needs) (λ c κs. search needs) (put-value-put-offset-requires t)
-    (λ c. search needs) (λ c κs. search needs) (λ c κs. search needs) (λ c κs. search needs) (λ c κs. search needs)
-    (put-value-put-offset-requires-2 t) (λ c. search needs) (λ c κs. search needs) (λ c. search needs) (λ c κs. search needs)
-    (put-value-put-value-requires t) (λ c. search needs) (λ c κs. search needs) (λ c κs. search needs)
-    (put-value-put-value-requires-2 t) (put-value-put-value-requires-3 t) (λ c. search needs) (put-value-operand-read-requires t)
-    (λ c. search needs) (λ c. search needs) (λ c. search needs) (put-value-put-value-requires-4 t) (put-value-returns-4 t)
-    (put-value-returns-5 t) (put-value-returns-6 t) (put-value-returns-7 t) (put-value-returns-8 t) (put-value-returns-9 t)
-    (put-value-returns-10 t)
++put-value-spec = close μ-put-value (λ t. meets t)

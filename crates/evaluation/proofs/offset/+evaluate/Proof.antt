@@ -16,7 +16,7 @@ use Rattle.evaluation.proofs.offset.+evaluate.Lts-evaluate as evaluate-
 use Rattle.evaluation.proofs.offset.entry.Reads as entry-reads
 use Rattle.evaluation.proofs.offset.natural.Reads as natural-reads
 use Rattle.evaluation.proofs.offset.scaled.Reads as scaled-reads
-use Rattle.evaluation.proofs.sums.sum.Reads as sum-reads
+use Rattle.evaluation.proofs.capped.sum.Reads as sum-reads
 use Rattle.evaluation.proofs.offset.+evaluate.{statement}
 use Rattle.evaluation.proofs.offset.+evaluate.Tie.{close}
 

@@ -34,18 +34,18 @@ put-line-requires c κs =
 loop-again : tie.Need-loop-again Inv-loop μ-loop
 loop-again c =
     let a = c .before .before .before .before .before .before .before .before .before .before .before .args in
-    let rows-of = c .before .before .before .before .before .before .before .before .rows-of in
+    let row-count = c .before .before .before .before .before .before .before .before .row-count in
     let turn = c .before .before .before .before .before .before .before .loop in
     let put-line = c .before .before .put-line in
     let line = ap (λ (z : ℤ). written words (getD (a .kinds .now) (turn .i) 0, z))
     (held (getD (a .numbers .now) (turn .i) (pos 0)) (c .before .before .before .before .put-line-arg .given)) in
     let left = size-from words (a .kinds .now) (a .numbers .now) (turn .i)
-    (omega (arith, rows-of .ensures .0, c .before .before .before .before .before .before .loop-test .taken)) in (
+    (omega (arith, row-count .ensures .0, c .before .before .before .before .before .before .loop-test .taken)) in (
       search needs,
       ap length (put-line .ensures .1) ∙ simp length-sets (turn .inv .1),
       omega (arith, turn .inv .2, left, put-line .ensures .0, ap length line),
       text-put words (a .kinds .now) (a .numbers .now) (turn .i)
-          (omega (arith, rows-of .ensures .0, c .before .before .before .before .before .before .loop-test .taken))
+          (omega (arith, row-count .ensures .0, c .before .before .before .before .before .before .loop-test .taken))
           (turn .text) _ _ _ (turn .at) (put-line .result) line (put-line .ensures .0) (put-line .ensures .1) (turn .inv .3),
     )
 
@@ -57,7 +57,7 @@ returns c =
     let a = c .before .before .before .before .before .args in
     let turn = c .before .loop in
     ap (sets (turn .text) (turn .at)) (sym (text-end words (a .kinds .now) (a .numbers .now) (turn .i) (omega
-    (arith, c .before .before .rows-of .ensures .0, c .loop-test .left)))) ∙ turn .inv .3
+    (arith, c .before .before .row-count .ensures .0, c .loop-test .left)))) ∙ turn .inv .3
 
 pub put-text-spec : {M : Type 1} → statement M
 put-text-spec =

@@ -34,7 +34,7 @@ returns c =
     (c .before .before .line-size-arg .given)) in
     let rest = size-from words (a .kinds .now) (a .numbers .now) (turn .i) (omega (
       arith,
-      c .before .before .before .before .before .before .rows-of .ensures .0,
+      c .before .before .before .before .before .before .row-count .ensures .0,
       c .before .before .before .before .loop-test .taken,
     )) in
     too-long (textOf words (rowsOf (a .kinds .now) (a .numbers .now))) (a .room) (omega (
@@ -55,7 +55,7 @@ loop-again c =
     (c .before .before .line-size-arg .given)) in
     let rest = size-from words (a .kinds .now) (a .numbers .now) (turn .i) (omega (
       arith,
-      c .before .before .before .before .before .before .rows-of .ensures .0,
+      c .before .before .before .before .before .before .row-count .ensures .0,
       c .before .before .before .before .loop-test .taken,
     )) in
     (search needs, omega (arith, c .if1 .left, turn .inv .1), omega (arith, turn .inv .2, size, rest))
@@ -69,7 +69,7 @@ returns-2 c =
       turn .inv .2,
       ap length (text-end words (a .kinds .now) (a .numbers .now) (turn .i) (omega (
         arith,
-        c .before .before .rows-of .ensures .0,
+        c .before .before .row-count .ensures .0,
         c .loop-test .left,
       ))),
     )) (turn .inv .1)

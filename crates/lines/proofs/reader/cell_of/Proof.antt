@@ -1,7 +1,7 @@
 -- `cell_of` meets its contract: a number not below 0 names the cell of that number.
 use mathlib.Core.Path.{sym, ap}
 use borrow.Author.Needs.{needs}
-use Rattle.lines.specs.Reading.{cellOf}
+use Rattle.lines.specs.Reading.{cellNamed}
 use Rattle.lines.proofs.Cells.{no-cell, cell-fits, cell}
 use Rattle.lines.proofs.reader.cell_of.Statement.{statement}
 use Rattle.lines.proofs.reader.cell_of.Tie as tie
@@ -21,7 +21,7 @@ returns-2 c =
     cell (c .before .before .number .given .1) (record { sfits = c .before .known-told .given .0 .1 }) (c .if1 .left)
 
 returns-3 : tie.Need-returns-3
-returns-3 c = ap cellOf (sym (c .enum-told .given .1))
+returns-3 c = ap cellNamed (sym (c .enum-told .given .1))
 
 pub cell-of-spec : {M : Type 1} → statement M
 cell-of-spec = tie.close (tie.spec (λ c. search needs) returns cast-t5 (λ c. search needs) returns-2 returns-3)

@@ -2,7 +2,7 @@
 use mathlib.Core.Path.{sym, ap, _∙_}
 use borrow.Author.Needs.{needs}
 use Rattle.words.specs.Words.{words}
-use Rattle.lines.specs.Reading.{cellOf, headOf}
+use Rattle.lines.specs.Reading.{cellNamed, headOf}
 use Rattle.lines.specs.declared.Heads.{Heads}
 use Rattle.lines.proofs.reader.head_of.Statement.{statement}
 use Rattle.lines.proofs.reader.head_of.Tie as tie
@@ -16,7 +16,7 @@ returns c =
 returns-2 : tie.Need-returns-2
 returns-2 c =
     c .cell-of .ensures
-    ∙ ap cellOf (c .before .read .ensures)
+    ∙ ap cellNamed (c .before .read .ensures)
     ∙ ap (λ (h : Heads). headOf words h (c .before .before .before .before .before .args .bytes .now))
     (sym (c .before .before .enum-told2 .given .1))
 

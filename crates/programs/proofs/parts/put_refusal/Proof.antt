@@ -1,7 +1,7 @@
 -- `put_refusal` meets its contract: the parts of the line one after the other, where they fit.
 use mathlib.Core.Path.{_∙_}
 use native.Mathlib.Omega.{arith}
-use Rattle.programs.specs.Printed.{refusalLine}
+use Rattle.programs.specs.Printed.{refusalText}
 use Rattle.programs.proofs.Putting.{put-all, put-none, refusal-sizes, refusal-put}
 use borrow.Author.Needs.{needs}
 use Rattle.programs.proofs.parts.put_refusal.Statement.{statement}
@@ -11,7 +11,7 @@ returns : tie.Need-returns
 returns c =
     let args = c .before .before .before .args in
     let refusal-size = c .before .refusal-size in (
-      put-none (refusalLine (args .refusal)) (args .text .now) (omega (arith, refusal-size .ensures .0)),
+      put-none (refusalText (args .refusal)) (args .text .now) (omega (arith, refusal-size .ensures .0)),
       omega (arith, refusal-size .ensures .0, refusal-size .ensures .1),
     )
 
@@ -52,7 +52,7 @@ returns-2 c =
     let line = c .before .before .before .before .before .before .before .before .before .before .before .before .before .line in
     let put-natural = c .before .before .before .before .before .before .put-natural in
     let put-bytes = c .before .before .before .before .before .before .before .before .before .before .put-bytes in (
-      put-all (refusalLine (args .refusal)) (args .text .now) (size .result) (size .ensures .0) (if1 .left)
+      put-all (refusalText (args .refusal)) (args .text .now) (size .result) (size .ensures .0) (if1 .left)
           (refusal-put (args .refusal) (number .result) (line .result) (number .ensures) (line .ensures) (args .text .now)
           (put-natural .result) (put-bytes .ensures) (put-natural .ensures .0) (put-natural .ensures .1) (c .before .before .put-natural2 .ensures .1)),
       omega (arith, size .ensures .0, size .ensures .1),

@@ -1,11 +1,11 @@
 -- `cells_in` meets its contract. The loop's invariant: the cells so far and those of the rows still left are all.
-use mathlib.Core.Path.{_≡_, ap, _∙_}
+use mathlib.Core.Path.{_≡_, _∙_}
 use native.Mathlib.Omega.{arith}
-use Prim.Native.Nat.{ℕ, _+_, _*_, _-_, _≤_}
+use Prim.Native.Nat.{_+_, _*_, _-_, _≤_}
 use lib.IntN.{pos}
 use lib.ListN.{length, getD, drop}
 use Rattle.meaning.specs.Layout.{allCells}
-use Rattle.syntax.specs.Ranges.{cellsOf}
+use Rattle.syntax.specs.Ranges.{cellNumbers}
 use Rattle.syntax.proofs.Numbers.{natural-of}
 use Rattle.programs.proofs.Tables.{cells-next, cells-end}
 use borrow.Author.Needs.{needs}
@@ -14,7 +14,7 @@ use Rattle.programs.proofs.table.cells_in.Tie as tie
 
 abbrev Inv-loop : tie.InvT-loop
 Inv-loop numbers cells₀ i₀ cells i =
-    (i ≤ length numbers) × (cells ≤ 2147483648 * i) × (cells + allCells (cellsOf (drop i numbers)) ≡ allCells (cellsOf numbers))
+    (i ≤ length numbers) × (cells ≤ 2147483648 * i) × (cells + allCells (cellNumbers (drop i numbers)) ≡ allCells (cellNumbers numbers))
 
 abbrev μ-loop : tie.MeasureT-loop
 μ-loop numbers cells₀ i₀ cells i = length numbers - i

@@ -2,7 +2,7 @@
 use Prim.Native.Nat.{_+_}
 use native.Mathlib.Omega.{arith}
 use lib.IntN.{pos}
-use lib.ListN.{getD, drop, length-take, length-drop}
+use lib.ListN.{getD, length-take, length-drop}
 use Rattle.syntax.proofs.Numbers.{natural-of}
 use Rattle.programs.proofs.Tables.{inputs-are, first-row, laid-out}
 use borrow.Author.Needs.{needs}

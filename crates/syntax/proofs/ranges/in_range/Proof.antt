@@ -5,7 +5,8 @@ use mathlib.Core.List.{[], _∷_}
 use lib.Dec.{leb}
 use borrow.Author.Needs.{needs}
 use Rattle.words.specs.Kinds.{word-plan, word-loops}
-use Rattle.syntax.specs.Ranges.{oneOf, inRange}
+use Rattle.words.specs.Groups.{oneOf}
+use Rattle.syntax.specs.Ranges.{inRange}
 use Rattle.syntax.proofs.Words.{at-one, range-rest}
 use Rattle.syntax.proofs.ranges.in_range.Statement.{statement}
 use Rattle.syntax.proofs.ranges.in_range.Tie as tie

@@ -1,0 +1,14 @@
+-- `regrouped` meets its contract: its test is that of the definition.
+use mathlib.Core.Path.{refl}
+use borrow.Author.Tests.{ne-eqb}
+use Rattle.clauses.proofs.parts.regrouped.Statement.{statement}
+use Rattle.clauses.proofs.parts.regrouped.Tie as tie
+
+returns : tie.Need-returns
+returns c = rw (c .if1 .taken) refl
+
+returns-2 : tie.Need-returns-2
+returns-2 c = rw (ne-eqb _ _ (c .if1 .left)) refl
+
+pub regrouped-spec : {M : Type 1} → statement M
+regrouped-spec = tie.close (tie.spec returns returns-2)

@@ -1,0 +1,10 @@
+pub mod TypeLaws
+pub mod Stages
+pub mod TermLaws
+pub mod NotedLaws
+pub mod TermAnswers
+pub mod TermSteps
+pub mod SecondSteps
+pub mod BodySteps
+pub mod InputLaws
+pub mod PlanLaws

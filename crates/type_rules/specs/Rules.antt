@@ -1,0 +1,101 @@
+-- Questions 7 and 8, [10.7] and [10.8], on a row whose operands have types, by the row's kind and number; and what it is that the code
+-- found what the check says. Definitions only; assumes nothing.
+use mathlib.Core.Path.{_≡_}
+use mathlib.Core.Bool.{Bool, true, cond, _&&_}
+use mathlib.Core.List.{List, _∷_}
+use Prim.Native.Nat.{ℕ, _+_, _*_, _/_, _≤_, _<_}
+use lib.Dec.{eqb}
+use lib.ListN.{length}
+use Rattle.words.specs.Kinds.{word-neg, word-zip, word-pair, word-split, word-join, word-fst, word-snd}
+use Rattle.words.specs.Groups.{isMap}
+use Rattle.meaning.specs.Types.{DataType, number, array, arrayLength, element, firstType, secondType}
+use Rattle.type_table.specs.Table.{typeAt, Sound}
+use Rattle.typing.specs.Check.{Verdict, typed, refused, isNumber, isArray, isPair, sameType, zipFits, splitFits, joinFits, indexFits, sized, fitted}
+use Rattle.type_rules.specs.declared.Typing.{Typing}
+use Rattle.type_rules.specs.declared.Typing.the-variants.{Typed, Refused}
+
+-- ---- the rules, [5.3] to [5.10]
+
+-- [5.8] `split,n`: an array whose length n divides.
+unfoldable pub splitRule : ℕ → ℕ → DataType → Verdict
+splitRule n line t = fitted line (splitFits n t) (array (arrayLength t / n) (array n (element t)))
+
+-- [5.9] `join`: an array of arrays.
+unfoldable pub joinRule : ℕ → DataType → Verdict
+joinRule line t = fitted line (joinFits t) (array (arrayLength t * arrayLength (element t)) (element (element t)))
+
+-- [5.7] `fst` and `snd`: a pair.
+unfoldable pub firstRule : ℕ → DataType → Verdict
+firstRule line t = fitted line (isPair t) (firstType t)
+
+unfoldable pub secondRule : ℕ → DataType → Verdict
+secondRule line t = fitted line (isPair t) (secondType t)
+
+-- [5.10] `idx,k`: an array of more than k elements.
+unfoldable pub indexRule : ℕ → ℕ → DataType → Verdict
+indexRule k line t = fitted line (indexFits k t) (element t)
+
+-- [5.3] `neg`: a number.
+unfoldable pub negateRule : ℕ → DataType → Verdict
+negateRule line t = fitted line (isNumber t) number
+
+-- a row of one operand
+unfoldable pub unaryRule : ℕ → ℕ → ℕ → DataType → Verdict
+unaryRule k n line t =
+    cond (eqb k word-neg) (negateRule line t)
+    (cond (eqb k word-split) (splitRule n line t)
+    (cond (eqb k word-join) (joinRule line t)
+    (cond (eqb k word-fst) (firstRule line t)
+    (cond (eqb k word-snd) (secondRule line t)
+    (indexRule n line t)))))
+
+-- [5.6] `zip`: two arrays of one length.
+unfoldable pub zipRule : ℕ → DataType → DataType → Verdict
+zipRule line s t = fitted line (zipFits s t) (array (arrayLength s) (DataType.pair (element s) (element t)))
+
+-- [5.4] A map over an array of type s with a body of type t
+unfoldable pub mapRule : ℕ → DataType → DataType → Verdict
+mapRule line s t = fitted line (isArray s) (array (arrayLength s) t)
+
+-- [5.3] An operation: two numbers.
+unfoldable pub operationRule : ℕ → DataType → DataType → Verdict
+operationRule line s t = fitted line (isNumber s && isNumber t) number
+
+-- [5.4] The names in force in a row's second operand, the first having the type t; [5.11] a map's body stands over an array.
+abbrev pub opensSecond : ℕ → DataType → Bool
+opensSecond k t = cond (isMap k) (isArray t) true
+
+abbrev pub secondScope : ℕ → DataType → List DataType → List DataType
+secondScope k t Γ = cond (isMap k) (element t ∷ Γ) Γ
+
+-- a row of two operands
+unfoldable pub binaryRule : ℕ → ℕ → DataType → DataType → Verdict
+binaryRule k line s t =
+    cond (isMap k) (mapRule line s t)
+    (cond (eqb k word-zip) (zipRule line s t)
+    (cond (eqb k word-pair) (sized line (DataType.pair s t))
+    (operationRule line s t)))
+
+-- [5.5] A reduction with a start of type s and a body of type u
+unfoldable pub reduceRule : ℕ → DataType → DataType → Verdict
+reduceRule line s u = fitted line (sameType u s) s
+
+-- ---- what was found
+
+-- n types stand in T′, and the m of T are among them as they were
+pub record Grown (T : List ℕ) (m : ℕ) (T′ : List ℕ) (n : ℕ) : Type 0 where
+  pub more : m ≤ n
+  pub sound : Sound T′ n
+  pub kept : (i : ℕ) → i < m → typeAt T′ i ≡ typeAt T i
+  pub size : length T′ ≡ length T
+
+-- The code's answer is the verdict v: the type of a term of so many rows, at most n types standing in the table; or the refusal.
+abbrev pub Found : List ℕ → ℕ → List ℕ → ℕ → ℕ → Verdict → Typing → Type 0
+Found T m T′ n rows v (Typed p r l) = (v ≡ typed (typeAt T′ p)) × (r ≡ rows) × (p < l) × (l ≤ n) × Grown T m T′ l
+Found T m T′ n rows v (Refused q) = v ≡ refused q
+
+-- m types stand in T, with room for n more
+pub record Room (T : List ℕ) (m n : ℕ) : Type 0 where
+  pub sound : Sound T m
+  pub places : m + n ≤ length T
+  pub few : m + n ≤ 65536

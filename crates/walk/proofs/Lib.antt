@@ -1,5 +1,0 @@
-pub mod RowCounts
-pub mod TermRows
-pub mod Calls
-pub mod WriteCalls
-pub mod ReduceCalls
