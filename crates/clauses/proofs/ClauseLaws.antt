@@ -1,4 +1,4 @@
--- The steps' ways out, over plain variables. Assumes nothing.
+-- The clauses' ways out, over plain variables. Assumes nothing.
 use mathlib.Core.Path.{_≡_, refl, ap, ap₂, sym, subst, _∙_}
 use mathlib.Core.List.{List}
 use Prim.Native.Nat.{ℕ, suc, _+_, _≤_, _<_}

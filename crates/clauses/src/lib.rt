@@ -1,4 +1,4 @@
-// What one word of a term does in the translation, around the calls for its operands. Here are the steps of using a term
+// What one word of a term does in the translation, around the calls for its operands. Here are the clauses of using a term
 // ([6.12] to [6.15]): its node over those of its operands, the region of a used map, and where the translation goes on.
 ghost use mathlib.Core.Path.{_≡_};
 ghost use Prim.Native.Nat.{_+_, _≤_, _<_};

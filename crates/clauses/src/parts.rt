@@ -1,4 +1,4 @@
-// The steps of writing a term whose operands are written into parts of its place: `zip` and `pair` [6.9], `split` and `join` [6.10].
+// The clauses of writing a term whose operands are written into parts of its place: `zip` and `pair` [6.9], `split` and `join` [6.10].
 ghost use mathlib.Core.Path.{_≡_};
 ghost use Prim.Native.Nat.{_<_};
 ghost use lib.IntN.{pos};

@@ -1,5 +1,5 @@
 -- What it means that a lent table passes the check: what Theorems says of rows, said of a table. It rests on `checkTable` of Check and on
--- `Accepted` and `FirstNo` of Theorems. Assumes nothing.
+-- `Accepted` of Theorems. Assumes nothing.
 use mathlib.Core.Bool.{Bool, true, false, cond}
 use mathlib.Core.Path.{_≡_, refl, sym, ap, _∙_}
 use mathlib.Core.List.{List, []}

@@ -1,5 +1,5 @@
--- What it means that a loops text passes the check, and what is read into a lent table. It rests on `checkLoopsText` of Check, `Accepted` and
--- `FirstNo` of Theorems, and on the reading of `lines`. ws is any table of words. Assumes nothing.
+-- What it means that a loops text passes the check, and what is read into a lent table. It rests on `checkLoopsText` of Check, `Accepted` of
+-- Theorems, and on the reading of `lines`. ws is any table of words. Assumes nothing.
 use mathlib.Core.Bool.{Bool, true, false, cond, _&&_}
 use mathlib.Core.Path.{_≡_, refl, sym, ap, _∙_}
 use mathlib.Core.List.{List, []}

@@ -1,4 +1,4 @@
--- `bound_check::ask_command` meets its contract: each return is a law of Asks, with the names in force before the row and after
+-- `row_bounds::ask_command` meets its contract: each return is a law of Commands, with the names in force before the row and after
 -- it. The rows fall with each call.
 use lib.Dec.{eqb}
 use Prim.Native.Nat.{min, ℕ, _+_, _*_, _-_, _≤_, _<_}

@@ -1,4 +1,4 @@
--- `bound_check::ask_loops` meets its contract: the parts of a table that holds the rows of loops lie where LoopsTable says.
+-- `row_bounds::ask_loops` meets its contract: the parts of a table that holds the rows of loops lie where LoopsTable says.
 use mathlib.Core.Path.{_≡_, refl}
 use native.Mathlib.Omega.{arith}
 use Prim.Native.Nat.{_+_, _-_}

@@ -1,4 +1,4 @@
--- `bound_check::once` meets its contract: each case is one of the definition's.
+-- `row_bounds::once` meets its contract: each case is one of the definition's.
 use mathlib.Core.Path.{sym, ap}
 use native.Mathlib.Omega.{arith}
 use Rattle.syntax.specs.Walk.{passed}

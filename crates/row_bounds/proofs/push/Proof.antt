@@ -1,4 +1,4 @@
--- `bound_check::push` meets its contract: what was put lies on top, and what was in force stays.
+-- `row_bounds::push` meets its contract: what was put lies on top, and what was in force stays.
 use mathlib.Core.Path.{_≡_, refl}
 use native.Mathlib.Omega.{arith}
 use Prim.Native.Nat.{ℕ, _-_}

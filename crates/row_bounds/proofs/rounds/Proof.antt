@@ -1,4 +1,4 @@
--- `bound_check::rounds` meets its contract: both branches of the same test.
+-- `row_bounds::rounds` meets its contract: both branches of the same test.
 use mathlib.Core.Path.{sym, ap, _∙_}
 use mathlib.Core.Bool.{Bool, cond}
 use borrow.Author.Needs.{needs}

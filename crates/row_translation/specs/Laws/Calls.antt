@@ -1,4 +1,4 @@
--- What the code is given for their calls, step by step: the operand stands, with the variables as they are then; and there is
+-- What the code is given for its calls, one after the other: the operand stands, with the variables as they are then; and there is
 -- room. Assumes nothing.
 use mathlib.Core.Path.{_≡_, ap, sym, _∙_}
 use mathlib.Core.Bool.{true, false}

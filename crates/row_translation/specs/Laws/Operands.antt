@@ -1,4 +1,4 @@
--- Where a term stands, its operands stand: what the code is given for their calls. Assumes nothing.
+-- Where a term stands, its operands stand: what the code is given for its calls. Assumes nothing.
 use mathlib.Core.Path.{_≡_, ap, sym, subst, _∙_}
 use mathlib.Core.List.{List, _∷_}
 use Prim.Native.Nat.{ℕ, suc, _+_, _-_, _≤_, _<_}

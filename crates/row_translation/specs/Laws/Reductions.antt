@@ -1,4 +1,4 @@
--- A use of a reduction from the uses of its array and its start, the write of its body and the steps around them. The place of
+-- A use of a reduction from the uses of its array and its start, the write of its body and the clauses around them. The place of
 -- its type is p, a rows are those of its start. Assumes nothing.
 use mathlib.Core.Path.{_≡_, refl, ap, ap₂, sym, _∙_}
 use mathlib.Core.List.{List, _∷_, _++_}

@@ -1,4 +1,4 @@
--- A use of a term from the uses of its operands and the step around them: one law for each way out. o is the table of rows at
+-- A use of a term from the uses of its operands and the clause around them: one law for each way out. o is the table of rows at
 -- the beginning; kinds and numbers at the end are K and M. Assumes nothing.
 use mathlib.Core.Path.{_≡_, refl, ap, ap₂, sym, _∙_}
 use mathlib.Core.Bool.{true, false}

@@ -1,4 +1,4 @@
--- `bound_check::assignments::value` meets its contract: each return is a law of Readings. The rows fall with each call.
+-- `row_bounds::assignments::value` meets its contract: each return is a law of Readings. The rows fall with each call.
 use mathlib.Core.Path.{_≡_, refl, ap}
 use native.Mathlib.Omega.{arith}
 use Prim.Native.Nat.{ℕ, _+_, _≤_, _<_}

@@ -1,4 +1,4 @@
--- `bound_check::assignments::assignment` meets its contract: the place first, and then the value behind it.
+-- `row_bounds::assignments::assignment` meets its contract: the place first, and then the value behind it.
 use mathlib.Core.Path.{refl, ap}
 use native.Mathlib.Omega.{arith}
 use Prim.Native.Nat.{_≤_}

@@ -1,4 +1,4 @@
--- `bound_check::assignments::input_cells` meets its contract: the number that is read is the row's.
+-- `row_bounds::assignments::input_cells` meets its contract: the number that is read is the row's.
 use lib.ListN.{getD}
 use lib.IntN.{pos}
 use borrow.Author.Needs.{needs}

@@ -1,4 +1,4 @@
--- `bound_check::assignments::reading` meets its contract: the bound that `largest` gives is compared, as `askOffset` has it.
+-- `row_bounds::assignments::reading` meets its contract: the bound that `largest` gives is compared, as `askOffset` has it.
 use native.Mathlib.Omega.{arith}
 use borrow.Author.Needs.{needs}
 use Rattle.syntax.proofs.Front as table
