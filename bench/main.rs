@@ -1,17 +1,22 @@
 // The run of the static library beside a plain interpreter in Rust, on the loops of five plans of about ten million writes: nanoseconds for
-// each write, the least of several turns.
+// each write, the least of several turns. Then the check of the longest plan, in the built-in words and in German: microseconds for each check.
 use std::time::Instant;
 
 mod interpreter;
 
 #[link(name = "vazhdumir", kind = "static")]
 extern "C" {
+    fn vazhdumir_check_plan(plan: *const u8, plan_len: usize) -> u64;
+    fn vazhdumir_check_plan_in(words: *const u8, words_len: usize, plan: *const u8, plan_len: usize) -> u64;
     fn vazhdumir_translate(plan: *const u8, plan_len: usize, loops: *mut u8, loops_len: usize) -> u64;
     fn vazhdumir_need(loops: *const u8, loops_len: usize) -> u64;
     fn vazhdumir_run(loops: *const u8, loops_len: usize, order: u32, store: *mut u8, store_len: usize) -> u64;
 }
 
 const TURNS: usize = 5;
+const CHECKS: usize = 10_000;
+
+const GERMAN: &str = include_str!("../examples/german.words");
 
 const PLANS: [(&str, &str); 5] = [
     ("dot product", include_str!("dot.plan")),
@@ -37,6 +42,37 @@ fn loops_of(plan: &str) -> String {
     String::from_utf8(text).unwrap()
 }
 
+// A plan of 256 lines, operations on numbers, in the words that `own` gives for the built-in ones.
+fn longest_plan(own: impl Fn(&str) -> String) -> String {
+    let operations = ["add", "sub", "mul", "div", "min", "max"];
+    let mut rows = vec![("plan", 1), ("two", 0), ("num", 0), ("num", 0), ("snd", 0), ("in", 0)];
+    while rows.len() + 2 <= 256 {
+        let last = rows.len();
+        rows.insert(4, (operations[last % 6], 0));
+        rows.push(("lit", -2147483648 + last as i64));
+    }
+    rows.iter().map(|(word, number)| format!("{},{number}\n", own(word))).collect()
+}
+
+// The microseconds of a check, the least of several turns.
+fn checked(begin: Instant, check: impl Fn() -> u64) -> f64 {
+    let turn = || {
+        let before = clock(begin);
+        (0..CHECKS).for_each(|_| assert_eq!(check(), 0));
+        (clock(begin) - before) / (1000 * CHECKS) as f64
+    };
+    (0..TURNS).map(|_| turn()).fold(f64::MAX, f64::min)
+}
+
+fn checks(begin: Instant) {
+    let plain = longest_plan(|word| word.into());
+    let own = |word: &str| GERMAN.lines().find_map(|line| line.strip_prefix(word)?.strip_prefix(',')).unwrap().to_string();
+    let german = longest_plan(own);
+    let built_in = checked(begin, || unsafe { vazhdumir_check_plan(plain.as_ptr(), plain.len()) });
+    let worded = checked(begin, || unsafe { vazhdumir_check_plan_in(GERMAN.as_ptr(), GERMAN.len(), german.as_ptr(), german.len()) });
+    println!("check of a plan of {} lines: {built_in:.1} microseconds, in German words {worded:.1}", plain.lines().count());
+}
+
 fn main() {
     let begin = Instant::now();
     println!("{:22} {:>10} {:>8} {:>8} {:>6}", "plan", "writes", "ours", "plain", "ratio");
@@ -60,4 +96,5 @@ fn main() {
         }
         println!("{name:22} {writes:>10} {ours:>8.1} {beside:>8.1} {:>6.2}", ours / beside);
     }
+    checks(begin);
 }

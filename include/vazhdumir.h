@@ -9,6 +9,12 @@
  * where an int32_t may. A slice that an entry writes must not overlap another that the same call is given, nor be used by anyone else
  * while the call lasts [12.5].
  *
+ * Words. An entry whose name ends in `_in` takes a words text before all else: 38 lines, each a built-in word, a comma and the installer's
+ * own word for it [16.1]. Plans and loops are then read and printed in the own words alone [16.3]. Its questions 16 and 17 come first [16.6];
+ * in everything else it is as the entry without `_in` [16.7], which has the built-in words. No words text has more than 511 bytes [13.18]: of a
+ * longer file 512 are enough to have it refused. The text is read anew at each call. An empty one is refused by
+ * 16: for the built-in words call the entry without `_in`. Kinds are the same under all words.
+ *
  * Store. A store is lent as bytes; each cell is four of them, the lowest first, in two's complement [9.11]. One to three bytes left over are not
  * touched. The cells of the inputs come first, then those of the output, then those of the regions [7.5].
  *
@@ -50,7 +56,9 @@ enum vazhdumir_refusal_number {
     VAZHDUMIR_REFUSAL_LENT_SIZE = 12,         /* a lent table or text is too short */
     VAZHDUMIR_REFUSAL_UNKNOWN_ORDER = 13,     /* an order that has no name */
     VAZHDUMIR_REFUSAL_STORE_SIZE = 14,        /* the store is too short */
-    VAZHDUMIR_REFUSAL_VALUE_LINES = 15        /* not one line for each input cell */
+    VAZHDUMIR_REFUSAL_VALUE_LINES = 15,       /* not one line for each input cell */
+    VAZHDUMIR_REFUSAL_WORDS_FORM = 16,        /* the words text is not the 38 lines that it should be */
+    VAZHDUMIR_REFUSAL_WORD_TWICE = 17         /* an own word is given twice */
 };
 
 /* The kinds of rows in a table: a word's place among the 38. */
@@ -94,6 +102,23 @@ uint64_t vazhdumir_run(const uint8_t *loops, size_t loops_len, uint32_t order, u
 /* The same on a table of kinds (enum vazhdumir_kind) and numbers, whoever made it: its kinds are asked question 2, and then 3 to 6. */
 uint64_t vazhdumir_run_rows(const uint8_t *kinds, size_t kinds_len, const int32_t *numbers, size_t numbers_len, uint32_t order,
                             uint8_t *store, size_t store_len);
+
+/* The same entries for texts in the words of a words text [16.7]: questions 16 and 17, then those of the entry without `_in`. Values and
+ * lent slices are as there; the bytes of loops are counted in the own words, and 65,536 are still enough [16.9]. */
+uint64_t vazhdumir_check_plan_in(const uint8_t *words, size_t words_len, const uint8_t *plan, size_t plan_len);
+
+uint64_t vazhdumir_translate_in(const uint8_t *words, size_t words_len, const uint8_t *plan, size_t plan_len, uint8_t *loops,
+                                size_t loops_len);
+
+uint64_t vazhdumir_check_loops_in(const uint8_t *words, size_t words_len, const uint8_t *loops, size_t loops_len);
+
+uint64_t vazhdumir_read_loops_in(const uint8_t *words, size_t words_len, const uint8_t *loops, size_t loops_len, uint8_t *kinds,
+                                 size_t kinds_len, int32_t *numbers, size_t numbers_len);
+
+uint64_t vazhdumir_need_in(const uint8_t *words, size_t words_len, const uint8_t *loops, size_t loops_len);
+
+uint64_t vazhdumir_run_in(const uint8_t *words, size_t words_len, const uint8_t *loops, size_t loops_len, uint32_t order, uint8_t *store,
+                          size_t store_len);
 
 #ifdef __cplusplus
 }

@@ -12,7 +12,7 @@
 //   NAME.EXTENSION         a file for the commands: the first word of each line
 //
 // The programs, the library and the second implementation are asked, each that can be. Commands are typed in one folder, from the
-// first page on.
+// first page on; `target` and `examples` stand in it.
 //
 //   documents TARGET FILE..
 use std::path::{Path, PathBuf};
@@ -163,6 +163,7 @@ fn main() {
     std::fs::create_dir_all(&folder).unwrap();
     let target = Path::new(&args[1]).canonicalize().unwrap();
     std::os::unix::fs::symlink(&target, folder.join("target")).unwrap();
+    std::os::unix::fs::symlink(Path::new("examples").canonicalize().unwrap(), folder.join("examples")).unwrap();
     let mut tester = Tester { target, folder, commands: 0 };
     let mut checked = 0;
     for file in &args[2..] {
@@ -181,9 +182,12 @@ fn main() {
             assert!(missing.is_empty(), "{file} has no value for {missing:?}");
         }
     }
-    let garage = std::fs::read_to_string(tester.folder.join("garage.plan")).unwrap();
-    same("the garage's plan", "README.md", &garage, &std::fs::read_to_string("examples/garage.plan").unwrap());
-    println!("README.md has the plan of examples/garage.plan");
+    for (page, name) in [("README.md", "garage.plan"), ("docs/GUIDE.md", "german.words")] {
+        let shown = std::fs::read_to_string(tester.folder.join(name)).unwrap();
+        same("the file shown", page, &shown, &std::fs::read_to_string(Path::new("examples").join(name)).unwrap());
+        println!("{page} has the lines of examples/{name}");
+    }
+    assert!(!tester.folder.join("words.txt").exists(), "the last page leaves a words file behind");
     std::fs::remove_dir_all(&tester.folder).unwrap();
     println!("{checked} examples of the documents hold");
 }

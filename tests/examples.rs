@@ -16,6 +16,8 @@
 //   run        vazhdumir_run, and vazhdumir_read_loops with vazhdumir_run_rows
 //   fill       the runner, of loops that copy the input cells to the output
 //   runner     the runner
+// Of a words text, the check asks every entry that takes one, and both programs, with a plan and loops in those words. Where words are
+// given beside a plan or loops, the entries that take them answer ([16.7]), and the programs with that `words.txt` ([16.8]).
 use std::collections::BTreeMap;
 use std::path::{Path, PathBuf};
 use std::process::Command;
@@ -25,6 +27,8 @@ mod entries;
 mod process;
 #[allow(dead_code)]
 mod reference;
+#[allow(dead_code)]
+mod wording;
 
 use process::output;
 
@@ -49,6 +53,11 @@ impl Example {
 
     fn text(&self, name: &str) -> Vec<u8> {
         text(self.given(name).unwrap())
+    }
+
+    // The words text, if one is given.
+    fn words(&self) -> Option<Vec<u8>> {
+        words_text(self.given("words")?)
     }
 
     // What is asked, of which text.
@@ -123,6 +132,34 @@ fn text(written: &str) -> Vec<u8> {
     bytes
 }
 
+// A words text: the built-in words for themselves, with these changes; none at all if that is said.
+fn words_text(written: &str) -> Option<Vec<u8>> {
+    let mut lines: Vec<Vec<u8>> = reference::WORDS.iter().map(|built_in| line(&format!("{built_in},{built_in}"))).collect();
+    let mut ended = true;
+    for change in written.split_whitespace() {
+        let parts: Vec<&str> = change.split(':').collect();
+        let place = |part: usize| parts[part].parse::<usize>().unwrap();
+        match parts[0] {
+            "@none" => return None,
+            "@nothing" => lines.clear(),
+            "@cut" => ended = false,
+            "@swap" => lines.swap(place(1), place(2)),
+            "@drop" => drop(lines.remove(place(1))),
+            "@add" => lines.push(line(parts[1])),
+            _ => {
+                let (built_in, own) = change.split_once('=').unwrap();
+                let kind = reference::WORDS.iter().position(|word| *word == built_in).unwrap();
+                lines[kind] = line(&format!("{built_in},{own}"));
+            }
+        }
+    }
+    let mut bytes = lines.concat();
+    if !ended {
+        bytes.pop();
+    }
+    Some(bytes)
+}
+
 fn cells(written: &str) -> Vec<i32> {
     written.split_whitespace().map(|cell| cell.parse().unwrap()).collect()
 }
@@ -157,9 +194,9 @@ fn alike(mut answers: Vec<String>) -> String {
 }
 
 // The loops made from a plan in a text of so many bytes; or the refusal.
-fn made(plan: &[u8], bytes: usize) -> Result<Vec<u8>, String> {
+fn made(words: Option<&[u8]>, plan: &[u8], bytes: usize) -> Result<Vec<u8>, String> {
     let mut lent = vec![b'?'; bytes];
-    let answer = entries::translate(plan, &mut lent);
+    let answer = entries::translate_in(words, plan, &mut lent);
     let put = if refused(&answer) { 0 } else { answer.parse().unwrap() };
     assert!(lent[put..].iter().all(|byte| *byte == b'?'), "bytes behind the loops have changed");
     lent.truncate(put);
@@ -167,9 +204,9 @@ fn made(plan: &[u8], bytes: usize) -> Result<Vec<u8>, String> {
 }
 
 // A text of loops in a table of so many rows; or the refusal.
-fn table(loops: &[u8], rows: usize) -> Result<(Vec<u8>, Vec<i32>), String> {
+fn table(words: Option<&[u8]>, loops: &[u8], rows: usize) -> Result<(Vec<u8>, Vec<i32>), String> {
     let (mut kinds, mut numbers) = (vec![0; rows], vec![0; rows]);
-    let answer = entries::read_loops(loops, &mut kinds, &mut numbers);
+    let answer = entries::read_loops_in(words, loops, &mut kinds, &mut numbers);
     if refused(&answer) {
         return Err(answer);
     }
@@ -177,26 +214,26 @@ fn table(loops: &[u8], rows: usize) -> Result<(Vec<u8>, Vec<i32>), String> {
     Ok((kinds[..put].to_vec(), numbers[..put].to_vec()))
 }
 
-fn translate(example: &Example) -> Result<String, String> {
-    let loops = made(&example.text("plan"), example.number("lent bytes").unwrap_or(65536))?;
-    table(&loops, example.number("lent rows").unwrap_or(4096))?;
+fn translate(words: Option<&[u8]>, example: &Example) -> Result<String, String> {
+    let loops = made(words, &example.text("plan"), example.number("lent bytes").unwrap_or(65536))?;
+    table(words, &loops, example.number("lent rows").unwrap_or(4096))?;
     Ok(String::from_utf8(loops).unwrap())
 }
 
-fn count(plan: &[u8]) -> Result<String, String> {
-    let loops = made(plan, 65536)?;
+fn count(words: Option<&[u8]>, plan: &[u8]) -> Result<String, String> {
+    let loops = made(words, plan, 65536)?;
     let lines = loops.iter().filter(|byte| **byte == b'\n').count();
-    Ok(format!("lines {lines} writes {} need {}", entries::check_loops(&loops), entries::need(&loops)))
+    Ok(format!("lines {lines} writes {} need {}", entries::check_loops_in(words, &loops), entries::need_in(words, &loops)))
 }
 
 // The output cells of the loops made from a plan; a store that is not clear shows nothing in them.
-fn value(plan: &[u8], inputs: &[i32]) -> Result<String, String> {
-    let loops = made(plan, 65536)?;
+fn value(words: Option<&[u8]>, plan: &[u8], inputs: &[i32]) -> Result<String, String> {
+    let loops = made(words, plan, 65536)?;
     let head: Vec<usize> = std::str::from_utf8(&loops).unwrap().lines().filter_map(|l| l.split_once(',')?.1.parse().ok()).collect();
-    let need: usize = entries::need(&loops).parse().unwrap();
+    let need: usize = entries::need_in(words, &loops).parse().unwrap();
     let values = (0..3).map(|order| {
         let mut store = stored(&[inputs, &vec![-1; need - inputs.len()]].concat());
-        let answer = entries::run(&loops, order, &mut store);
+        let answer = entries::run_in(words, &loops, order, &mut store);
         if refused(&answer) { answer } else { joined(&held(&store)[inputs.len()..][..head[head[0] + 1]]) }
     });
     Ok(alike(values.collect()))
@@ -213,26 +250,55 @@ fn ran(example: &Example, run: impl Fn(&[u8], u32, &mut [u8]) -> String) -> Stri
     answer
 }
 
-fn run_table(loops: &[u8], order: u32, store: &mut [u8]) -> String {
-    table(loops, 4096).map_or_else(|refusal| refusal, |(kinds, numbers)| entries::run_rows(&kinds, &numbers, order, store))
+fn run_table(words: Option<&[u8]>, loops: &[u8], order: u32, store: &mut [u8]) -> String {
+    table(words, loops, 4096).map_or_else(|refusal| refusal, |(kinds, numbers)| entries::run_rows(&kinds, &numbers, order, store))
+}
+
+// A plan and loops that pass, in the words of a words text.
+fn spoken(words: &[u8]) -> (Vec<u8>, Vec<u8>) {
+    let own = wording::own(words);
+    let put = |rows: &str| wording::worded(&text(rows), &own);
+    (put("plan,0 lit,7"), put("loops,0 cells,1 set,0 out,0 lit,0 lit,7"))
+}
+
+// A words text, put to every entry that takes one.
+fn check_words(words: &[u8]) -> String {
+    let ((plan, loops), words) = (spoken(words), Some(words));
+    let answers = [
+        entries::check_plan_in(words, &plan),
+        entries::translate_in(words, &plan, &mut [0; 100]),
+        entries::check_loops_in(words, &loops),
+        entries::read_loops_in(words, &loops, &mut [0; 6], &mut [0; 6]),
+        entries::need_in(words, &loops),
+        entries::run_in(words, &loops, 0, &mut [0; 4]),
+    ];
+    alike(answers.map(accepted).to_vec())
+}
+
+// Loops, put to the entries that ask the same questions of them.
+fn check_loops(words: Option<&[u8]>, loops: &[u8]) -> String {
+    let read = table(words, loops, 4096).map_or_else(|refusal| refusal, |_| "ok".into());
+    alike(vec![accepted(entries::check_loops_in(words, loops)), accepted(entries::need_in(words, loops)), read])
 }
 
 fn library(example: &Example) -> Option<String> {
     let either = |answer: Result<String, String>| answer.unwrap_or_else(|refusal| refusal);
+    let words = example.words();
+    let words = words.as_deref();
     Some(match example.question() {
-        ("plan", "check") => accepted(entries::check_plan(&example.text("plan"))),
-        ("plan", "read") => Some(entries::check_plan(&example.text("plan"))).filter(|answer| refused(answer))?,
-        ("plan", "translate") => words(&either(translate(example))),
-        ("plan", "command") => command(&either(translate(example))),
-        ("plan", "count") => either(count(&example.text("plan"))),
-        ("plan", "value") => either(value(&example.text("plan"), &cells(example.given("inputs").unwrap_or("")))),
-        ("loops", "check") => {
-            let loops = example.text("loops");
-            let read = table(&loops, 4096).map_or_else(|refusal| refusal, |_| "ok".into());
-            alike(vec![accepted(entries::check_loops(&loops)), accepted(entries::need(&loops)), read])
+        ("words", "check") => check_words(words.unwrap()),
+        ("plan", "check") => accepted(entries::check_plan_in(words, &example.text("plan"))),
+        ("plan", "read") => Some(entries::check_plan_in(words, &example.text("plan"))).filter(|answer| refused(answer))?,
+        ("plan", "translate") => on_one_line(&either(translate(words, example))),
+        ("plan", "command") => command(&either(translate(words, example))),
+        ("plan", "count") => either(count(words, &example.text("plan"))),
+        ("plan", "value") => either(value(words, &example.text("plan"), &cells(example.given("inputs").unwrap_or("")))),
+        ("loops", "check") => check_loops(words, &example.text("loops")),
+        ("loops", "need") => entries::need_in(words, &example.text("loops")),
+        ("loops", "run") => {
+            let text = ran(example, |loops, order, store| entries::run_in(words, loops, order, store));
+            alike(vec![text, ran(example, |loops, order, store| run_table(words, loops, order, store))])
         }
-        ("loops", "need") => entries::need(&example.text("loops")),
-        ("loops", "run") => alike(vec![ran(example, entries::run), ran(example, run_table)]),
         _ => return None,
     })
 }
@@ -246,22 +312,38 @@ struct Programs {
 }
 
 impl Programs {
-    fn translator(&self, plan: &[u8]) -> String {
-        output(Command::new(&self.translator), plan)
+    // A program in the folder of its files; `words.txt` stands there if a words text is given.
+    fn command(&self, program: &Path, words: Option<&[u8]>) -> Command {
+        let file = self.folder.join("words.txt");
+        match words {
+            Some(text) => std::fs::write(file, text).unwrap(),
+            None => drop(std::fs::remove_file(file)),
+        }
+        let mut command = Command::new(program);
+        command.current_dir(&self.folder);
+        command
     }
 
-    fn runner(&self, loops: &[u8], values: &[u8]) -> String {
+    fn translator(&self, words: Option<&[u8]>, plan: &[u8]) -> String {
+        output(self.command(&self.translator, words), plan)
+    }
+
+    fn runner(&self, words: Option<&[u8]>, loops: &[u8], values: &[u8]) -> String {
         std::fs::write(self.folder.join("loops.txt"), loops).unwrap();
         std::fs::write(self.folder.join("values.txt"), values).unwrap();
-        let mut command = Command::new(&self.runner);
-        command.current_dir(&self.folder);
-        words(&output(command, b""))
+        on_one_line(&output(self.command(&self.runner, words), b""))
+    }
+
+    // A words text, put to both programs.
+    fn check_words(&self, words: &[u8]) -> String {
+        let ((plan, loops), words) = (spoken(words), Some(words));
+        alike(vec![accepted(on_one_line(&self.translator(words, &plan))), accepted(self.runner(words, &loops, b""))])
     }
 
     // The input cells of a values file, by loops that copy them.
     fn fill(&self, values: &[u8], cells: usize) -> String {
         let loops = format!("loops,1 cells,{cells} cells,{cells} par,{cells} set,0 out,0 ctr,0 in,0 ctr,0");
-        let printed = self.runner(&text(&loops), values);
+        let printed = self.runner(None, &text(&loops), values);
         if refused(&printed) {
             return printed;
         }
@@ -269,22 +351,27 @@ impl Programs {
     }
 
     fn answer(&self, example: &Example) -> Option<String> {
+        let words = example.words();
+        let words = words.as_deref();
         Some(match example.question() {
+            ("words", "check") => self.check_words(words.unwrap()),
             ("plan", "check") => {
-                let printed = words(&self.translator(&example.text("plan")));
+                let printed = on_one_line(&self.translator(words, &example.text("plan")));
                 if ["no,10,0", "no,11,0"].contains(&printed.as_str()) { "ok".into() } else { accepted(printed) }
             }
-            ("plan", "translate") if example.given("lent rows").is_none() => words(&self.translator(&example.text("plan"))),
-            ("plan", "command") => command(&self.translator(&example.text("plan"))),
+            ("plan", "translate") if example.given("lent rows").is_none() => {
+                on_one_line(&self.translator(words, &example.text("plan")))
+            }
+            ("plan", "command") => command(&self.translator(words, &example.text("plan"))),
             ("values", "fill") => self.fill(&example.text("values"), example.number("input cells").unwrap()),
-            ("loops", "runner") => self.runner(&example.text("loops"), &example.text("values")),
+            ("loops", "runner") => self.runner(words, &example.text("loops"), &example.text("values")),
             _ => return None,
         })
     }
 }
 
 // Lines with blanks between them.
-fn words(lines: &str) -> String {
+fn on_one_line(lines: &str) -> String {
     joined(lines.split_whitespace())
 }
 
@@ -298,9 +385,12 @@ fn command(loops: &str) -> String {
 fn second(example: &Example) -> String {
     let (of, asked) = example.question();
     let given = |name: &str| example.given(name).unwrap_or("").replace(' ', ",");
+    let words = example.words();
+    let words = words.as_deref();
     let reply = |question: &[&str]| {
         let question: Vec<String> = question.iter().map(|word| word.to_string()).collect();
-        words(reference::reply(&question, &example.text(of)).trim_start_matches("ok "))
+        let text = if of == "words" { Vec::new() } else { example.text(of) };
+        on_one_line(reference::reply_in(words, &question, &text).trim_start_matches("ok "))
     };
     match asked {
         "check" => reply(&[of]),
@@ -309,9 +399,9 @@ fn second(example: &Example) -> String {
         "translate" | "count" | "need" => reply(&[asked]),
         "command" => command(&reply(&["translate"])),
         "value" => reply(&["value", &given("inputs")]),
-        "run" => ran(example, reference::run_text),
+        "run" => ran(example, |loops, order, store| reference::run_text_in(words, loops, order, store)),
         "fill" => reply(&["values", &given("input cells")]),
-        "runner" => words(&reference::runner(&example.text("loops"), &example.text("values"))),
+        "runner" => on_one_line(&reference::runner_in(words, &example.text("loops"), &example.text("values"))),
         _ => panic!("{}: nobody answers {asked}", example.name),
     }
 }

@@ -1,5 +1,6 @@
 // The two programs on what they may find: files that are absent, folders, links to nothing, damaged or too long. What they print is
-// compared with the second implementation, for which a file that cannot be opened is empty ([11.2]).
+// compared with the second implementation, for which a file that cannot be opened is empty ([11.2]), and a words file that cannot is none
+// ([16.8]).
 //
 //   files TRANSLATOR RUNNER COUNT
 use std::collections::BTreeMap;
@@ -13,6 +14,8 @@ mod plans;
 mod process;
 #[allow(dead_code)]
 mod reference;
+#[allow(dead_code)]
+mod wording;
 
 use plans::Numbers;
 use process::output;
@@ -41,6 +44,11 @@ impl Found {
 
     fn text(&self) -> &[u8] {
         if let Text(text) = self { text } else { &[] }
+    }
+
+    // What is given of a words file: nothing where it cannot be opened. A folder opens, and has no bytes.
+    fn words(&self) -> Option<&[u8]> {
+        if matches!(self, Absent | Link) { None } else { Some(self.text()) }
     }
 }
 
@@ -148,16 +156,168 @@ fn long_plans() -> Vec<Vec<u8>> {
     texts
 }
 
+// ---- words files
+
+// Both programs in one folder, and how often each refusal was printed.
+struct Worded {
+    translator: PathBuf,
+    runner: PathBuf,
+    folder: PathBuf,
+    files: u64,
+    refused: BTreeMap<u64, u64>,
+}
+
+impl Worded {
+    // A program with this words file; what it prints is compared.
+    fn compare(&mut self, words: &Found, program: PathBuf, input: &[u8], wanted: String) -> String {
+        words.place(&self.folder.join("words.txt"));
+        let mut command = Command::new(program);
+        command.current_dir(&self.folder);
+        same(output(command, input), &wanted, (words, String::from_utf8_lossy(input)));
+        self.files += 1;
+        if let Some(refusal) = wanted.strip_prefix("no,") {
+            *self.refused.entry(refusal.split(',').next().unwrap().parse().unwrap()).or_default() += 1;
+        }
+        wanted
+    }
+
+    fn translate(&mut self, words: &Found, plan: &[u8]) -> String {
+        let wanted = reference::reply_in(words.words(), &["translate".into()], plan);
+        self.compare(words, self.translator.clone(), plan, wanted)
+    }
+
+    fn run(&mut self, words: &Found, loops: &Found, values: &Found) -> String {
+        loops.place(&self.folder.join("loops.txt"));
+        values.place(&self.folder.join("values.txt"));
+        let wanted = reference::runner_in(words.words(), loops.text(), values.text());
+        self.compare(words, self.runner.clone(), b"", wanted)
+    }
+
+    // Every words file beside texts in the built-in words and in its own, empty ones and bad ones. A refused words file is all that is
+    // printed, whatever stands beside it ([16.6]).
+    fn named(&mut self) {
+        let lines = |list: &str| list.split(' ').map(|line| format!("{line}\n")).collect::<String>().into_bytes();
+        let plan = lines("plan,1 num,0 add,0 in,0 lit,1");
+        let loops = lines("loops,1 cells,1 cells,1 set,0 out,0 lit,0 add,0 in,0 lit,0 lit,1");
+        for words in words_files() {
+            let own = wording::own(words.text());
+            let refused = reference::reply_in(words.words(), &["words".into()], &[]).replace("ok\n", "");
+            let mut printed = Vec::new();
+            for text in [plan.clone(), wording::worded(&plan, &own), lines("plan,0"), Vec::new(), plans::filled(4097, "lit,1\n")] {
+                printed.push(self.translate(&words, &text));
+            }
+            let texts = [Text(loops.clone()), Text(wording::worded(&loops, &own)), Text(lines("loops,0")), Absent, Folder];
+            for text in texts {
+                for values in [Text(lines("0,41")), Text(lines("x")), Absent] {
+                    printed.push(self.run(&words, &text, &values));
+                }
+            }
+            assert!(refused.is_empty() || printed.iter().all(|line| *line == refused), "{printed:?} of {words:?}");
+        }
+    }
+
+    // The German words file and plan of examples/: the loops are the rows that the built-in words give, and the amperes are the same.
+    fn german(&mut self) -> usize {
+        let file = |name: &str| std::fs::read(Path::new("examples").join(name)).unwrap();
+        let (words, plan) = (file("german.words"), file("garage.german.plan"));
+        let own = wording::own(&words);
+        let garage = file("garage.plan");
+        assert!(plan == wording::worded(&garage, &own), "examples/garage.german.plan is examples/garage.plan in German");
+        let built_in = self.translate(&Absent, &garage).into_bytes();
+        let german = self.translate(&Text(words.clone()), &plan).into_bytes();
+        assert!(german == wording::worded(&built_in, &own) && german != built_in, "the loops of garage.german.plan");
+        let inputs = [64, 40, 32, 11, 16, 0, 7, 20, 10, 6, 60, 16, 16, 5, 32, 16, 0];
+        let values = Text((0..).zip(inputs).map(|(cell, value)| format!("{cell},{value}\n")).collect::<String>().into_bytes());
+        let amperes = self.run(&Absent, &Text(built_in.clone()), &values);
+        assert_eq!(self.run(&Text(words.clone()), &Text(german), &values), amperes);
+        assert_eq!(self.run(&Text(words), &Text(built_in), &values), "no,2,1\n");
+        amperes.lines().count() - 1
+    }
+}
+
+// [16.8] What may stand under the name words.txt, about as long as it may be ([13.18]) and longer.
+fn words_files() -> Vec<Found> {
+    let built_in = wording::text(&wording::built_in());
+    let mut own: wording::Own = (0..38).map(|kind| [&[b'z', b'a' + kind % 26, b'a' + kind / 26], &b"zzzzz"[..]].concat()).collect();
+    own[6].truncate(3);
+    let longest = wording::text(&own);
+    assert_eq!(longest.len(), 511);
+    let german = std::fs::read("examples/german.words").unwrap();
+    let mut files = vec![Absent, Link, Text(built_in.clone()), Text(longest.clone()), Text(german.clone()), Folder, Text(Vec::new())];
+    let change = |from: &str, to: &str| {
+        let text = String::from_utf8(german.clone()).unwrap();
+        assert!(text.matches(from).count() == 1, "{from:?} stands once");
+        Text(text.replace(from, to).bytes().collect())
+    };
+    let behind = |text: &[u8], more: &[u8]| Text([text, more].concat());
+    // Each mistake in how the lines are written, and two own words alike.
+    for (from, to) in [
+        ("num,zahl\narr,reihe\n", "arr,reihe\nnum,zahl\n"),
+        ("rest,rest\n", ""),
+        ("rest,rest\n", "rest,rest"),
+        ("rest,rest\n", "rest,rest\r\n"),
+        ("rest,rest\n", "plan,other\n"),
+        ("rest,rest\n", "rest,rest\n\n"),
+        ("rest,rest\n", "rest,rest\nplan,other\n"),
+        ("num,zahl", "num, zahl"),
+        ("num,zahl", "num,zahl "),
+        ("num,zahl", " num,zahl"),
+        ("num,zahl", "num,Zahl"),
+        ("num,zahl", "Num,zahl"),
+        ("num,zahl", "number,zahl"),
+        ("num,zahl", "num,zahl1"),
+        ("num,zahl", "num,z\u{e4}hl"),
+        ("num,zahl", "num,zahl,"),
+        ("num,zahl", "num,"),
+        ("num,zahl", "num"),
+        ("num,zahl", "num;zahl"),
+        ("num,zahl", "num,zahlwerte"),
+        ("lit,fix", "lit,fest"),
+        ("num,zahl", "num,plan"),
+        ("rest,rest", "rest,plan"),
+        ("num,zahl\n", "num,plan\n\n"),
+    ] {
+        files.push(change(from, to));
+    }
+    files.extend([512, 607, 608, 609, 610, 1216, 4096, 70000].map(|size| behind(&longest, &vec![b'a'; size - longest.len()])));
+    files.extend([512, 608, 609].map(|size| behind(&longest, &vec![b'\n'; size - longest.len()])));
+    files.push(behind(&built_in, &built_in));
+    files.push(behind(&german, &[0]));
+    files
+}
+
+fn counts(of: &BTreeMap<u64, u64>) -> String {
+    of.iter().map(|(n, count)| format!("{count} by {n}")).collect::<Vec<_>>().join(", ")
+}
+
+// Both programs beside words files.
+fn words(args: &[String], folder: &Path) {
+    let program = |name: &str| Path::new(name).canonicalize().unwrap();
+    let (translator, runner) = (program(&args[1]), program(&args[2]));
+    std::fs::create_dir_all(folder).unwrap();
+    let mut worded = Worded { translator, runner, folder: folder.into(), files: 0, refused: BTreeMap::new() };
+    worded.named();
+    let bays = worded.german();
+    std::fs::remove_dir_all(folder).unwrap();
+    assert!([2, 16, 17].iter().all(|n| worded.refused.contains_key(n)), "{:?}", worded.refused);
+    println!(
+        "{} runs of both programs beside {} words files, some absent, folders or links to nothing, answered alike: refused {}; the German \
+         garage has the loops and the {bays} amperes of the built-in words",
+        worded.files,
+        words_files().len(),
+        counts(&worded.refused)
+    );
+}
+
 fn main() {
     let args: Vec<String> = std::env::args().collect();
     let folder = std::env::temp_dir().join(format!("vazhdumir-files-{}", std::process::id()));
     std::fs::create_dir_all(&folder).unwrap();
     let program = Path::new(&args[2]).canonicalize().unwrap();
-    let mut runner = Runner { program, folder, files: 0, refused: [BTreeMap::new(), BTreeMap::new()] };
+    let mut runner = Runner { program, folder: folder.clone(), files: 0, refused: [BTreeMap::new(), BTreeMap::new()] };
     runner.named();
     runner.random(args[3].parse().unwrap());
     std::fs::remove_dir_all(&runner.folder).unwrap();
-    let counts = |of: &BTreeMap<u64, u64>| of.iter().map(|(n, count)| format!("{count} by {n}")).collect::<Vec<_>>().join(", ");
     let [loops, values] = &runner.refused;
     assert!([1, 2, 15].iter().all(|n| values.contains_key(n)), "{values:?}");
     println!(
@@ -181,4 +341,5 @@ fn main() {
         plans.len(),
         counts(&refused)
     );
+    words(&args, &folder);
 }

@@ -1,4 +1,4 @@
-/* The header, twice, in C and in C++: an answer goes by the name of its number. */
+/* The header, twice, in C and in C++: an answer goes by the name of its number. Each entry that takes a words text refuses none [16.7]. */
 #include "vazhdumir.h"
 #include "vazhdumir.h"
 
@@ -8,6 +8,14 @@ int main(void) {
                        VAZHDUMIR_WORD_OUT,   VAZHDUMIR_WORD_LIT,   VAZHDUMIR_WORD_LIT};
     int32_t numbers[] = {0, 1, 0, 0, 0, 258};
     uint8_t store[4] = {0, 0, 0, 0};
+    uint64_t unworded[] = {vazhdumir_check_plan_in(0, 0, 0, 0),
+                           vazhdumir_translate_in(0, 0, 0, 0, store, 4),
+                           vazhdumir_check_loops_in(0, 0, 0, 0),
+                           vazhdumir_read_loops_in(0, 0, 0, 0, kinds, 6, numbers, 6),
+                           vazhdumir_need_in(0, 0, 0, 0),
+                           vazhdumir_run_in(0, 0, 0, 0, 0, store, 4)};
+    for (size_t i = 0; i < sizeof unworded / sizeof unworded[0]; i++)
+        if (unworded[i] >> 56 != VAZHDUMIR_REFUSAL_WORDS_FORM || vazhdumir_value(unworded[i]) != 0) return 5;
     if (vazhdumir_refusal(answer) != VAZHDUMIR_REFUSAL_TEXT_FORM || vazhdumir_value(answer) != 0) return 1;
     if (vazhdumir_run_rows(kinds, 6, numbers, 6, 0, store, 3) >> 56 != VAZHDUMIR_REFUSAL_STORE_SIZE) return 2;
     if (vazhdumir_run_rows(kinds, 6, numbers, 6, 0, store, 4) != 1) return 3;

@@ -41,10 +41,15 @@ fn named(header: &str, beginning: &str) -> Vec<(String, u32)> {
     }).collect()
 }
 
-// The questions: a rule of part 10 that has a name.
+// The questions: a rule that has a name. In part 10 the rule has the question's number; elsewhere the number stands behind the name.
 fn questions(page: &str) -> Vec<(String, u32)> {
-    let heads = page.lines().filter_map(|l| l.strip_prefix("**10.")?.split_once(".**"));
-    heads.filter_map(|(head, _)| head.split_once(' ')).map(|(n, name)| (name.to_lowercase().replace(' ', "_"), n.parse().unwrap())).collect()
+    let heads = page.lines().filter_map(|line| line.strip_prefix("**")?.split_once(".**"));
+    let question = |(head, behind): (&str, &str)| {
+        let (rule, name) = head.split_once(' ')?;
+        let number = rule.strip_prefix("10.").or_else(|| behind.strip_prefix(" Question ")?.split(':').next())?;
+        Some((name.to_lowercase().replace(' ', "_"), number.parse().ok()?))
+    };
+    heads.filter_map(question).collect()
 }
 
 // The table of words: kind, word, sorts with operand counts.
@@ -81,7 +86,7 @@ fn main() {
     let kinds: Vec<(String, u32)> = table.into_iter().map(|(i, word, _)| (word, i)).collect();
     assert_eq!(named(&header, "VAZHDUMIR_WORD_"), kinds);
     let questions = questions(&page);
-    assert_eq!(questions.iter().map(|q| q.1).collect::<Vec<_>>(), (1..=15).collect::<Vec<_>>());
+    assert_eq!(questions.iter().map(|q| q.1).collect::<Vec<_>>(), (1..=17).collect::<Vec<_>>());
     assert_eq!(named(&header, "VAZHDUMIR_REFUSAL_"), questions);
-    println!("{} requirements; the header names their 38 kinds and 15 refusals", rules.len());
+    println!("{} requirements; the header names their 38 kinds and 17 refusals", rules.len());
 }

@@ -9,11 +9,14 @@ use std::fmt::Debug;
 use std::ops::Range;
 
 mod commands;
+#[allow(dead_code)]
 mod entries;
 #[allow(dead_code)]
 mod plans;
 #[allow(dead_code)]
 mod reference;
+#[allow(dead_code)]
+mod wording;
 
 use plans::Numbers;
 
@@ -164,43 +167,59 @@ fn run_any(table: &Table, numbers: &mut Numbers, tally: &mut Tally) {
     table.run(order, &cells, tally);
 }
 
-// [12.4] Every slice of every entry, one at a time, lent as a null pointer with count 0; the other slices would do.
+// [12.4] Every slice of every entry, one at a time, lent as a null pointer with count 0; the other slices would do. Those that take a
+// words text are asked with one, and with none but the null pointer ([16.7]).
 fn nulls(tally: &mut Tally) {
-    let (plan, text) = (b"plan,0\nlit,7\n", b"loops,0\ncells,1\nset,0\nout,0\nlit,0\nlit,7\n");
-    let table = Table::of(text).unwrap();
-    let reply = |words: &str, text: &[u8]| {
-        let words: Vec<String> = words.split(' ').map(|w| w.into()).collect();
-        reference::reply(&words, text).trim_end().to_string()
-    };
-    let mut same = |entry: &str, found: String, wanted: String| tally.same(entry, "a null pointer", (found, ()), (wanted, ()));
-    same("check_plan, plan", entries::check_plan(&[]), reply("plan", &[]));
-    same("translate, plan", entries::translate(&[], &mut [0; 100]), reply("translate", &[]));
-    same("translate, loops", entries::translate(plan, &mut []), reply("tr 4096 0", plan));
-    same("check_loops, loops", entries::check_loops(&[]), reply("loops", &[]));
-    same("need, loops", entries::need(&[]), reply("need", &[]));
-    let mut read = |text: &[u8], k: usize, n: usize| {
-        let found = entries::read_loops(text, &mut vec![0; k], &mut vec![0; n]);
-        same("read_loops", found, reference::read_loops(text, &mut vec![0; k], &mut vec![0; n]));
-    };
-    read(&[], 9, 9);
-    read(text, 0, 9);
-    read(text, 9, 0);
-    for order in [0, 3] {
-        let mut run = |text: &[u8], cells: usize| {
-            let found = entries::run(text, order, &mut vec![0; cells]);
-            same("run", found, reference::run_text(text, order, &mut vec![0; cells]));
-        };
-        run(&[], 4);
-        run(text, 0);
-        let mut run = |kinds: &[u8], numbers: &[i32], cells: usize| {
-            let found = entries::run_rows(kinds, numbers, order, &mut vec![0; cells]);
-            same("run_rows", found, reference::run_table(kinds, numbers, order, &mut vec![0; cells]));
-        };
-        run(&[], &table.numbers, 4);
-        run(&table.kinds, &[], 4);
-        run(&table.kinds, &table.numbers, 0);
-        run(&[], &[], 0);
+    let words = wording::text(&wording::built_in());
+    for words in [None, Some(&words[..]), Some(&[][..])] {
+        null_texts(words, tally);
+        for order in [0, 3] {
+            null_runs(words, order, tally);
+        }
     }
+}
+
+const PLAN: &[u8] = b"plan,0\nlit,7\n";
+const LOOPS: &[u8] = b"loops,0\ncells,1\nset,0\nout,0\nlit,0\nlit,7\n";
+
+fn null_texts(words: Option<&[u8]>, tally: &mut Tally) {
+    let reply = |question: &str, text: &[u8]| {
+        let question: Vec<String> = question.split(' ').map(|part| part.into()).collect();
+        reference::reply_in(words, &question, text).trim_end().to_string()
+    };
+    let mut same = |entry: &str, found: String, wanted: String| tally.same(entry, words, (found, ()), (wanted, ()));
+    for plan in [&[], PLAN] {
+        same("check_plan", entries::check_plan_in(words, plan), reply("plan", plan).replace("ok", "0"));
+        for bytes in [0, 100] {
+            let found = entries::translate_in(words, plan, &mut vec![0; bytes]);
+            same("translate", found, reference::translate_in(words, plan, &mut vec![0; bytes]));
+        }
+    }
+    for loops in [&[], LOOPS] {
+        same("check_loops", entries::check_loops_in(words, loops), reference::writes_in(words, loops));
+        same("need", entries::need_in(words, loops), reference::need_in(words, loops));
+        for (k, n) in [(9, 9), (0, 9), (9, 0)] {
+            let found = entries::read_loops_in(words, loops, &mut vec![0; k], &mut vec![0; n]);
+            same("read_loops", found, reference::read_loops_in(words, loops, &mut vec![0; k], &mut vec![0; n]));
+        }
+    }
+}
+
+fn null_runs(words: Option<&[u8]>, order: u32, tally: &mut Tally) {
+    let table = Table::of(LOOPS).unwrap();
+    let mut same = |entry: &str, found: String, wanted: String| tally.same(entry, (words, order), (found, ()), (wanted, ()));
+    for (loops, bytes) in [(&[][..], 4), (LOOPS, 0), (LOOPS, 4)] {
+        let found = entries::run_in(words, loops, order, &mut vec![0; bytes]);
+        same("run", found, reference::run_text_in(words, loops, order, &mut vec![0; bytes]));
+    }
+    let mut run = |kinds: &[u8], numbers: &[i32], bytes: usize| {
+        let found = entries::run_rows(kinds, numbers, order, &mut vec![0; bytes]);
+        same("run_rows", found, reference::run_table(kinds, numbers, order, &mut vec![0; bytes]));
+    };
+    run(&[], &table.numbers, 4);
+    run(&table.kinds, &[], 4);
+    run(&table.kinds, &table.numbers, 0);
+    run(&[], &[], 0);
 }
 
 // Random loops, made and written by hand, whole and damaged, and random tables.
@@ -256,6 +275,6 @@ fn main() {
     print("runs of texts, in the orders 0 to 3 and 4294967295,", &texts, &[1, 2, 3, 4, 5, 9, 13, 14]);
     print("runs of the tables read from them", &tables, &[13, 14]);
     print("runs of tables random or damaged in one row", &any, &[2, 3, 4, 5, 9, 13, 14]);
-    print("calls with a null pointer and count 0, for each slice of each entry,", &null, &[1, 4, 12, 13, 14]);
+    print("calls with a null pointer and count 0, for each slice of each entry,", &null, &[1, 4, 12, 13, 14, 16]);
     println!("no byte lent or beside it differs from what the second implementation leaves there: on a refusal, from what was lent");
 }

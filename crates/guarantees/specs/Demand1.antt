@@ -94,9 +94,9 @@ ShowsRefusal told text = (q : Refusal) × (told ≡ refusal q) × (text ≡ refu
 
 -- [11.6] [11.7] The run of the loops L in order 0, on the store s with the values v in its input cells: the store left, and the output
 -- cells and writes as a text.
-abbrev pub ShowsRun : List (List ℕ) → List ℕ → List ℤ → List ℤ → List ℕ → Loops → Type 0
-ShowsRun ws v s s′ text L =
-    let end = runInOrder 0 L (withValues ws v (allCells (L .inputs)) s) in
+abbrev pub ShowsRun : List ℕ → List ℤ → List ℤ → List ℕ → Loops → Type 0
+ShowsRun v s s′ text L =
+    let end = runInOrder 0 L (withValues v (allCells (L .inputs)) s) in
     (s′ ≡ end .store) × (text ≡ finishedText (outputCells L (end .store)) (end .writes))
 
 -- ---- the entries
@@ -138,9 +138,9 @@ pub record Demand1 (ws : List (List ℕ)) : Type 0 where
       → OfTable (rowsOf k n) (λ L. loopsQuestions L ++ runQuestions order (length (storeOf c b)) L) (writesMade order c b)
       ((c′ ≡ c) × (b′ ≡ b)) (StoreLeft order c b c′ b′) (toldAnswer r)
   -- `values::fill`: the first n cells
-  pub fill : (t : List ℕ) (n : ℕ) (s s′ : List ℤ) (r : Answer) → FillsStore ws t n s r s′
-      → Answers (fillQuestions ws t n (length s)) (length (linesOf t)) (s′ ≡ s)
-      (TextLeft (map (valueOf (valueLines ws t)) (upFrom 0 n)) s s′) (toldAnswer r)
+  pub fill : (t : List ℕ) (n : ℕ) (s s′ : List ℤ) (r : Answer) → FillsStore t n s r s′
+      → Answers (fillQuestions t n (length s)) (length (linesOf t)) (s′ ≡ s)
+      (TextLeft (map (valueOf (valueLines t)) (upFrom 0 n)) s s′) (toldAnswer r)
   -- `programs::translator` and `programs::runner`: the text that the program prints, put into a lent one
   pub print-loops : (t u u′ : List ℕ) (r : Answer) → PrintsLoops ws t u r u′
       → (told : Told) × (text : List ℕ) × Answers (textRoom text (length u)) (length text) (u′ ≡ u) (TextLeft text u u′) (toldAnswer r)
@@ -148,8 +148,8 @@ pub record Demand1 (ws : List (List ℕ)) : Type 0 where
       (λ P. text ≡ textOf ws (madeRows P)) told
   pub print-run : (t v : List ℕ) (s s′ : List ℤ) (u u′ : List ℕ) (r : Answer) → PrintsRun ws t v s u r s′ u′
       → (told : Told) × (text : List ℕ) × Answers (outputRoom (length u)) (length text) ((u′ ≡ u) × (s′ ≡ s))
-      (TextLeft text u u′ × OfLoops ws t (λ L. loopsQuestions L ++ (storeRoom (length s) L ++ valuesQuestions ws v (length s) L))
-      (λ L. runInOrder 0 L (withValues ws v (allCells (L .inputs)) s) .writes) (ShowsRefusal told text × (s′ ≡ s)) (ShowsRun ws v s s′ text) told)
+      (TextLeft text u u′ × OfLoops ws t (λ L. loopsQuestions L ++ (storeRoom (length s) L ++ valuesQuestions v (length s) L))
+      (λ L. runInOrder 0 L (withValues v (allCells (L .inputs)) s) .writes) (ShowsRefusal told text × (s′ ≡ s)) (ShowsRun v s s′ text) told)
       (toldAnswer r)
   -- [11.5] `programs::reads_values`: where it says no, loops that walk well have no inputs, so that the values play no part
   pub values-unread : (t : List ℕ) → SaysValuesRead t false → AllYes (loopsDoor ws t) → (L : Loops) → textRows ws t ≡ loopsRows L → L .inputs ≡ []

@@ -1,6 +1,6 @@
 -- Demand 2: a plan is accepted exactly when it is well typed within the limits [10.21]; the loops made from it are, line by line, those of
--- the translation [6.1], and they always pass [9.9]; lines written out and read back are the same lines [1.9]; loops that pass run safely,
--- whoever wrote them [9.9].
+-- the translation [6.1], and they always pass [9.9]; lines written out and read back are the same lines [1.9]; 4,096
+-- rows of loops, or 256 of a plan, fit a text [16.9]; loops that pass run safely, whoever wrote them [9.9].
 --
 -- It rests on
 --   meaning    HasType, which is Figure 3 of the paper; translation, which is its sections 4.1 to 4.3; the rows of plans and loops;
@@ -16,9 +16,10 @@ use lib.IntN.{ℤ}
 use lib.ListN.{length}
 use Rattle.refusals.specs.declared.Answer.{Answer}
 use Rattle.words.specs.Kinds.{Row, rowsOf}
+use Rattle.words.specs.declared.Sort.the-variants as sort
 use Rattle.lines.specs.Lent.{textRows}
 use Rattle.lines.specs.Printing.{textOf, Printable, Each}
-use Rattle.lines.specs.Reading.{headOf}
+use Rattle.lines.specs.Reading.{headOf, planLimits, loopsLimits}
 use Rattle.lines.specs.declared.Heads.the-variants.{Words}
 use Rattle.lines.specs.declared.Limits.{Limits}
 use Rattle.meaning.specs.Types.{DataType}
@@ -38,7 +39,7 @@ use Rattle.plans.specs.Contracts.{ChecksPlan}
 use Rattle.loops.specs.declared.Checked.{Checked}
 use Rattle.loops.specs.Contracts.{ChecksLoops, ChecksTable}
 use Rattle.guarantees.specs.Told.{Told, toldAnswer, toldWrites, toldNeed}
-use Rattle.guarantees.specs.Questions.{planDoor}
+use Rattle.guarantees.specs.Questions.{planDoor, rowsDoor}
 use Rattle.guarantees.specs.Ways.{MadeText, MadeTable}
 
 -- [5.1] P is the plan whose rows a text's lines are, and the only one; it is well typed by Figure 3, and within the limits: 1 to 6 are
@@ -73,6 +74,12 @@ pub record Demand2 (ws : List (List ℕ)) : Type 0 where
   pub read-back : (limits : Limits) (R : List Row) → Each (Printable ws) R → 0 < length R → length (textOf ws R) ≤ limits .bytes
       → length R ≤ limits .lines → AllYes (readQuestions (headOf ws Words) limits (textOf ws R)) × (textRows ws (textOf ws R) ≡ R)
   pub print-back : (limits : Limits) (t : List ℕ) → AllYes (readQuestions (headOf ws Words) limits t) → textOf ws (textRows ws t) ≡ t
+  -- [16.9] Rows that pass 4 to 6, so that their numbers are those that question 5 lets be: 4,096 of loops are printed in at most 65,536 bytes,
+  -- 256 of a plan in at most 4,096.
+  pub loops-fit : (R : List Row) → Each (Printable ws) R → AllYes (rowsDoor sort.Loops R) → length R ≤ loopsLimits .lines
+      → length (textOf ws R) ≤ loopsLimits .bytes
+  pub plan-fits : (R : List Row) → Each (Printable ws) R → AllYes (rowsDoor sort.Plan R) → length R ≤ planLimits .lines
+      → length (textOf ws R) ≤ planLimits .bytes
   -- [9.9] loops that pass run safely, whoever wrote them
   pub text-safe : (t : List ℕ) (r : Checked) → ChecksLoops ws t r → Safe (textRows ws t) r
   pub rows-safe : (k : List ℕ) (n : List ℤ) (r : Checked) → ChecksTable k n r → Safe (rowsOf k n) r

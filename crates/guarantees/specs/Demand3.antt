@@ -87,8 +87,8 @@ pub record Delivered (ws : List (List ℕ)) (t : List ℕ) (P : Plan) : Type 0 w
       → need (translation P) ≤ length (storeOf [] b) → RunsRowsForC k n order b r b′ → RanRightly P [] b (toldCode r) [] b′
   -- The runner, on a store of at least the need, lent room enough and values that pass.
   pub printed-run : (u : List ℕ) → MadeText ws t u → (v : List ℕ) (s s′ : List ℤ) (l l′ : List ℕ) (r : Answer) → PrintsRun ws u v s l r s′ l′
-      → AllYes (outputRoom (length l)) → need (translation P) ≤ length s → AllYes (valuesQuestions ws v (length s) (translation P))
-      → PrintedRightly P (withValues ws v (inputCount P) s) l (toldAnswer r) s′ l′
+      → AllYes (outputRoom (length l)) → need (translation P) ≤ length s → AllYes (valuesQuestions v (length s) (translation P))
+      → PrintedRightly P (withValues v (inputCount P) s) l (toldAnswer r) s′ l′
 
 -- [9.8] For every plan's text that is translated without refusal there is one plan whose rows are the text's, it is well typed within the
 -- limits, and of it all that holds.

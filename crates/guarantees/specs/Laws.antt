@@ -12,3 +12,5 @@ pub mod ValuesUnread
 pub mod Made
 pub mod PrintedRuns
 pub mod Delivered
+pub mod Lengths
+pub mod Twins

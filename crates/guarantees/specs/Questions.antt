@@ -1,18 +1,20 @@
 -- The questions of each entry, in the order of [10.16]. Those of lines, rows and types stand in `typing`, 10 and 11 of a plan in
--- `translate`; here are those of loops, of what is lent, of a run and of values. None of them speaks of a check. ws is the table of words.
--- Definitions only; assumes nothing.
+-- `translate`; here are those of a words text, of loops, of what is lent, of a run and of values. None of them speaks of a check. ws is
+-- the table of words. Definitions only; assumes nothing.
 use mathlib.Core.Bool.{cond, _&&_}
 use mathlib.Core.List.{List, [], _∷_, _++_}
 use Prim.Native.Nat.{ℕ, _+_}
 use lib.Dec.{eqb, leb, ltb}
 use lib.ListN.{length}
-use Rattle.refusals.specs.declared.Refusal.the-variants.{LineCount, OffsetBound, LentSize, UnknownOrder, StoreSize, ValueLines}
+use Rattle.refusals.specs.declared.Refusal.the-variants.{LineCount, OffsetBound, LentSize, UnknownOrder, StoreSize, ValueLines, WordsForm, WordTwice}
 use Rattle.words.specs.Kinds.{Row}
+use Rattle.words.specs.Good.{distinct}
+use Rattle.own_words.specs.OwnWords.{isWordsText, ownWords}
 use Rattle.words.specs.declared.Sort.{Sort}
 use Rattle.words.specs.declared.Sort.the-variants as sort
 use Rattle.lines.specs.Lent.{textRows}
-use Rattle.lines.specs.Reading.{headOf, planLimits, loopsLimits, valuesLimits, kindsOf}
-use Rattle.lines.specs.declared.Heads.the-variants.{Words, Cells}
+use Rattle.lines.specs.Reading.{cellHead, headOf, planLimits, loopsLimits, valuesLimits, kindsOf}
+use Rattle.lines.specs.declared.Heads.the-variants.{Words}
 use Rattle.lines.specs.declared.Limits.{Limits}
 use Rattle.meaning.specs.Loops.{Offset, Place, Value, Command, Loops, seq, loop, new}
 use Rattle.meaning.specs.Layout.{allCells, need}
@@ -27,6 +29,12 @@ use Rattle.translate.specs.Questions.{fewWrites}
 use Rattle.typing.specs.Questions.{Question, question}
 use Rattle.typing.specs.EntryQuestions.{formQuestions, readQuestions, kindQuestions, walkQuestions}
 use Rattle.values.specs.Values.{oneLineEach, valueLines}
+
+-- ---- 16 and 17: a words text
+
+-- [16.6] Before all others, where an entry is given a words text: [16.4], is it one, and then [16.5], are its own words apart?
+abbrev pub wordsQuestions : List ℕ → List Question
+wordsQuestions w = question (isWordsText w) WordsForm ∷ question (distinct (ownWords w)) WordTwice ∷ []
 
 -- ---- 1 to 6: a plan's text, a loops' text, a table
 
@@ -103,16 +111,16 @@ abbrev pub storeRoom : ℕ → Loops → List Question
 storeRoom cells L = question (leb (need L) cells) StoreSize ∷ []
 
 -- [10.16] The text of values, [10.1] with the limit of [13.3], and [10.2]; [10.14] of a store that is to hold n input cells; and [10.15].
-abbrev pub fillQuestions : List (List ℕ) → List ℕ → ℕ → ℕ → List Question
-fillQuestions ws t n cells =
-    formQuestions (headOf ws Cells) (valuesLimits .bytes) t
-    ++ (question (leb n cells) StoreSize ∷ question (oneLineEach n (kindsOf (valueLines ws t))) ValueLines ∷ [])
+abbrev pub fillQuestions : List ℕ → ℕ → ℕ → List Question
+fillQuestions t n cells =
+    formQuestions cellHead (valuesLimits .bytes) t
+    ++ (question (leb n cells) StoreSize ∷ question (oneLineEach n (kindsOf (valueLines t))) ValueLines ∷ [])
 
 -- ---- the runner
 
 -- [11.5] Loops without inputs need no values.
-abbrev pub valuesQuestions : List (List ℕ) → List ℕ → ℕ → Loops → List Question
-valuesQuestions ws v cells L = cond (eqb (allCells (L .inputs)) 0) [] (fillQuestions ws v (allCells (L .inputs)) cells)
+abbrev pub valuesQuestions : List ℕ → ℕ → Loops → List Question
+valuesQuestions v cells L = cond (eqb (allCells (L .inputs)) 0) [] (fillQuestions v (allCells (L .inputs)) cells)
 
 -- [11.9] 12, first of all: is there room for the longest output [13.17]?
 abbrev pub outputRoom : ℕ → List Question

@@ -1,4 +1,4 @@
--- The three demands, proved. The proofs stand in Laws.
+-- The three demands and the twins, proved. The proofs stand in Laws.
 use mathlib.Core.Path.{_≡_, refl, sym, ap, _∙_, subst}
 use mathlib.Core.List.{List}
 use Prim.Native.Nat.{ℕ}
@@ -6,7 +6,9 @@ use native.Mathlib.Omega.{arith}
 use lib.ListN.{length}
 use Rattle.refusals.specs.declared.Answer.the-variants.{Told, Refused}
 use Rattle.words.specs.Kinds.{Row, rowsOf}
-use Rattle.words.specs.Words.{lookUp}
+use Rattle.words.specs.Words.{words, lookUp}
+use Rattle.own_words.specs.OwnWords.{ownWords}
+use Rattle.words.specs.declared.Sort.the-variants as sort
 use Rattle.lines.specs.Lent.{textRows}
 use Rattle.lines.specs.Printing.{textOf}
 use Rattle.texts.specs.Texts.{linesOf}
@@ -36,7 +38,7 @@ use Rattle.guarantees.specs.Told.{toldWrites, toldNeed}
 use Rattle.guarantees.specs.Demand1.{Demand1}
 use Rattle.guarantees.specs.Demand2.{TellsOf, Safe, Demand2}
 use Rattle.guarantees.specs.Demand3.{Demand3}
-use Rattle.guarantees.specs.Demands.{Demands}
+use Rattle.guarantees.specs.Demands.{DemandsFor, Demands}
 use Rattle.guarantees.specs.Laws.PlanEntries as plans
 use Rattle.guarantees.specs.Laws.LoopsEntries as entries
 use Rattle.guarantees.specs.Laws.Filling as values
@@ -46,6 +48,8 @@ use Rattle.guarantees.specs.Laws.ValuesUnread.{values-unread}
 use Rattle.guarantees.specs.Laws.Told.{no-value}
 use Rattle.guarantees.specs.Laws.Made.{accepted-exactly, accepted-plan, made-text, made-table, text-passes, rows-pass, translated-yes, plan-same}
 use Rattle.guarantees.specs.Laws.Delivered.{delivered}
+use Rattle.guarantees.specs.Laws.Lengths.{text-short}
+use Rattle.guarantees.specs.Laws.Twins.{twins}
 use Rattle.words.specs.Good.{Good}
 use Rattle.words.specs.Laws.{words-good}
 
@@ -63,7 +67,7 @@ module _ (ws : List (List ℕ)) (good : Good ws) where
     read-loops = λ t k k′ n n′ r I. entries.read-loops ws good t k k′ n n′ r I;
     run-text = λ t order c c′ b b′ r h h′ f e. entries.run-text ws good t order c c′ b b′ r h h′ f e;
     run-rows = λ k n order c c′ b b′ r h h′ f e. entries.run-rows ws good k n order c c′ b b′ r h h′ f e;
-    fill = values.fill ws good;
+    fill = values.fill;
     print-loops = programs.print-loops ws good;
     print-run = programs.print-run ws good;
     values-unread = values-unread ws;
@@ -118,6 +122,8 @@ module _ (ws : List (List ℕ)) (good : Good ws) where
     print-back = λ limits t h.
         prints-back ws limits t (length (linesOf t))
         (reading-asks (lookUp ws) limits t ∙ all-asked Refused (readQuestions (lookUp ws) limits t) (Told (length (linesOf t))) h);
+    loops-fit = λ R p h few. let short = text-short ws good sort.Loops R p h in omega (arith, short, few);
+    plan-fits = λ R p h few. let short = text-short ws good sort.Plan R p h in omega (arith, short, few);
     text-safe = λ t r e. safe (textRows ws t) r (λ w n f. texts.text-safe ws t w n (sym e ∙ f));
     rows-safe = λ k n r e. safe (rowsOf k n) r (λ w m f. tables.table-safe (rowsOf k n) w m (sym e ∙ f));
   }
@@ -130,5 +136,13 @@ module _ (ws : List (List ℕ)) (good : Good ws) where
         delivered ws good t y,
       )
 
+for-good-words : (ws : List (List ℕ)) → Good ws → DemandsFor ws
+for-good-words ws good = (demand-1 ws good, demand-2 ws good, demand-3 ws good)
+
 pub demands : Demands
-demands = (λ ws good. (demand-1 ws good, demand-2 ws good, demand-3 ws good), words-good)
+demands = record {
+  for-good-words = for-good-words;
+  built-in = for-good-words words words-good;
+  own = λ w yes. for-good-words (ownWords w) (twins w .good yes);
+  twins = twins;
+}

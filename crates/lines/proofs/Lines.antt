@@ -13,8 +13,8 @@ use lib.Seq.{sets, take-all}
 use Rattle.words.specs.Kinds.{Row}
 use Rattle.words.specs.declared.Found.{Found}
 use Rattle.words.specs.declared.Found.the-variants.{At, NotListed}
-use Rattle.words.specs.Words.{words}
-use Rattle.words.specs.Laws.{found-word, words-count}
+use Rattle.words.specs.Tables.{wordsIn}
+use Rattle.words.specs.Laws.{found-word, words-count, words-in-count}
 use Rattle.refusals.specs.declared.Refusal.the-variants.{LineForm}
 use Rattle.refusals.specs.declared.Answer.the-variants.{Told, Refused}
 use Rattle.numerals.specs.Numerals.{numeralOf}
@@ -22,10 +22,10 @@ use Rattle.numerals.specs.Laws.{in-range}
 use Rattle.numerals.specs.declared.Numeral.{Numeral}
 use Rattle.numerals.specs.declared.Numeral.the-variants.{Is, Malformed}
 use Rattle.texts.specs.Texts.{placeOf, beforeComma, linesOf, firstLine, afterFirst}
-use Rattle.lines.specs.Reading.{cellNamed, headOf, paired, lineOf, addRow, rowsIn, whether, formed}
+use Rattle.lines.specs.Reading.{cellNamed, cellHead, headOf, paired, lineOf, addRow, rowsIn, whether, formed}
 use Rattle.texts.specs.Laws.{lines-from, lines-done}
 use Rattle.lines.specs.Below.{Below}
-use Rattle.lines.specs.declared.Heads.the-variants.{Words, Cells}
+use Rattle.lines.specs.declared.Heads.the-variants.{Words}
 use Rattle.lines.specs.declared.Line.{Line}
 use Rattle.lines.specs.declared.Line.the-variants.{IsRow, NoRow}
 
@@ -123,13 +123,13 @@ cell-small (Is (pos n)) k h e = let q : n ≡ k = cc in omega (arith, h (pos n) 
 cell-small (Is (negsuc n)) k h e = let clash : _≡_ {A = ℕ} 0 1 = cc in absurd (omega arith)
 cell-small Malformed k h e = let clash : _≡_ {A = ℕ} 0 1 = cc in absurd (omega arith)
 
-pub kind-below : (l : List ℕ) {line : Line} → line ≡ lineOf (headOf words Words) l → Below 256 line
+pub kind-below : (table : List (List ℕ)) (l : List ℕ) {line : Line} → line ≡ lineOf (headOf (wordsIn table) Words) l → Below 256 line
 unfolding lineOf
-kind-below l e =
+kind-below table l e =
     subst (Below 256) (sym e)
-    (below-paired 256 _ _ (λ k f. omega (arith, found-word words (beforeComma l) k f .0, words-count)))
+    (below-paired 256 _ _ (λ k f. omega (arith, found-word (wordsIn table) (beforeComma l) k f .0, words-in-count table, words-count)))
 
-pub cell-below : (l : List ℕ) {line : Line} → line ≡ lineOf (headOf words Cells) l → Below 2147483648 line
+pub cell-below : (l : List ℕ) {line : Line} → line ≡ lineOf cellHead l → Below 2147483648 line
 unfolding lineOf
 cell-below l e =
     subst (Below 2147483648) (sym e)

@@ -32,10 +32,13 @@ cellNamed (Is (pos n)) = At n
 cellNamed (Is (negsuc n)) = NotListed
 cellNamed Malformed = NotListed
 
--- [1.3] What stands before the comma: a listed word, or in the values file a cell.
+abbrev pub cellHead : List ℕ → Found
+cellHead l = cellNamed (numeralOf l)
+
+-- [1.3] What stands before the comma: a listed word, or in the values file a cell, whatever the words are ([16.3]).
 abbrev pub headOf : List (List ℕ) → Heads → List ℕ → Found
-headOf ws Words l = lookUp ws l
-headOf ws Cells l = cellNamed (numeralOf l)
+headOf ws Words = lookUp ws
+headOf ws Cells = cellHead
 
 abbrev pub paired : Found → Numeral → Line
 paired (At k) (Is z) = IsRow k z

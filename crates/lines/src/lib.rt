@@ -2,13 +2,14 @@
 ghost use mathlib.Core.Path.{_≡_};
 ghost use Rattle.refusals.specs.Answers.{after};
 ghost use Rattle.words.specs.Kinds.{rowsOf};
-ghost use Rattle.words.specs.Words.{words};
-ghost use Rattle.lines.specs.Reading.{headOf, planLimits, loopsLimits, valuesLimits, ReadInto};
+ghost use Rattle.words.specs.Tables.{wordsIn};
+ghost use Rattle.lines.specs.Reading.{cellHead, headOf, planLimits, loopsLimits, valuesLimits, ReadInto};
 ghost use Rattle.lines.specs.Lent.{askRoom};
 ghost use Rattle.lines.specs.Printing.{PrintInto};
-ghost use Rattle.lines.specs.declared.Heads.the-variants.{Words, Cells};
+ghost use Rattle.lines.specs.declared.Heads.the-variants.{Words};
 use refusals::Answer;
 use refusals::Refusal;
+use words::Table;
 
 mod printer;
 mod reader;
@@ -31,11 +32,11 @@ pub struct Limits {
     pub lines: usize,
 }
 
-// Reads a text within limits: how many rows it has, or the first "no". They go into the lent table if that has room for them.
-fn read(text: &[u8], limits: Limits, kinds: &mut [u8], numbers: &mut [i32]) -> Answer
-    ensures { λ r. ⌜ ReadInto (headOf words Words) limits (now (text .entry)) (now (kinds .entry)) (now (numbers .entry)) r (now (kinds .exit)) (now (numbers .exit)) ⌝ }
+// Reads a text within limits: how many rows it has, or the first "no". They go into the lent slices if both have room for them.
+fn read(table: &Table, text: &[u8], limits: Limits, kinds: &mut [u8], numbers: &mut [i32]) -> Answer
+    ensures { λ r. ⌜ ReadInto (headOf (wordsIn (now (table .entry))) Words) limits (now (text .entry)) (now (kinds .entry)) (now (numbers .entry)) r (now (kinds .exit)) (now (numbers .exit)) ⌝ }
 {
-    let answer = reader::ask(Heads::Words, limits, text);
+    let answer = reader::ask(table, Heads::Words, limits, text);
     let Answer::Told(rows) = answer else {
         return answer;
     };
@@ -45,15 +46,16 @@ fn read(text: &[u8], limits: Limits, kinds: &mut [u8], numbers: &mut [i32]) -> A
     if numbers.len() < rows {
         return answer;
     }
-    reader::put_rows(text, kinds, numbers);
+    reader::put_rows(table, text, kinds, numbers);
     answer
 }
 
 // Reads a plan's text: at most 4,096 bytes [13.2] and 256 lines [13.4].
-pub fn read_plan(text: &[u8], kinds: &mut [u8], numbers: &mut [i32]) -> Answer
-    ensures { λ r. ⌜ ReadInto (headOf words Words) planLimits (now (text .entry)) (now (kinds .entry)) (now (numbers .entry)) r (now (kinds .exit)) (now (numbers .exit)) ⌝ }
+pub fn read_plan(table: &Table, text: &[u8], kinds: &mut [u8], numbers: &mut [i32]) -> Answer
+    ensures { λ r. ⌜ ReadInto (headOf (wordsIn (now (table .entry))) Words) planLimits (now (text .entry)) (now (kinds .entry)) (now (numbers .entry)) r (now (kinds .exit)) (now (numbers .exit)) ⌝ }
 {
     read(
+        table,
         text,
         Limits {
             bytes: 4096,
@@ -65,10 +67,11 @@ pub fn read_plan(text: &[u8], kinds: &mut [u8], numbers: &mut [i32]) -> Answer
 }
 
 // Reads the text of loops: at most 65,536 bytes [13.3] and 4,096 lines [13.5].
-pub fn read_loops(text: &[u8], kinds: &mut [u8], numbers: &mut [i32]) -> Answer
-    ensures { λ r. ⌜ ReadInto (headOf words Words) loopsLimits (now (text .entry)) (now (kinds .entry)) (now (numbers .entry)) r (now (kinds .exit)) (now (numbers .exit)) ⌝ }
+pub fn read_loops(table: &Table, text: &[u8], kinds: &mut [u8], numbers: &mut [i32]) -> Answer
+    ensures { λ r. ⌜ ReadInto (headOf (wordsIn (now (table .entry))) Words) loopsLimits (now (text .entry)) (now (kinds .entry)) (now (numbers .entry)) r (now (kinds .exit)) (now (numbers .exit)) ⌝ }
 {
     read(
+        table,
         text,
         Limits {
             bytes: 65536,
@@ -79,11 +82,13 @@ pub fn read_loops(text: &[u8], kinds: &mut [u8], numbers: &mut [i32]) -> Answer
     )
 }
 
-// Reads a values file of at most 65,536 bytes [13.3]: the cells and their values.
+// Reads a values file of at most 65,536 bytes [13.3]: the cells and their values. It has no words ([16.3]), so that any table will do.
 pub fn read_values(text: &[u8], cells: &mut [u32], values: &mut [i32]) -> Answer
-    ensures { λ r. ⌜ ReadInto (headOf words Cells) valuesLimits (now (text .entry)) (now (cells .entry)) (now (values .entry)) r (now (cells .exit)) (now (values .exit)) ⌝ }
+    ensures { λ r. ⌜ ReadInto cellHead valuesLimits (now (text .entry)) (now (cells .entry)) (now (values .entry)) r (now (cells .exit)) (now (values .exit)) ⌝ }
 {
+    let table = words::built_in();
     let answer = reader::ask(
+        &table,
         Heads::Cells,
         Limits {
             bytes: 65536,
@@ -100,7 +105,7 @@ pub fn read_values(text: &[u8], cells: &mut [u32], values: &mut [i32]) -> Answer
     if values.len() < rows {
         return answer;
     }
-    reader::put_values(text, cells, values);
+    reader::put_values(&table, text, cells, values);
     answer
 }
 
@@ -120,15 +125,15 @@ pub fn ask_room(told: Answer, kinds: usize, numbers: usize) -> Answer
     told
 }
 
-// [1.9] Prints the rows of a table, as many as the shorter slice has ([1.8]), at the front of the lent text:
+// [1.9] Prints rows, as many as the shorter slice has ([1.8]), at the front of the lent text:
 // how many bytes were put, or the "no".
-pub fn print(kinds: &[u8], numbers: &[i32], text: &mut [u8]) -> Answer
-    ensures { λ r. ⌜ PrintInto words (rowsOf (now (kinds .entry)) (now (numbers .entry))) (now (text .entry)) r (now (text .exit)) ⌝ }
+pub fn print(table: &Table, kinds: &[u8], numbers: &[i32], text: &mut [u8]) -> Answer
+    ensures { λ r. ⌜ PrintInto (wordsIn (now (table .entry))) (rowsOf (now (kinds .entry)) (now (numbers .entry))) (now (text .entry)) r (now (text .exit)) ⌝ }
 {
-    let answer = printer::text_size(kinds, numbers, text.len());
+    let answer = printer::text_size(table, kinds, numbers, text.len());
     let Answer::Told(_) = answer else {
         return answer;
     };
-    printer::put_text(kinds, numbers, text);
+    printer::put_text(table, kinds, numbers, text);
     answer
 }

@@ -4,27 +4,29 @@ ghost use Prim.Native.Nat.{_+_, _≤_, _<_};
 ghost use lib.ListN.{length};
 ghost use lib.Seq.{sets};
 ghost use Rattle.words.specs.Kinds.{rowsOf};
-ghost use Rattle.words.specs.Words.{words, wordAt};
+ghost use Rattle.words.specs.Tables.{wordsIn};
+ghost use Rattle.words.specs.Words.{wordAt};
 ghost use Rattle.lines.specs.Printing.{written, textOf, printing};
 use refusals::Answer;
 use refusals::Refusal;
+use words::Table;
 
 // The bytes of a row's line.
-fn line_size(kind: u8, number: i32) -> usize
-    ensures { λ r. ⌜ (r ≡ length (written words (kind, number))) × (r ≤ 19) ⌝ }
+fn line_size(table: &Table, kind: u8, number: i32) -> usize
+    ensures { λ r. ⌜ (r ≡ length (written (wordsIn (now (table .entry))) (kind, number))) × (r ≤ 21) ⌝ }
 {
-    words::length(kind) + 1 + numerals::size(number) + 1
+    words::length(table, kind) + 1 + numerals::size(number) + 1
 }
 
 // The bytes of the rows' text, if it has at most as many as there is room for.
-pub fn text_size(kinds: &[u8], numbers: &[i32], room: usize) -> Answer
-    ensures { λ r. ⌜ r ≡ printing (textOf words (rowsOf (now (kinds .entry)) (now (numbers .entry)))) room ⌝ }
+pub fn text_size(table: &Table, kinds: &[u8], numbers: &[i32], room: usize) -> Answer
+    ensures { λ r. ⌜ r ≡ printing (textOf (wordsIn (now (table .entry))) (rowsOf (now (kinds .entry)) (now (numbers .entry)))) room ⌝ }
 {
     let rows = words::row_count(kinds, numbers);
     let mut bytes = 0;
     let mut i = 0;
     while i < rows {
-        let size = line_size(kinds[i], numbers[i]);
+        let size = line_size(table, kinds[i], numbers[i]);
         if room - bytes < size {
             return Answer::Refused(Refusal::LentSize);
         }
@@ -35,26 +37,26 @@ pub fn text_size(kinds: &[u8], numbers: &[i32], room: usize) -> Answer
 }
 
 // Puts a word's letters.
-fn put_word(kind: u8, text: &mut [u8], at: usize)
+fn put_word(table: &Table, kind: u8, text: &mut [u8], at: usize)
     requires { ⌜ at ≤ length (now text) ⌝ }
-    ensures { λ _. ⌜ now (text .exit) ≡ sets (now (text .entry)) at (wordAt words kind) ⌝ }
+    ensures { λ _. ⌜ now (text .exit) ≡ sets (now (text .entry)) at (wordAt (wordsIn (now (table .entry))) kind) ⌝ }
 {
-    let n = words::length(kind);
+    let n = words::length(table, kind);
     let mut i = 0;
     while i < n {
-        slices::put_u8(text, at + i, words::letter(kind, i));
+        slices::put_u8(text, at + i, words::letter(table, kind, i));
         i += 1;
     }
 }
 
 // Puts a row's line; the place behind it.
-fn put_line(kind: u8, number: i32, text: &mut [u8], at: usize) -> usize
+fn put_line(table: &Table, kind: u8, number: i32, text: &mut [u8], at: usize) -> usize
     requires { ⌜ at ≤ length (now text) ⌝ }
-    ensures { λ r. ⌜ (r ≡ at + length (written words (kind, number)))
-        × (now (text .exit) ≡ sets (now (text .entry)) at (written words (kind, number))) ⌝ }
+    ensures { λ r. ⌜ (r ≡ at + length (written (wordsIn (now (table .entry))) (kind, number)))
+        × (now (text .exit) ≡ sets (now (text .entry)) at (written (wordsIn (now (table .entry))) (kind, number))) ⌝ }
 {
-    put_word(kind, text, at);
-    let comma = at + words::length(kind);
+    put_word(table, kind, text, at);
+    let comma = at + words::length(table, kind);
     slices::put_u8(text, comma, b',');
     numerals::put(number, text, comma + 1);
     let end = comma + 1 + numerals::size(number);
@@ -63,15 +65,15 @@ fn put_line(kind: u8, number: i32, text: &mut [u8], at: usize) -> usize
 }
 
 // Puts the rows' text at the front of a text that has room for it.
-pub fn put_text(kinds: &[u8], numbers: &[i32], text: &mut [u8])
-    requires { ⌜ length (textOf words (rowsOf (now kinds) (now numbers))) ≤ length (now text) ⌝ }
-    ensures { λ _. ⌜ now (text .exit) ≡ sets (now (text .entry)) 0 (textOf words (rowsOf (now (kinds .entry)) (now (numbers .entry)))) ⌝ }
+pub fn put_text(table: &Table, kinds: &[u8], numbers: &[i32], text: &mut [u8])
+    requires { ⌜ length (textOf (wordsIn (now table)) (rowsOf (now kinds) (now numbers))) ≤ length (now text) ⌝ }
+    ensures { λ _. ⌜ now (text .exit) ≡ sets (now (text .entry)) 0 (textOf (wordsIn (now (table .entry))) (rowsOf (now (kinds .entry)) (now (numbers .entry)))) ⌝ }
 {
     let rows = words::row_count(kinds, numbers);
     let mut at = 0;
     let mut i = 0;
     while i < rows {
-        at = put_line(kinds[i], numbers[i], text, at);
+        at = put_line(table, kinds[i], numbers[i], text, at);
         i += 1;
     }
 }

@@ -5,11 +5,11 @@ ghost use Prim.Native.Nat.{_+_, _≤_, _<_};
 ghost use lib.ListN.{length, drop};
 ghost use lib.Seq.{sets};
 ghost use Rattle.words.specs.Kinds.{Row};
-ghost use Rattle.words.specs.Words.{words};
+ghost use Rattle.words.specs.Tables.{wordsIn};
 ghost use Rattle.texts.specs.Texts.{linesOf, firstLine, afterFirst};
-ghost use Rattle.lines.specs.Reading.{cellNamed, headOf, lineOf, addRow, rowsIn, formed, reading, kindsOf, numbersOf};
+ghost use Rattle.lines.specs.Reading.{cellNamed, cellHead, headOf, lineOf, addRow, rowsIn, formed, reading, kindsOf, numbersOf};
 ghost use Rattle.lines.specs.Below.{Below};
-ghost use Rattle.lines.specs.declared.Heads.the-variants.{Words, Cells};
+ghost use Rattle.lines.specs.declared.Heads.the-variants.{Words};
 use crate::Heads;
 use crate::Limits;
 use crate::Line;
@@ -17,6 +17,7 @@ use numerals::Numeral;
 use refusals::Answer;
 use refusals::Refusal;
 use words::Found;
+use words::Table;
 
 // A line, and where the next one begins.
 pub struct Next {
@@ -39,22 +40,22 @@ fn cell_of(number: Numeral) -> Found
     }
 }
 
-// What stands before a comma.
-fn head_of(heads: Heads, bytes: &[u8]) -> Found
-    ensures { λ r. ⌜ r ≡ headOf words heads (now (bytes .entry)) ⌝ }
+// What stands before a comma; a cell whatever the words are.
+fn head_of(table: &Table, heads: Heads, bytes: &[u8]) -> Found
+    ensures { λ r. ⌜ r ≡ headOf (wordsIn (now (table .entry))) heads (now (bytes .entry)) ⌝ }
 {
     match heads {
-        Heads::Words => words::look_up(bytes),
+        Heads::Words => words::look_up(table, bytes),
         Heads::Cells => cell_of(numerals::read(bytes)),
     }
 }
 
 // [1.2] What a line is.
-fn line_of(heads: Heads, line: &[u8]) -> Line
-    ensures { λ r. ⌜ r ≡ lineOf (headOf words heads) (now (line .entry)) ⌝ }
+fn line_of(table: &Table, heads: Heads, line: &[u8]) -> Line
+    ensures { λ r. ⌜ r ≡ lineOf (headOf (wordsIn (now (table .entry))) heads) (now (line .entry)) ⌝ }
 {
     let comma = texts::field_length(line);
-    let head = head_of(heads, &line[..comma]);
+    let head = head_of(table, heads, &line[..comma]);
     let Found::At(kind) = head else {
         return Line::NoRow;
     };
@@ -70,15 +71,15 @@ fn line_of(heads: Heads, line: &[u8]) -> Line
 }
 
 // The line that begins here, and where the next one begins.
-fn next_line(heads: Heads, text: &[u8], at: usize) -> Next
+fn next_line(table: &Table, heads: Heads, text: &[u8], at: usize) -> Next
     requires { ⌜ at < length (now text) ⌝ }
-    ensures { λ r. ⌜ (r .line ≡ lineOf (headOf words heads) (firstLine (drop at (now (text .entry)))))
+    ensures { λ r. ⌜ (r .line ≡ lineOf (headOf (wordsIn (now (table .entry))) heads) (firstLine (drop at (now (text .entry)))))
         × (r .after ≡ at + afterFirst (drop at (now (text .entry))))
         × (r .after ≤ length (now (text .entry)) + 1) ⌝ }
 {
     let rest = &text[at..];
     let end = texts::line_length(rest);
-    let line = line_of(heads, &rest[..end]);
+    let line = line_of(table, heads, &rest[..end]);
     Next {
         line,
         after: at + end + 1,
@@ -86,13 +87,13 @@ fn next_line(heads: Heads, text: &[u8], at: usize) -> Next
 }
 
 // [10.2], line by line.
-fn ask_lines(heads: Heads, text: &[u8]) -> Answer
-    ensures { λ r. ⌜ r ≡ formed (headOf words heads) 0 (linesOf (now (text .entry))) ⌝ }
+fn ask_lines(table: &Table, heads: Heads, text: &[u8]) -> Answer
+    ensures { λ r. ⌜ r ≡ formed (headOf (wordsIn (now (table .entry))) heads) 0 (linesOf (now (text .entry))) ⌝ }
 {
     let mut at = 0;
     let mut lines = 0;
     while at < text.len() {
-        let next = next_line(heads, text, at);
+        let next = next_line(table, heads, text, at);
         let line = next.line;
         lines += 1;
         let Line::IsRow { kind: _, number: _ } = line else {
@@ -104,8 +105,8 @@ fn ask_lines(heads: Heads, text: &[u8]) -> Answer
 }
 
 // Questions 1, 2 and 3: [10.1] to [10.3].
-pub fn ask(heads: Heads, limits: Limits, text: &[u8]) -> Answer
-    ensures { λ r. ⌜ r ≡ reading (headOf words heads) limits (now (text .entry)) ⌝ }
+pub fn ask(table: &Table, heads: Heads, limits: Limits, text: &[u8]) -> Answer
+    ensures { λ r. ⌜ r ≡ reading (headOf (wordsIn (now (table .entry))) heads) limits (now (text .entry)) ⌝ }
 {
     let size = text.len();
     if size == 0 {
@@ -117,7 +118,7 @@ pub fn ask(heads: Heads, limits: Limits, text: &[u8]) -> Answer
     if text[size - 1] != b'\n' {
         return Answer::Refused(Refusal::TextForm);
     }
-    let answer = ask_lines(heads, text);
+    let answer = ask_lines(table, heads, text);
     let Answer::Told(rows) = answer else {
         return answer;
     };
@@ -143,14 +144,14 @@ fn put_row(line: Line, kinds: &mut [u8], numbers: &mut [i32], at: usize) -> usiz
 }
 
 // Puts the rows of a text, from the first place of the table on.
-pub fn put_rows(text: &[u8], kinds: &mut [u8], numbers: &mut [i32])
-    ensures kinds_put { λ _. ⌜ now (kinds .exit) ≡ sets (now (kinds .entry)) 0 (kindsOf (rowsIn (headOf words Words) (linesOf (now (text .entry))))) ⌝ }
-    ensures numbers_put { λ _. ⌜ now (numbers .exit) ≡ sets (now (numbers .entry)) 0 (numbersOf (rowsIn (headOf words Words) (linesOf (now (text .entry))))) ⌝ }
+pub fn put_rows(table: &Table, text: &[u8], kinds: &mut [u8], numbers: &mut [i32])
+    ensures kinds_put { λ _. ⌜ now (kinds .exit) ≡ sets (now (kinds .entry)) 0 (kindsOf (rowsIn (headOf (wordsIn (now (table .entry))) Words) (linesOf (now (text .entry))))) ⌝ }
+    ensures numbers_put { λ _. ⌜ now (numbers .exit) ≡ sets (now (numbers .entry)) 0 (numbersOf (rowsIn (headOf (wordsIn (now (table .entry))) Words) (linesOf (now (text .entry))))) ⌝ }
 {
     let mut at = 0;
     let mut row = 0;
     while at < text.len() {
-        let next = next_line(Heads::Words, text, at);
+        let next = next_line(table, Heads::Words, text, at);
         let line = next.line;
         row = put_row(line, kinds, numbers, row);
         at = next.after;
@@ -173,14 +174,14 @@ fn put_value(line: Line, cells: &mut [u32], values: &mut [i32], at: usize) -> us
 }
 
 // Puts the cells and values of a values file, from the first place on.
-pub fn put_values(text: &[u8], cells: &mut [u32], values: &mut [i32])
-    ensures cells_put { λ _. ⌜ now (cells .exit) ≡ sets (now (cells .entry)) 0 (kindsOf (rowsIn (headOf words Cells) (linesOf (now (text .entry))))) ⌝ }
-    ensures values_put { λ _. ⌜ now (values .exit) ≡ sets (now (values .entry)) 0 (numbersOf (rowsIn (headOf words Cells) (linesOf (now (text .entry))))) ⌝ }
+pub fn put_values(table: &Table, text: &[u8], cells: &mut [u32], values: &mut [i32])
+    ensures cells_put { λ _. ⌜ now (cells .exit) ≡ sets (now (cells .entry)) 0 (kindsOf (rowsIn cellHead (linesOf (now (text .entry))))) ⌝ }
+    ensures values_put { λ _. ⌜ now (values .exit) ≡ sets (now (values .entry)) 0 (numbersOf (rowsIn cellHead (linesOf (now (text .entry))))) ⌝ }
 {
     let mut at = 0;
     let mut row = 0;
     while at < text.len() {
-        let next = next_line(Heads::Cells, text, at);
+        let next = next_line(table, Heads::Cells, text, at);
         let line = next.line;
         row = put_value(line, cells, values, row);
         at = next.after;

@@ -1,4 +1,6 @@
-// The check of loops, whoever wrote them: [10.1] to [10.6], [10.9] and [10.11]; the need; and reading loops into a lent table.
+// The check of loops, whoever wrote them: [10.1] to [10.6], [10.9] and [10.11]; the need; and reading loops into a lent table of rows. Where a
+// words text is given, [16.4] and [16.5] come first.
+ghost use Rattle.words.specs.Tables.{wordsIn};
 ghost use Rattle.words.specs.Words.{words};
 ghost use mathlib.Core.Path.{_≡_};
 ghost use Prim.Native.Nat.{_≤_};
@@ -9,9 +11,11 @@ ghost use Rattle.meaning.specs.Rows.{loopsRows};
 ghost use Rattle.syntax.specs.InRange.{LoopsInRange};
 ghost use Rattle.loops.specs.Check.{checkLoops, checkLoopsRows};
 ghost use Rattle.loops.specs.Contracts.{ChecksLoops, ChecksTable, TellsNeed, ReadsLoops};
+ghost use Rattle.loops.specs.Contracts.{ChecksLoopsIn, TellsNeedIn, ReadsLoopsIn};
 use refusals::Answer;
 use refusals::Refusal;
 use row_bounds::Asked;
+use words::Table;
 
 mod need;
 
@@ -69,39 +73,99 @@ pub fn check_table(kinds: &[u8], numbers: &[i32]) -> Checked
     }
 }
 
-// [10.16] The check of a loops text: questions 1 to 6, 9 and 11.
-pub fn check_text(text: &[u8]) -> Checked
-    ensures { λ r. ⌜ ChecksLoops words (now (text .entry)) r ⌝ }
+// The check of a loops text that is read with this table of words.
+fn check_with(table: &Table, text: &[u8]) -> Checked
+    ensures { λ r. ⌜ ChecksLoops (wordsIn (now (table .entry))) (now (text .entry)) r ⌝ }
 {
     let mut kinds = [0u8; 4096];
     let mut numbers = [0i32; 4096];
-    let read = lines::read_loops(text, &mut kinds, &mut numbers);
+    let read = lines::read_loops(table, text, &mut kinds, &mut numbers);
     match read {
         Answer::Refused(refusal) => Checked::Refused(refusal),
         Answer::Told(rows) => check_rows(&kinds[..rows], &numbers[..rows]),
     }
 }
 
-// [7.4] The need of a loops text, under the same questions.
-pub fn need_text(text: &[u8]) -> Answer
-    ensures { λ r. ⌜ TellsNeed words (now (text .entry)) r ⌝ }
+// The need of the same.
+fn need_with(table: &Table, text: &[u8]) -> Answer
+    ensures { λ r. ⌜ TellsNeed (wordsIn (now (table .entry))) (now (text .entry)) r ⌝ }
 {
-    let checked = check_text(text);
+    let checked = check_with(table, text);
     match checked {
         Checked::Refused(refusal) => Answer::Refused(refusal),
         Checked::Passes { writes: _, need } => Answer::Told(need),
     }
 }
 
-// [10.16] Reads a loops text into a lent table: the same questions, then 12. How many rows were put in front of both slices; or the
+// The same text read into a lent table of rows.
+fn read_with(table: &Table, text: &[u8], kinds: &mut [u8], numbers: &mut [i32]) -> Answer
+    ensures { λ r. ⌜ ReadsLoops (wordsIn (now (table .entry))) (now (text .entry)) (now (kinds .entry)) (now (numbers .entry)) r (now (kinds .exit)) (now (numbers .exit)) ⌝ }
+{
+    let checked = need_with(table, text);
+    let Answer::Told(_) = checked else {
+        return checked;
+    };
+    let read = lines::read_loops(table, text, kinds, numbers);
+    lines::ask_room(read, kinds.len(), numbers.len())
+}
+
+// [10.16] The check of a loops text: questions 1 to 6, 9 and 11.
+pub fn check_text(text: &[u8]) -> Checked
+    ensures { λ r. ⌜ ChecksLoops words (now (text .entry)) r ⌝ }
+{
+    let table = words::built_in();
+    check_with(&table, text)
+}
+
+// [7.4] The need of a loops text, under the same questions.
+pub fn need_text(text: &[u8]) -> Answer
+    ensures { λ r. ⌜ TellsNeed words (now (text .entry)) r ⌝ }
+{
+    let table = words::built_in();
+    need_with(&table, text)
+}
+
+// [10.16] Reads a loops text into a lent table of rows: the same questions, then 12. How many rows were put in front of both slices; or the
 // first "no", and both are as they were ([10.17], [10.22]).
 pub fn read_text(text: &[u8], kinds: &mut [u8], numbers: &mut [i32]) -> Answer
     ensures { λ r. ⌜ ReadsLoops words (now (text .entry)) (now (kinds .entry)) (now (numbers .entry)) r (now (kinds .exit)) (now (numbers .exit)) ⌝ }
 {
-    let checked = need_text(text);
-    let Answer::Told(_) = checked else {
-        return checked;
+    let table = words::built_in();
+    read_with(&table, text, kinds, numbers)
+}
+
+// [16.7] The check under a words text.
+pub fn check_text_in(words: &[u8], text: &[u8]) -> Checked
+    ensures { λ r. ⌜ ChecksLoopsIn (now (words .entry)) (now (text .entry)) r ⌝ }
+{
+    let mut table = words::built_in();
+    let read = own_words::read(words, &mut table);
+    match read {
+        Answer::Refused(refusal) => Checked::Refused(refusal),
+        Answer::Told(_) => check_with(&table, text),
+    }
+}
+
+// [16.7] The need under a words text.
+pub fn need_text_in(words: &[u8], text: &[u8]) -> Answer
+    ensures { λ r. ⌜ TellsNeedIn (now (words .entry)) (now (text .entry)) r ⌝ }
+{
+    let mut table = words::built_in();
+    let read = own_words::read(words, &mut table);
+    let Answer::Told(_) = read else {
+        return read;
     };
-    let read = lines::read_loops(text, kinds, numbers);
-    lines::ask_room(read, kinds.len(), numbers.len())
+    need_with(&table, text)
+}
+
+// [16.7] The reading under a words text.
+pub fn read_text_in(words: &[u8], text: &[u8], kinds: &mut [u8], numbers: &mut [i32]) -> Answer
+    ensures { λ r. ⌜ ReadsLoopsIn (now (words .entry)) (now (text .entry)) (now (kinds .entry)) (now (numbers .entry)) r (now (kinds .exit)) (now (numbers .exit)) ⌝ }
+{
+    let mut table = words::built_in();
+    let read = own_words::read(words, &mut table);
+    let Answer::Told(_) = read else {
+        return read;
+    };
+    read_with(&table, text, kinds, numbers)
 }

@@ -1,4 +1,4 @@
-pub mod Fronts
+pub mod FirstNumber
 pub mod Putting
 pub mod MadeTexts
 pub mod Tables

@@ -49,25 +49,25 @@ cells-end ns i h = ap (λ (l : List ℤ). allCells (cellNumbers l)) (drop-of-len
 
 -- ---- the values
 
-module _ (ws : List (List ℕ)) (v : List ℕ) (s : List ℤ) where
-  pub none-asked : (n : ℕ) → n ≡ 0 → ValuesInto ws v n s (Told 0) s
+module _ (v : List ℕ) (s : List ℤ) where
+  pub none-asked : (n : ℕ) → n ≡ 0 → ValuesInto v n s (Told 0) s
   none-asked n e = record {
-    answer = ap (λ (b : Bool). cond b (Told 0) (filling ws v n (length s))) (sym (eq-eqb n 0 e));
-    filled = λ m f. ap (λ (k : ℕ). withValues ws v k s) (sym e);
+    answer = ap (λ (b : Bool). cond b (Told 0) (filling v n (length s))) (sym (eq-eqb n 0 e));
+    filled = λ m f. ap (λ (k : ℕ). withValues v k s) (sym e);
     kept = λ q f. refl;
   }
 
-  pub values-asked : (n : ℕ) (r : Answer) (s′ : List ℤ) → n ≢ 0 → FillInto ws v n s r s′ → ValuesInto ws v n s r s′
+  pub values-asked : (n : ℕ) (r : Answer) (s′ : List ℤ) → n ≢ 0 → FillInto v n s r s′ → ValuesInto v n s r s′
   values-asked n r s′ d I = record {
-    answer = I .answer ∙ ap (λ (b : Bool). cond b (Told 0) (filling ws v n (length s))) (sym (ne-eqb n 0 d));
+    answer = I .answer ∙ ap (λ (b : Bool). cond b (Told 0) (filling v n (length s))) (sym (ne-eqb n 0 d));
     filled = λ m f.
         I .store-left ∙ ap (λ (x : Answer). filled (isTold x) put s) f
-        ∙ ap (λ (k : ℕ). put ++ drop k s) (length-map (upFrom 0 n) (valueOf (valueLines ws v)) ∙ upFrom-length 0 n);
+        ∙ ap (λ (k : ℕ). put ++ drop k s) (length-map (upFrom 0 n) (valueOf (valueLines v)) ∙ upFrom-length 0 n);
     kept = λ q f. I .store-left ∙ ap (λ (x : Answer). filled (isTold x) put s) f;
   }
     where
       put : List ℤ
-      put = map (valueOf (valueLines ws v)) (upFrom 0 n)
+      put = map (valueOf (valueLines v)) (upFrom 0 n)
 
 -- ---- loops that pass, and a store that holds them
 

@@ -13,8 +13,10 @@ use Rattle.refusals.specs.declared.Answer.{Answer}
 use Rattle.refusals.specs.declared.Answer.the-variants.{Told, Refused}
 use Rattle.lines.specs.Printing.{printing}
 use Rattle.lines.specs.Reading.{filled}
+use Rattle.own_words.specs.Laws.{under-any}
+use Rattle.programs.specs.Contracts.{PrintsLoopsIn, PrintsRunIn}
 use Rattle.programs.specs.Printed.{PutInto}
-use Rattle.programs.specs.Runner.{runnerText, roomForAll, RunnerInto}
+use Rattle.programs.specs.Runner.{roomForAll, ShownInto}
 
 bytes-of : {m n : ℕ} (b : Bool) → Told n ≡ cond b (Told m) (Refused LentSize) → (b ≡ true) × (n ≡ m)
 bytes-of true e = (refl, cc)
@@ -27,10 +29,17 @@ put-within text lent I e =
     let b = bytes-of (leb (length text) (length lent)) (sym e ∙ I .answer) in
     omega (arith, b .1, leb-true (length text) (length lent) (b .0))
 
-pub runner-within : (ws : List (List ℕ)) (t v : List ℕ) (s : List ℤ) (lent : List ℕ) {r : Answer} {s′ : List ℤ} {lent′ : List ℕ} {n : ℕ}
-    → RunnerInto ws t v s lent r s′ lent′ → length lent′ ≡ length lent → r ≡ Told n → n ≤ length lent
-runner-within ws t v s lent {n = n} I h e =
+pub shown-within : (text : List ℕ) (end s : List ℤ) (lent : List ℕ) {r : Answer} {s′ : List ℤ} {lent′ : List ℕ} {n : ℕ}
+    → ShownInto text end s lent r s′ lent′ → length lent′ ≡ length lent → r ≡ Told n → n ≤ length lent
+shown-within text end s lent {n = n} I h e =
     let b = bytes-of (roomForAll lent) (sym e ∙ I .answer) in
-    let text = runnerText ws t v s in
     let l = I .text-left ∙ ap (λ (x : Bool). filled x text lent) (b .0) in
     omega (arith, b .1, ap length l, length-append text (drop (length text) lent), h)
+
+-- The same under a words text.
+pub put-within-in : (w t lent : List ℕ) {r : Answer} {lent′ : List ℕ} {n : ℕ} → PrintsLoopsIn w t lent r lent′ → r ≡ Told n → n ≤ length lent
+put-within-in w t lent u e = under-any u (λ I. put-within _ lent I e) (λ q I. put-within _ lent I e)
+
+pub shown-within-in : (w t v : List ℕ) (s : List ℤ) (lent : List ℕ) {r : Answer} {s′ : List ℤ} {lent′ : List ℕ} {n : ℕ}
+    → PrintsRunIn w t v s lent r s′ lent′ → length lent′ ≡ length lent → r ≡ Told n → n ≤ length lent
+shown-within-in w t v s lent u h e = under-any u (λ I. shown-within _ _ s lent I h e) (λ q I. shown-within _ _ s lent I h e)

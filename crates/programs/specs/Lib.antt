@@ -7,6 +7,5 @@ pub mod Runner
 pub mod Parts
 -- Their laws
 pub mod Laws
-pub mod NoInputs
 -- The contracts of the entries
 pub mod Contracts

@@ -16,9 +16,9 @@ use Rattle.run.specs.Run.{Ran}
 use Rattle.programs.specs.Runner.{askValues, withValues, outcomeText}
 
 -- What is left where the values of n input cells were asked.
-pub record ValuesInto (ws : List (List ℕ)) (v : List ℕ) (n : ℕ) (s : List ℤ) (r : Answer) (s′ : List ℤ) : Type 0 where
-  pub answer : r ≡ askValues ws v n (length s)
-  pub filled : (m : ℕ) → r ≡ Told m → s′ ≡ withValues ws v n s
+pub record ValuesInto (v : List ℕ) (n : ℕ) (s : List ℤ) (r : Answer) (s′ : List ℤ) : Type 0 where
+  pub answer : r ≡ askValues v n (length s)
+  pub filled : (m : ℕ) → r ≡ Told m → s′ ≡ withValues v n s
   pub kept : (q : Refusal) → r ≡ Refused q → s′ ≡ s
 
 -- A table whose rows pass and need n cells, of which there are at least so many in the store.

@@ -1,6 +1,6 @@
 -- What the runner prints, and the store that it leaves: [11.5] to [11.9]. The table of words is an argument. Definitions only;
 -- assumes nothing.
-use mathlib.Core.Bool.{Bool, true, false, not, cond, _&&_}
+use mathlib.Core.Bool.{Bool, not, cond}
 use mathlib.Core.Path.{_≡_}
 use mathlib.Core.List.{List, [], _∷_, _++_, map}
 use Prim.Native.Nat.{ℕ, suc}
@@ -10,7 +10,8 @@ use lib.ListN.{length, take, drop}
 use Rattle.refusals.specs.declared.Refusal.the-variants.{StoreSize, LentSize}
 use Rattle.refusals.specs.declared.Answer.{Answer}
 use Rattle.refusals.specs.declared.Answer.the-variants.{Told, Refused}
-use Rattle.words.specs.Words.{bytes}
+use Rattle.words.specs.Words.{bytes, sameLetters}
+use Rattle.texts.specs.Texts.{firstLine, afterComma}
 use Rattle.numerals.specs.Numerals.{decimal}
 use Rattle.lines.specs.Reading.{filled}
 use Rattle.lines.specs.Lent.{textRows}
@@ -29,12 +30,12 @@ use Rattle.programs.specs.Printed.{refusalText}
 -- ---- the questions and the run
 
 -- [11.5] With no input cells the values play no part; else those of n input cells are asked, the store having so many cells.
-abbrev pub askValues : List (List ℕ) → List ℕ → ℕ → ℕ → Answer
-askValues ws v n store = cond (eqb n 0) (Told 0) (filling ws v n store)
+abbrev pub askValues : List ℕ → ℕ → ℕ → Answer
+askValues v n store = cond (eqb n 0) (Told 0) (filling v n store)
 
 -- The cells 0 to n − 1 hold their values, and the others what they held.
-abbrev pub withValues : List (List ℕ) → List ℕ → ℕ → List ℤ → List ℤ
-withValues ws v n s = map (valueOf (valueLines ws v)) (upFrom 0 n) ++ drop n s
+abbrev pub withValues : List ℕ → ℕ → List ℤ → List ℤ
+withValues v n s = map (valueOf (valueLines v)) (upFrom 0 n) ++ drop n s
 
 -- [11.6] The run is in order 0, on the store with its values, unless they were refused.
 abbrev pub afterValues : Answer → Loops → List ℤ → List ℤ → Ran
@@ -42,18 +43,18 @@ afterValues (Told m) L held s = finished (runOf L 0 held)
 afterValues (Refused q) L held s = refused q s
 
 -- `values.txt`, and then the run, of loops that pass
-unfoldable pub valuesRun : List (List ℕ) → List ℕ → Loops → List ℤ → Ran
-valuesRun ws v L s =
-    afterValues (askValues ws v (allCells (L .inputs)) (length s)) L (withValues ws v (allCells (L .inputs)) s) s
+unfoldable pub valuesRun : List ℕ → Loops → List ℤ → Ran
+valuesRun v L s =
+    afterValues (askValues v (allCells (L .inputs)) (length s)) L (withValues v (allCells (L .inputs)) s) s
 
 -- [10.16] The runner asks the loops their questions, 14 included, and then the values.
-abbrev pub printChecked : Checked → List (List ℕ) → List ℕ → Loops → List ℤ → Ran
-printChecked (check.Passes w n) ws v L s = cond (leb n (length s)) (valuesRun ws v L s) (refused StoreSize s)
-printChecked (check.Refused q) ws v L s = refused q s
+abbrev pub printChecked : Checked → List ℕ → Loops → List ℤ → Ran
+printChecked (check.Passes w n) v L s = cond (leb n (length s)) (valuesRun v L s) (refused StoreSize s)
+printChecked (check.Refused q) v L s = refused q s
 
 -- t is the loops' text, v that of the values, s the store
 unfoldable pub runnerOutcome : List (List ℕ) → List ℕ → List ℕ → List ℤ → Ran
-runnerOutcome ws t v s = printChecked (checkLoopsText ws t) ws v (loopsOf (textRows ws t)) s
+runnerOutcome ws t v s = printChecked (checkLoopsText ws t) v (loopsOf (textRows ws t)) s
 
 -- ---- the text
 
@@ -83,15 +84,9 @@ runnerText ws t v s = outcomeText (loopsOf (textRows ws t)) (runnerOutcome ws t 
 
 -- ---- whether the values are read
 
--- whether a text begins with these bytes
-unfoldable pub begins : List ℕ → List ℕ → Bool
-begins t [] = true
-begins [] (f ∷ fs) = false
-begins (b ∷ t) (f ∷ fs) = eqb b f && begins t fs
-
--- [11.5] Loops that begin with `loops,0` have no input cells.
+-- [11.5] Loops whose first line has the number 0 have no input cells, whatever the words are.
 abbrev pub readsValues : List ℕ → Bool
-readsValues t = not (begins t (bytes "loops,0" ++ (10 ∷ [])))
+readsValues t = not (sameLetters (afterComma (firstLine t)) (bytes "0"))
 
 -- ---- what is promised
 
@@ -99,8 +94,12 @@ readsValues t = not (begins t (bytes "loops,0" ++ (10 ∷ [])))
 abbrev pub roomForAll : List ℕ → Bool
 roomForAll lent = leb 69648 (length lent)
 
--- What is promised of the answer r, of the store and of the lent text, as lent and as left.
-pub record RunnerInto (ws : List (List ℕ)) (t v : List ℕ) (store : List ℤ) (lent : List ℕ) (r : Answer) (store′ : List ℤ) (lent′ : List ℕ) : Type 0 where
-  pub answer : r ≡ cond (roomForAll lent) (Told (length (runnerText ws t v store))) (Refused LentSize)
-  pub store-left : store′ ≡ cond (roomForAll lent) (runnerOutcome ws t v store .store) store
-  pub text-left : lent′ ≡ filled (roomForAll lent) (runnerText ws t v store) lent
+-- What is promised of the answer r, of the store and of the lent text, as lent and as left, where `text` is printed and the store left as
+-- `end`.
+pub record ShownInto (text : List ℕ) (end store : List ℤ) (lent : List ℕ) (r : Answer) (store′ : List ℤ) (lent′ : List ℕ) : Type 0 where
+  pub answer : r ≡ cond (roomForAll lent) (Told (length text)) (Refused LentSize)
+  pub store-left : store′ ≡ cond (roomForAll lent) end store
+  pub text-left : lent′ ≡ filled (roomForAll lent) text lent
+
+abbrev pub RunnerInto : List (List ℕ) → List ℕ → List ℕ → List ℤ → List ℕ → Answer → List ℤ → List ℕ → Type 0
+RunnerInto ws t v store = ShownInto (runnerText ws t v store) (runnerOutcome ws t v store .store) store

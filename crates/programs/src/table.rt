@@ -7,7 +7,6 @@ ghost use lib.ListN.{length};
 ghost use lib.Seq.{sets};
 ghost use Rattle.numerals.specs.Numerals.{decimal};
 ghost use Rattle.words.specs.Kinds.{rowsOf};
-ghost use Rattle.words.specs.Words.{words};
 ghost use Rattle.meaning.specs.Layout.{allCells};
 ghost use Rattle.syntax.specs.Ranges.{cellNumbers};
 ghost use Rattle.syntax.specs.Reading.{loopsOf};
@@ -56,7 +55,7 @@ fn layout_of(kinds: &[u8], numbers: &[i32], store: usize) -> Layout
 
 // [11.5] The values of so many input cells; with none the values are not looked at.
 fn fill_inputs(values: &[u8], cells: usize, store: &mut [i32]) -> Answer
-    ensures { λ r. ⌜ ValuesInto words (now (values .entry)) cells (now (store .entry)) r (now (store .exit)) ⌝ }
+    ensures { λ r. ⌜ ValuesInto (now (values .entry)) cells (now (store .entry)) r (now (store .exit)) ⌝ }
 {
     if cells == 0 {
         return Answer::Told(0);
@@ -125,7 +124,7 @@ fn run_passing(
 ) -> Answer
     requires { ⌜ Ready (now kinds) (now numbers) (length (now store)) × (69648 ≤ length (now lent)) ⌝ }
     ensures { λ r. ⌜ OutcomeInto (loopsOf (rowsOf (now (kinds .entry)) (now (numbers .entry))))
-        (valuesRun words (now (values .entry)) (loopsOf (rowsOf (now (kinds .entry)) (now (numbers .entry)))) (now (store .entry)))
+        (valuesRun (now (values .entry)) (loopsOf (rowsOf (now (kinds .entry)) (now (numbers .entry)))) (now (store .entry)))
         (now (lent .entry)) r (now (store .exit)) (now (lent .exit)) ⌝ }
 {
     let layout = layout_of(kinds, numbers, store.len());
@@ -147,7 +146,7 @@ pub fn run_table(
 ) -> Answer
     requires { ⌜ (length (now kinds) ≡ length (now numbers)) × (length (now kinds) ≤ 4096) × (69648 ≤ length (now lent)) ⌝ }
     ensures { λ r. ⌜ OutcomeInto (loopsOf (rowsOf (now (kinds .entry)) (now (numbers .entry))))
-        (printChecked (checkTable (rowsOf (now (kinds .entry)) (now (numbers .entry)))) words (now (values .entry))
+        (printChecked (checkTable (rowsOf (now (kinds .entry)) (now (numbers .entry)))) (now (values .entry))
         (loopsOf (rowsOf (now (kinds .entry)) (now (numbers .entry)))) (now (store .entry)))
         (now (lent .entry)) r (now (store .exit)) (now (lent .exit)) ⌝ }
 {

@@ -1,4 +1,4 @@
--- The number and the line of every refusal: [10.1] to [10.15]. Definitions only; assumes nothing.
+-- The number and the line of every refusal: [10.1] to [10.15], [16.4], [16.5]. Definitions only; assumes nothing.
 use Prim.Native.Nat.{ℕ}
 use Rattle.refusals.specs.declared.Refusal.{Refusal}
 use Rattle.refusals.specs.declared.Refusal.the-variants.{
@@ -17,6 +17,8 @@ use Rattle.refusals.specs.declared.Refusal.the-variants.{
   UnknownOrder,
   StoreSize,
   ValueLines,
+  WordsForm,
+  WordTwice,
 }
 
 -- [10.17] A refusal is told by the number of its question,
@@ -36,6 +38,8 @@ refusalNumber LentSize = 12
 refusalNumber UnknownOrder = 13
 refusalNumber StoreSize = 14
 refusalNumber ValueLines = 15
+refusalNumber WordsForm = 16
+refusalNumber WordTwice = 17
 
 -- [10.17] and by a line: from 1, or 0 where the question is put to a whole.
 abbrev pub refusalLine : Refusal → ℕ
@@ -54,3 +58,5 @@ refusalLine LentSize = 0
 refusalLine UnknownOrder = 0
 refusalLine StoreSize = 0
 refusalLine ValueLines = 0
+refusalLine WordsForm = 0
+refusalLine WordTwice = 0

@@ -1,4 +1,4 @@
-// The refusals: one case for each question, [10.1] to [10.15], that can be answered "no"; and the answer of everything that may refuse.
+// The refusals: one case for each question, [10.1] to [10.15], [16.4] and [16.5], that can be answered "no"; and the answer of everything that may refuse.
 ghost use mathlib.Core.Path.{_≡_};
 ghost use Rattle.refusals.specs.Refusals.{refusalNumber, refusalLine};
 
@@ -19,6 +19,8 @@ pub enum Refusal {
     UnknownOrder,
     StoreSize,
     ValueLines,
+    WordsForm,
+    WordTwice,
 }
 
 // [10.17] A number, or the first question that was answered "no".
@@ -47,6 +49,8 @@ pub fn number(refusal: Refusal) -> u8
         Refusal::UnknownOrder => 13,
         Refusal::StoreSize => 14,
         Refusal::ValueLines => 15,
+        Refusal::WordsForm => 16,
+        Refusal::WordTwice => 17,
     }
 }
 
@@ -70,5 +74,7 @@ pub fn line(refusal: Refusal) -> usize
         Refusal::UnknownOrder => 0,
         Refusal::StoreSize => 0,
         Refusal::ValueLines => 0,
+        Refusal::WordsForm => 0,
+        Refusal::WordTwice => 0,
     }
 }

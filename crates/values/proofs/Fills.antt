@@ -15,10 +15,9 @@ use Rattle.refusals.specs.declared.Answer.{Answer}
 use Rattle.refusals.specs.declared.Answer.the-variants.{Told, Refused}
 use Rattle.refusals.specs.Answers.{after, isTold}
 use Rattle.words.specs.Kinds.{Row, rowsOf}
-use Rattle.lines.specs.Reading.{headOf, reading, valuesLimits, roomFor, kindsOf, filled, ReadInto}
+use Rattle.lines.specs.Reading.{cellHead, reading, valuesLimits, roomFor, kindsOf, filled, ReadInto}
 use Rattle.lines.specs.Laws.{rows-read}
 use Rattle.lines.specs.TableLaws.{in-front, rows-in-front}
-use Rattle.lines.specs.declared.Heads.the-variants.{Cells}
 use Rattle.meaning.specs.Sequence.{upFrom}
 use Rattle.values.specs.Values.{oneLineEach, asked, valueLines, filling, valueOf, FillInto}
 use Rattle.values.specs.Stored.{stored}
@@ -26,16 +25,16 @@ use Rattle.values.specs.Laws.{test-says}
 use Rattle.values.proofs.Sizes.{few-rows}
 use Rattle.values.proofs.Stored.{values-stored}
 
-module _ (ws : List (List ℕ)) (t : List ℕ) {r : Answer} (cells : List ℕ) (values : List ℤ) {cells′ : List ℕ} {values′ : List ℤ}
-    (read : ReadInto (headOf ws Cells) valuesLimits t cells values r cells′ values′) where
+module _ (t : List ℕ) {r : Answer} (cells : List ℕ) (values : List ℤ) {cells′ : List ℕ} {values′ : List ℤ}
+    (read : ReadInto cellHead valuesLimits t cells values r cells′ values′) where
   abbrev R : List Row
-  R = valueLines ws t
+  R = valueLines t
 
-  read-so : {m : ℕ} → r ≡ Told m → reading (headOf ws Cells) valuesLimits t ≡ Told m
+  read-so : {m : ℕ} → r ≡ Told m → reading cellHead valuesLimits t ≡ Told m
   read-so is = sym (read .answer) ∙ is
 
   pub rows-few : {m : ℕ} → r ≡ Told m → m ≤ 16384
-  rows-few {m} is = few-rows ws t m (read-so is)
+  rows-few {m} is = few-rows t m (read-so is)
 
   module _ {A : Type 0} (column : List A) (long : length column ≡ 16384) {m : ℕ} (is : r ≡ Told m) where
     pub rows-fit : m ≤ length column
@@ -48,7 +47,7 @@ module _ (ws : List (List ℕ)) (t : List ℕ) {r : Answer} (cells : List ℕ) (
     abbrev next : ℕ → Answer
     next = asked n (length store) (kindsOf R)
 
-    pub text-refused : {q : Refusal} → r ≡ Refused q → FillInto ws t n store r store
+    pub text-refused : {q : Refusal} → r ≡ Refused q → FillInto t n store r store
     unfolding filling
     text-refused is =
         record {
@@ -61,13 +60,13 @@ module _ (ws : List (List ℕ)) (t : List ℕ) {r : Answer} (cells : List ℕ) (
       abbrev by-lines : Bool → Answer
       by-lines b = cond b (Told m) (Refused ValueLines)
 
-      by-store : {b : Bool} → b ≡ leb n (length store) → cond b (by-lines (oneLineEach n (kindsOf R))) (Refused StoreSize) ≡ filling ws t n (length store)
+      by-store : {b : Bool} → b ≡ leb n (length store) → cond b (by-lines (oneLineEach n (kindsOf R))) (Refused StoreSize) ≡ filling t n (length store)
       unfolding filling
       by-store e =
           ap (λ (x : Bool). cond x (by-lines (oneLineEach n (kindsOf R))) (Refused StoreSize)) e
           ∙ ap (λ (x : Answer). after x next) (sym (read-so is))
 
-      pub store-short : length store < n → FillInto ws t n store (Refused StoreSize) store
+      pub store-short : length store < n → FillInto t n store (Refused StoreSize) store
       store-short h = record { answer = by-store (sym (lt-leb n (length store) h)); store-left = refl }
 
       module _ (room : n ≤ length store) (h : length cells ≡ 16384) (g : length values ≡ 16384) where
@@ -76,7 +75,7 @@ module _ (ws : List (List ℕ)) (t : List ℕ) {r : Answer} (cells : List ℕ) (
             rw is (simp (le-leb m (length cells) (omega (arith, rows-few is, h)), le-leb m (length values) (omega (arith, rows-few is, g))))
 
         count : length R ≡ m
-        count = rows-read (headOf ws Cells) valuesLimits t m (read-so is)
+        count = rows-read cellHead valuesLimits t m (read-so is)
 
         cells-read : take m cells′ ≡ kindsOf R
         cells-read =
@@ -86,15 +85,15 @@ module _ (ws : List (List ℕ)) (t : List ℕ) {r : Answer} (cells : List ℕ) (
         rows-put =
             rows-in-front (roomFor r (length cells) (length values)) R m cells cells′ values values′ had-room count (read .kinds-left) (read .numbers-left)
 
-        tested : {b : Bool} → b ≡ oneLineEach n (take m cells′) → by-lines b ≡ filling ws t n (length store)
+        tested : {b : Bool} → b ≡ oneLineEach n (take m cells′) → by-lines b ≡ filling t n (length store)
         tested e = ap by-lines (e ∙ ap (oneLineEach n) cells-read) ∙ by-store (sym (le-leb n (length store) room))
 
         module _ {b : Bool} (test : b ≡ oneLineEach n (take m cells′)) where
-          pub lines-wrong : b ≡ false → FillInto ws t n store (Refused ValueLines) store
+          pub lines-wrong : b ≡ false → FillInto t n store (Refused ValueLines) store
           lines-wrong e = record { answer = tested (sym e ∙ test); store-left = refl }
 
           pub values-put : {store′ : List ℤ} → b ≡ true → store′ ≡ stored (rowsOf (take m cells′) (take m values′)) store
-              → FillInto ws t n store (Told m) store′
+              → FillInto t n store (Told m) store′
           values-put e put =
               record {
                 answer = tested (sym e ∙ test);

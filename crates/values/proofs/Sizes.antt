@@ -18,10 +18,9 @@ use Rattle.numerals.specs.Laws.{one-way, decimal-nonempty}
 use Rattle.numerals.specs.declared.Numeral.{Numeral}
 use Rattle.numerals.specs.declared.Numeral.the-variants.{Is, Malformed}
 use Rattle.texts.specs.Texts.{begin, linesOf, beforeComma, afterComma}
-use Rattle.lines.specs.Reading.{cellNamed, headOf, lineOf, addRow, rowsIn, closed, formed, limited, reading, valuesLimits}
+use Rattle.lines.specs.Reading.{cellHead, cellNamed, lineOf, addRow, rowsIn, closed, formed, limited, reading, valuesLimits}
 use Rattle.texts.specs.Laws.{place-split, together}
 use Rattle.lines.specs.Laws.{paired-row, rows-read}
-use Rattle.lines.specs.declared.Heads.the-variants.{Cells}
 use Rattle.lines.specs.declared.Limits.{Limits}
 use Rattle.lines.specs.declared.Line.{Line}
 use Rattle.lines.specs.declared.Line.the-variants.{IsRow, NoRow}
@@ -36,29 +35,25 @@ cell-number Malformed k e = absurd (let clash : _≡_ {A = ℕ} 0 1 = cc in omeg
 some-bytes : (bs : List ℕ) {z : ℤ} → numeralOf bs ≡ Is z → 0 < length bs
 some-bytes bs {z} e = subst (λ (cs : List ℕ). 0 < length cs) (one-way bs e) (decimal-nonempty z)
 
-module _ (ws : List (List ℕ)) where
-  abbrev head : List ℕ → Found
-  head = headOf ws Cells
+row-bytes : (l : List ℕ) (k : ℕ) (z : ℤ) → lineOf cellHead l ≡ IsRow k z → 3 ≤ length l
+unfolding lineOf
+row-bytes l k z e =
+    let both = paired-row (cellHead (beforeComma l)) (numeralOf (afterComma l)) k z e in
+    let before = some-bytes (beforeComma l) (cell-number (numeralOf (beforeComma l)) k (both .0) .1) in
+    let after = some-bytes (afterComma l) (both .1) in
+    omega (arith, before, after, length-append (beforeComma l) (44 ∷ afterComma l), ap length (place-split 44 l after))
 
-  row-bytes : (l : List ℕ) (k : ℕ) (z : ℤ) → lineOf head l ≡ IsRow k z → 3 ≤ length l
-  unfolding lineOf
-  row-bytes l k z e =
-      let both = paired-row (head (beforeComma l)) (numeralOf (afterComma l)) k z e in
-      let before = some-bytes (beforeComma l) (cell-number (numeralOf (beforeComma l)) k (both .0) .1) in
-      let after = some-bytes (afterComma l) (both .1) in
-      omega (arith, before, after, length-append (beforeComma l) (44 ∷ afterComma l), ap length (place-split 44 l after))
+-- ---- all lines
 
-  -- ---- all lines
-
-  rows-bytes : (ls : List (List ℕ)) → 4 * length (rowsIn head ls) ≤ length (together ls)
-  unfolding rowsIn together
-  rows-bytes [] = omega arith
-  rows-bytes (l ∷ ls) = go (lineOf head l) refl (rows-bytes ls)
-    where
-      go : (x : Line) → lineOf head l ≡ x → 4 * length (rowsIn head ls) ≤ length (together ls)
-          → 4 * length (addRow x (rowsIn head ls)) ≤ length (l ++ (10 ∷ together ls))
-      go (IsRow k z) is h = omega (arith, row-bytes l k z is, length-append l (10 ∷ together ls), mul-suc 4 (length (rowsIn head ls)))
-      go NoRow is h = omega (arith, length-append l (10 ∷ together ls))
+rows-bytes : (ls : List (List ℕ)) → 4 * length (rowsIn cellHead ls) ≤ length (together ls)
+unfolding rowsIn together
+rows-bytes [] = omega arith
+rows-bytes (l ∷ ls) = go (lineOf cellHead l) refl (rows-bytes ls)
+  where
+    go : (x : Line) → lineOf cellHead l ≡ x → 4 * length (rowsIn cellHead ls) ≤ length (together ls)
+        → 4 * length (addRow x (rowsIn cellHead ls)) ≤ length (l ++ (10 ∷ together ls))
+    go (IsRow k z) is h = omega (arith, row-bytes l k z is, length-append l (10 ∷ together ls), mul-suc 4 (length (rowsIn cellHead ls)))
+    go NoRow is h = omega (arith, length-append l (10 ∷ together ls))
 
 begun-bytes : (b : ℕ) (ls : List (List ℕ)) (n : ℕ) → length (together ls) ≤ suc n → length (together (begin b ls)) ≤ suc (suc n)
 unfolding together
@@ -89,12 +84,12 @@ within f limits t m e = go (closed (limits .bytes) t) refl e
     go false c g = absurd (let clash : _≡_ {A = ℕ} 0 1 = cc in omega arith)
 
 -- 65,536 bytes are at most 16,384 lines.
-pub few-rows : (ws : List (List ℕ)) (t : List ℕ) (m : ℕ) → reading (headOf ws Cells) valuesLimits t ≡ Told m → m ≤ 16384
-few-rows ws t m e =
+pub few-rows : (t : List ℕ) (m : ℕ) → reading cellHead valuesLimits t ≡ Told m → m ≤ 16384
+few-rows t m e =
     omega (
       arith,
-      rows-read (headOf ws Cells) valuesLimits t m e,
-      rows-bytes ws (linesOf t),
+      rows-read cellHead valuesLimits t m e,
+      rows-bytes (linesOf t),
       lines-bytes t,
-      within (headOf ws Cells) valuesLimits t m e,
+      within cellHead valuesLimits t m e,
     )

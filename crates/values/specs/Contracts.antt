@@ -6,5 +6,5 @@ use Rattle.refusals.specs.declared.Answer.{Answer}
 use Rattle.values.specs.Values.{FillInto}
 
 -- [10.16] `fill`: the text, how many cells it is to fill, the store as lent, the answer, the store as left
-abbrev pub FillsStore : List (List ℕ) → List ℕ → ℕ → List ℤ → Answer → List ℤ → Type 0
-FillsStore ws t count store r store′ = FillInto ws t count store r store′
+abbrev pub FillsStore : List ℕ → ℕ → List ℤ → Answer → List ℤ → Type 0
+FillsStore t count store r store′ = FillInto t count store r store′

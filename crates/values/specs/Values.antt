@@ -12,8 +12,7 @@ use Rattle.refusals.specs.declared.Answer.the-variants.{Told, Refused}
 use Rattle.refusals.specs.Answers.{after, isTold}
 use Rattle.words.specs.Kinds.{Row}
 use Rattle.texts.specs.Texts.{linesOf}
-use Rattle.lines.specs.Reading.{rowsIn, headOf, reading, valuesLimits, kindsOf, filled}
-use Rattle.lines.specs.declared.Heads.the-variants.{Cells}
+use Rattle.lines.specs.Reading.{cellHead, rowsIn, reading, valuesLimits, kindsOf, filled}
 use Rattle.meaning.specs.Sequence.{upFrom}
 
 -- ---- [10.15] every input cell has exactly one line, and there is no other line
@@ -43,13 +42,13 @@ oneLineEach n cs = oneEach n cs && noOther n cs
 abbrev pub asked : ℕ → ℕ → List ℕ → ℕ → Answer
 asked n store cs lines = cond (leb n store) (cond (oneLineEach n cs) (Told lines) (Refused ValueLines)) (Refused StoreSize)
 
--- The cell and the value of each line. ws is the table of words.
-abbrev pub valueLines : List (List ℕ) → List ℕ → List Row
-valueLines ws t = rowsIn (headOf ws Cells) (linesOf t)
+-- The cell and the value of each line.
+abbrev pub valueLines : List ℕ → List Row
+valueLines t = rowsIn cellHead (linesOf t)
 
 -- [10.16] Filling a store from values asks 1 and 2, by the reading of `lines`, then 14 and 15: how many lines there are, or the first "no".
-unfoldable pub filling : List (List ℕ) → List ℕ → ℕ → ℕ → Answer
-filling ws t n store = after (reading (headOf ws Cells) valuesLimits t) (asked n store (kindsOf (valueLines ws t)))
+unfoldable pub filling : List ℕ → ℕ → ℕ → Answer
+filling t n store = after (reading cellHead valuesLimits t) (asked n store (kindsOf (valueLines t)))
 
 -- ---- the store
 
@@ -60,6 +59,6 @@ valueOf (r ∷ rs) k = cond (eqb (r .0) k) (r .1) (valueOf rs k)
 
 -- What `fill` promises of its answer r and of the store, as lent and as left. Accepted: the cells 0 to n − 1 hold their values and
 -- the others what they held. Refused: all hold what they held ([10.17]).
-pub record FillInto (ws : List (List ℕ)) (t : List ℕ) (n : ℕ) (store : List ℤ) (r : Answer) (store′ : List ℤ) : Type 0 where
-  pub answer : r ≡ filling ws t n (length store)
-  pub store-left : store′ ≡ filled (isTold r) (map (valueOf (valueLines ws t)) (upFrom 0 n)) store
+pub record FillInto (t : List ℕ) (n : ℕ) (store : List ℤ) (r : Answer) (store′ : List ℤ) : Type 0 where
+  pub answer : r ≡ filling t n (length store)
+  pub store-left : store′ ≡ filled (isTold r) (map (valueOf (valueLines t)) (upFrom 0 n)) store

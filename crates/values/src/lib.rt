@@ -1,5 +1,4 @@
 // The values file of the runner: questions 1, 2, 14 and 15 of [10.16], and each value into its cell ([11.3]).
-ghost use Rattle.words.specs.Words.{words};
 ghost use mathlib.Core.Path.{_≡_};
 ghost use Prim.Native.Nat.{_≤_};
 ghost use lib.ListN.{length};
@@ -55,7 +54,7 @@ fn put_values(cells: &[u32], values: &[i32], store: &mut [i32])
 
 // Fills the cells below the count from a values file: how many lines it has, or the first "no".
 pub fn fill(text: &[u8], count: usize, store: &mut [i32]) -> Answer
-    ensures { λ r. ⌜ FillsStore words (now (text .entry)) count (now (store .entry)) r (now (store .exit)) ⌝ }
+    ensures { λ r. ⌜ FillsStore (now (text .entry)) count (now (store .entry)) r (now (store .exit)) ⌝ }
 {
     let mut cells = [0u32; 16384];
     let mut values = [0i32; 16384];

@@ -2,9 +2,12 @@
 // nothing is allocated or kept ([12.5]).
 ghost use Rattle.words.specs.Words.{words};
 ghost use mathlib.Core.Path.{_≡_};
+ghost use Rattle.loops.specs.Check.{writesOf};
 ghost use Rattle.vazhdumir.specs.Codes.{refusalCode, answerCode, acceptedCode};
 ghost use Rattle.vazhdumir.specs.Contracts.{ChecksPlanForC, TranslatesForC, ChecksLoopsForC, TellsNeedForC};
 ghost use Rattle.vazhdumir.specs.Contracts.{ReadsLoopsForC, RunsTextForC, RunsRowsForC};
+ghost use Rattle.vazhdumir.specs.Contracts.{ChecksPlanForCIn, TranslatesForCIn, ChecksLoopsForCIn, TellsNeedForCIn};
+ghost use Rattle.vazhdumir.specs.Contracts.{ReadsLoopsForCIn, RunsTextForCIn};
 use loops::Checked;
 use refusals::Answer;
 use refusals::Refusal;
@@ -41,6 +44,15 @@ fn accepted_code(answer: Answer) -> u64
     }
 }
 
+fn checked_code(checked: Checked) -> u64
+    ensures { λ r. ⌜ r ≡ answerCode (writesOf checked) ⌝ }
+{
+    match checked {
+        Checked::Passes { writes, need: _ } => writes as u64,
+        Checked::Refused(refusal) => refusal_code(refusal),
+    }
+}
+
 // Checks a plan's text.
 #[no_mangle]
 pub extern "C" fn vazhdumir_check_plan(text: &[u8]) -> u64
@@ -62,11 +74,7 @@ pub extern "C" fn vazhdumir_translate(text: &[u8], lent: &mut [u8]) -> u64
 pub extern "C" fn vazhdumir_check_loops(text: &[u8]) -> u64
     ensures { λ r. ⌜ ChecksLoopsForC words (now (text .entry)) r ⌝ }
 {
-    let checked = loops::check_text(text);
-    match checked {
-        Checked::Passes { writes, need: _ } => code(Answer::Told(writes)),
-        Checked::Refused(refusal) => code(Answer::Refused(refusal)),
-    }
+    checked_code(loops::check_text(text))
 }
 
 // The cells that a text of loops needs.
@@ -106,4 +114,53 @@ pub extern "C" fn vazhdumir_run_rows(
 {
     let mut none = [0i32; 0];
     code(run::run_rows(kinds, numbers, order, &mut none, bytes))
+}
+
+// [16.7] The twins: each takes a words text, and then what its entry takes.
+#[no_mangle]
+pub extern "C" fn vazhdumir_check_plan_in(words: &[u8], text: &[u8]) -> u64
+    ensures { λ r. ⌜ ChecksPlanForCIn (now (words .entry)) (now (text .entry)) r ⌝ }
+{
+    accepted_code(plans::check_text_in(words, text))
+}
+
+#[no_mangle]
+pub extern "C" fn vazhdumir_translate_in(words: &[u8], text: &[u8], lent: &mut [u8]) -> u64
+    ensures { λ r. ⌜ TranslatesForCIn (now (words .entry)) (now (text .entry)) (now (lent .entry)) r (now (lent .exit)) ⌝ }
+{
+    code(translate::translate_text_in(words, text, lent))
+}
+
+#[no_mangle]
+pub extern "C" fn vazhdumir_check_loops_in(words: &[u8], text: &[u8]) -> u64
+    ensures { λ r. ⌜ ChecksLoopsForCIn (now (words .entry)) (now (text .entry)) r ⌝ }
+{
+    checked_code(loops::check_text_in(words, text))
+}
+
+#[no_mangle]
+pub extern "C" fn vazhdumir_need_in(words: &[u8], text: &[u8]) -> u64
+    ensures { λ r. ⌜ TellsNeedForCIn (now (words .entry)) (now (text .entry)) r ⌝ }
+{
+    code(loops::need_text_in(words, text))
+}
+
+#[no_mangle]
+pub extern "C" fn vazhdumir_read_loops_in(
+    words: &[u8],
+    text: &[u8],
+    kinds: &mut [u8],
+    numbers: &mut [i32],
+) -> u64
+    ensures { λ r. ⌜ ReadsLoopsForCIn (now (words .entry)) (now (text .entry)) (now (kinds .entry)) (now (numbers .entry)) r (now (kinds .exit)) (now (numbers .exit)) ⌝ }
+{
+    code(loops::read_text_in(words, text, kinds, numbers))
+}
+
+#[no_mangle]
+pub extern "C" fn vazhdumir_run_in(words: &[u8], text: &[u8], order: u32, bytes: &mut [u8]) -> u64
+    ensures { λ r. ⌜ RunsTextForCIn (now (words .entry)) (now (text .entry)) order (now (bytes .entry)) r (now (bytes .exit)) ⌝ }
+{
+    let mut none = [0i32; 0];
+    code(run::run_text_in(words, text, order, &mut none, bytes))
 }

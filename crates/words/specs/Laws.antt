@@ -19,6 +19,7 @@ use Rattle.words.specs.Kinds.{word-sub, word-mul, word-div, word-min, wo
 use Rattle.words.specs.Kinds.{word-pair, word-split, word-join, word-fst, word-snd, word-idx, word-loops, word-cells, word-set}
 use Rattle.words.specs.Kinds.{word-seq, word-for, word-par, word-new, word-out, word-loc, word-ctr, word-plus, word-times, word-over}
 use Rattle.words.specs.Kinds.{word-rest}
+use Rattle.words.specs.Tables.{wordsUpTo, wordsIn}
 use Rattle.words.specs.Good.{absent, distinct, lowerCase, wellFormed, Good}
 use Rattle.words.specs.Words.{Entry, bytes, entry, table, words, wordAt, sameLetters, lookFrom, lookUp, operandsAs, operandsOf}
 use Rattle.words.specs.Groups.{oneOf, isListed}
@@ -146,6 +147,17 @@ words-count = refl
 pub table-length : length table ≡ length words
 unfolding words table
 table-length = refl
+
+-- the words of a table's rows are as many
+up-to-count : (n : ℕ) (rows : List (List ℕ)) → length (wordsUpTo n rows) ≡ n
+unfolding wordsUpTo
+up-to-count zero rows = refl
+up-to-count (suc n) [] = ap suc (up-to-count n [])
+up-to-count (suc n) (r ∷ rows) = ap suc (up-to-count n rows)
+
+pub words-in-count : (rows : List (List ℕ)) → length (wordsIn rows) ≡ length words
+unfolding wordsIn
+words-in-count rows = up-to-count (length words) rows
 
 -- a kind that makes rows of some sort is a word's
 pub word-listed : (k : ℕ) (s : Sort) (m : ℕ) → operandsOf k s ≡ Count m → isListed k ≡ true

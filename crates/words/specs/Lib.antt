@@ -8,5 +8,6 @@ pub mod Groups
 pub mod Good
 -- What the contracts of parts say besides
 pub mod Packed
+pub mod Tables
 -- Their laws
 pub mod Laws

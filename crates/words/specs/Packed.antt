@@ -18,8 +18,8 @@ sorts = Plan ∷ DataType ∷ Term ∷ Loops ∷ Cells ∷ Command ∷ Place ∷
 
 unfoldable pub packed : Entry → List ℕ
 packed e =
-    take 6 (e .letters ++ bytes "      ")
-    ++ (32 ∷ (48 + length (e .letters)) ∷ 32 ∷ map (λ (s : Sort). columnFor (operandsAs s (e .uses))) sorts)
+    take 8 (e .letters ++ bytes "        ")
+    ++ ((48 + length (e .letters)) ∷ 32 ∷ map (λ (s : Sort). columnFor (operandsAs s (e .uses))) sorts)
 
 -- all of them
 unfoldable pub packedTable : List (List ℕ)

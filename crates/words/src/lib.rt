@@ -1,4 +1,4 @@
-// The words of plans and loops: one table, and looking a word up in it: [2.1] to [2.3], [1.3].
+// The words of plans and loops: the built-in table, other tables of the same form, and looking a word up in one: [2.1] to [2.3], [1.3].
 pub mod groups;
 pub mod kinds;
 
@@ -6,7 +6,8 @@ ghost use mathlib.Core.Path.{_≡_};
 ghost use Prim.Native.Nat.{ℕ, _-_, _≤_, _<_};
 ghost use lib.ListN.{length, getD};
 ghost use Rattle.words.specs.Kinds.{rowsOf};
-ghost use Rattle.words.specs.Packed.{packed, packedTable};
+ghost use Rattle.words.specs.Packed.{packed};
+ghost use Rattle.words.specs.Tables.{rowIn, lettersIn, wordIn, wordsIn};
 ghost use Rattle.words.specs.Words.{words, wordAt, entryAt, sameLetters, lookUp, columnOf, operandsOf};
 use crate::kinds::WORD_COUNT;
 
@@ -37,46 +38,48 @@ pub enum Operands {
 
 // [2.2] A row for each word: its letters, how many they are, and its operands as a row of each sort, '-' where it makes none: plan,
 // type, term, loops, cells, command, place, value, offset. [2.3] The operands of `plan` and `loops` stand behind the inputs that their
-// number counts.
-const WORDS: [[u8; 18]; WORD_COUNT] = [
-    *b"plan   4 1--------",
-    *b"num    3 -0-------",
-    *b"arr    3 -1-------",
-    *b"two    3 -2-------",
-    *b"in     2 --0----1-",
-    *b"var    3 --0------",
-    *b"lit    3 --0----00",
-    *b"neg    3 --1----1-",
-    *b"add    3 --2----2-",
-    *b"sub    3 --2----2-",
-    *b"mul    3 --2----2-",
-    *b"div    3 --2----2-",
-    *b"min    3 --2----2-",
-    *b"max    3 --2----2-",
-    *b"mappar 6 --2------",
-    *b"mapseq 6 --2------",
-    *b"redseq 6 --3------",
-    *b"zip    3 --2------",
-    *b"pair   4 --2------",
-    *b"split  5 --1------",
-    *b"join   4 --1------",
-    *b"fst    3 --1------",
-    *b"snd    3 --1------",
-    *b"idx    3 --1------",
-    *b"loops  5 ---2-----",
-    *b"cells  5 ----0----",
-    *b"set    3 -----2---",
-    *b"seq    3 -----2---",
-    *b"for    3 -----1---",
-    *b"par    3 -----1---",
-    *b"new    3 -----1---",
-    *b"out    3 ------1--",
-    *b"loc    3 ------11-",
-    *b"ctr    3 --------0",
-    *b"plus   4 --------2",
-    *b"times  5 --------1",
-    *b"over   4 --------1",
-    *b"rest   4 --------1",
+// number counts. Of a table of own words the letters count alone: operands are asked of the built-in one ([16.3]).
+pub type Table = [[u8; 19]; WORD_COUNT];
+
+const WORDS: Table = [
+    *b"plan    4 1--------",
+    *b"num     3 -0-------",
+    *b"arr     3 -1-------",
+    *b"two     3 -2-------",
+    *b"in      2 --0----1-",
+    *b"var     3 --0------",
+    *b"lit     3 --0----00",
+    *b"neg     3 --1----1-",
+    *b"add     3 --2----2-",
+    *b"sub     3 --2----2-",
+    *b"mul     3 --2----2-",
+    *b"div     3 --2----2-",
+    *b"min     3 --2----2-",
+    *b"max     3 --2----2-",
+    *b"mappar  6 --2------",
+    *b"mapseq  6 --2------",
+    *b"redseq  6 --3------",
+    *b"zip     3 --2------",
+    *b"pair    4 --2------",
+    *b"split   5 --1------",
+    *b"join    4 --1------",
+    *b"fst     3 --1------",
+    *b"snd     3 --1------",
+    *b"idx     3 --1------",
+    *b"loops   5 ---2-----",
+    *b"cells   5 ----0----",
+    *b"set     3 -----2---",
+    *b"seq     3 -----2---",
+    *b"for     3 -----1---",
+    *b"par     3 -----1---",
+    *b"new     3 -----1---",
+    *b"out     3 ------1--",
+    *b"loc     3 ------11-",
+    *b"ctr     3 --------0",
+    *b"plus    4 --------2",
+    *b"times   5 --------1",
+    *b"over    4 --------1",
+    *b"rest    4 --------1",
 ];
 
 // The column of a sort.
@@ -96,18 +99,18 @@ fn column(sort: Sort) -> usize
     }
 }
 
-// The row of the word of this kind in the table; one with no letters where the kind is no word's.
-fn row_in(table: &[[u8; 18]; WORD_COUNT], kind: usize) -> [u8; 18]
-    requires { ⌜ now table ≡ packedTable ⌝ }
-    ensures { λ r. ⌜ r ≡ packed (entryAt kind) ⌝ }
+// The row of this place in a table; one with no letters where there is none.
+fn row_in(table: &Table, place: usize) -> [u8; 19]
+    ensures { λ r. ⌜ r ≡ rowIn (now (table .entry)) place ⌝ }
 {
-    if WORD_COUNT <= kind {
-        return *b"       0 ---------";
+    if WORD_COUNT <= place {
+        return *b"        0 ---------";
     }
-    table[kind]
+    table[place]
 }
 
-fn word_at(kind: u8) -> [u8; 18]
+// The built-in table's row of this kind.
+fn word_at(kind: u8) -> [u8; 19]
     ensures { λ r. ⌜ r ≡ packed (entryAt kind) ⌝ }
 {
     let table = WORDS;
@@ -127,44 +130,64 @@ pub fn operand_count(kind: u8, sort: Sort) -> Operands
     ensures { λ r. ⌜ r ≡ operandsOf kind sort ⌝ }
 {
     let word = word_at(kind);
-    let count = word[9 + column(sort)];
+    let count = word[10 + column(sort)];
     if count == b'-' {
         return Operands::NotOfSort;
     }
     Operands::Count(digit(count))
 }
 
-// How many letters the word of this kind has.
-pub fn length(kind: u8) -> usize
-    ensures { λ r. ⌜ (r ≡ length (wordAt words kind)) × (r ≤ 6) ⌝ }
+// [2.2] The built-in table.
+pub fn built_in() -> Table
+    ensures { λ r. ⌜ wordsIn r ≡ words ⌝ }
 {
-    let word = word_at(kind);
-    digit(word[7])
+    WORDS
+}
+
+// How many letters a row's word has.
+fn letter_count(row: [u8; 19]) -> usize
+    ensures { λ r. ⌜ (r ≡ lettersIn row) × (r ≤ 8) ⌝ }
+{
+    let count = row[8];
+    if count < b'0' {
+        return 0;
+    }
+    if b'8' < count {
+        return 8;
+    }
+    digit(count)
+}
+
+// How many letters the word of this kind has.
+pub fn length(table: &Table, kind: u8) -> usize
+    ensures { λ r. ⌜ (r ≡ length (wordAt (wordsIn (now (table .entry))) kind)) × (r ≤ 8) ⌝ }
+{
+    let row = row_in(table, kind as usize);
+    letter_count(row)
 }
 
 // Letter i of the word of this kind; 0 past its end.
-pub fn letter(kind: u8, i: usize) -> u8
-    ensures { λ r. ⌜ r ≡ getD (wordAt words kind) i 0 ⌝ }
+pub fn letter(table: &Table, kind: u8, i: usize) -> u8
+    ensures { λ r. ⌜ r ≡ getD (wordAt (wordsIn (now (table .entry))) kind) i 0 ⌝ }
 {
-    if length(kind) <= i {
+    let row = row_in(table, kind as usize);
+    if letter_count(row) <= i {
         return 0;
     }
-    let word = word_at(kind);
-    word[i]
+    row[i]
 }
 
-// Whether these are the letters of the word with this row.
-fn same(letters: &[u8], word: [u8; 18]) -> bool
-    requires { ⌜ ((kind : ℕ) × (word ≡ packed (entryAt kind))) ⌝ }
-    ensures { λ r. ⌜ ((kind : ℕ) → word ≡ packed (entryAt kind) → r ≡ sameLetters (now (letters .entry)) (wordAt words kind)) ⌝ }
+// Whether these are the letters of a row's word.
+fn same(letters: &[u8], row: [u8; 19]) -> bool
+    ensures { λ r. ⌜ r ≡ sameLetters (now (letters .entry)) (wordIn row) ⌝ }
 {
-    let n = digit(word[7]);
+    let n = letter_count(row);
     if letters.len() != n {
         return false;
     }
     let mut i = 0;
     while i < n {
-        if letters[i] != word[i] {
+        if letters[i] != row[i] {
             return false;
         }
         i += 1;
@@ -172,15 +195,14 @@ fn same(letters: &[u8], word: [u8; 18]) -> bool
     true
 }
 
-// [1.3] Where the word with these letters stands.
-pub fn look_up(letters: &[u8]) -> Found
-    ensures { λ r. ⌜ r ≡ lookUp words (now (letters .entry)) ⌝ }
+// [1.3] Where a table has the word with these letters.
+pub fn look_up(table: &Table, letters: &[u8]) -> Found
+    ensures { λ r. ⌜ r ≡ lookUp (wordsIn (now (table .entry))) (now (letters .entry)) ⌝ }
 {
-    let table = WORDS;
     let mut kind = 0;
     while kind < WORD_COUNT {
-        let word = row_in(&table, kind);
-        if same(letters, word) {
+        let row = row_in(table, kind);
+        if same(letters, row) {
             return Found::At(kind);
         }
         kind += 1;

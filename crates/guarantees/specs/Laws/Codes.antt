@@ -50,61 +50,63 @@ use Rattle.guarantees.specs.Told.{Told, refusal, toldAccepted, toldAnswe
 use Rattle.guarantees.specs.Laws.Told.{no-run}
 use Rattle.words.specs.Good.{Good}
 
+-- ---- codes
+
+value-code : (v : ℕ) → v < 72057594037927936 → toldCode v ≡ Told.value v
+value-code v h =
+    ap (λ (b : Bool). cond b (Told.value v) (Told.refused (v / 72057594037927936) (v % 72057594037927936))) (lt-ltb v 72057594037927936 h)
+
+number-code : (n l : ℕ) → 1 ≤ n → l < 72057594037927936 → toldCode (n * 72057594037927936 + l) ≡ Told.refused n l
+number-code n l h g =
+    let r : ℕ = n * 72057594037927936 + l in
+    let high : 72057594037927936 ≤ r = omega arith in
+    let number : r / 72057594037927936 ≡ n = omega arith in
+    let line : r % 72057594037927936 ≡ l = omega arith in
+    ap (λ (b : Bool). cond b (Told.value r) (Told.refused (r / 72057594037927936) (r % 72057594037927936))) (le-ltb r 72057594037927936 high)
+    ∙ ap₂ Told.refused number line
+
+some-number : (q : Refusal) → 1 ≤ refusalNumber q
+some-number refusals.TextForm = omega arith
+some-number (refusals.LineForm l) = omega arith
+some-number refusals.LineCount = omega arith
+some-number (refusals.RowDue l) = omega arith
+some-number (refusals.NumberRange l) = omega arith
+some-number (refusals.NameCount l) = omega arith
+some-number (refusals.TypeMisfit l) = omega arith
+some-number (refusals.TypeSize l) = omega arith
+some-number (refusals.OffsetBound l) = omega arith
+some-number refusals.LoopsLength = omega arith
+some-number refusals.WriteCount = omega arith
+some-number refusals.LentSize = omega arith
+some-number refusals.UnknownOrder = omega arith
+some-number refusals.StoreSize = omega arith
+some-number refusals.ValueLines = omega arith
+some-number refusals.WordsForm = omega arith
+some-number refusals.WordTwice = omega arith
+
+pub refusal-code : (q : Refusal) → toldCode (refusalCode q) ≡ cut (refusal q)
+refusal-code q = number-code (refusalNumber q) (min (refusalLine q) 72057594037927935) (some-number q) (omega arith)
+
+-- ---- each answer, where its number is small
+
+accepted-code : (a : Answer) → toldCode (acceptedCode a) ≡ cut (toldAccepted a)
+accepted-code (answer.Told n) = value-code 0 (omega arith)
+accepted-code (answer.Refused q) = refusal-code q
+
+answer-code : (a : Answer) → ((n : ℕ) → a ≡ answer.Told n → n ≤ 16777216) → toldCode (answerCode a) ≡ cut (toldAnswer a)
+answer-code (answer.Told n) h = value-code n (omega (arith, h n refl))
+answer-code (answer.Refused q) h = refusal-code q
+
+writes-code : (a : Checked) → ((w n : ℕ) → a ≡ loops.Passes w n → w ≤ 16777216) → toldCode (answerCode (writesOf a)) ≡ cut (toldWrites a)
+writes-code (loops.Passes w n) h = value-code w (omega (arith, h w n refl))
+writes-code (loops.Refused q) h = refusal-code q
+
+need-code : (a : Checked) → ((w n : ℕ) → a ≡ loops.Passes w n → n ≤ 16777216) → toldCode (answerCode (needOf a)) ≡ cut (toldNeed a)
+need-code (loops.Passes w n) h = value-code n (omega (arith, h w n refl))
+need-code (loops.Refused q) h = refusal-code q
+
 -- ws is any good table of words.
 module _ (ws : List (List ℕ)) (good : Good ws) where
-  -- ---- codes
-
-  value-code : (v : ℕ) → v < 72057594037927936 → toldCode v ≡ Told.value v
-  value-code v h =
-      ap (λ (b : Bool). cond b (Told.value v) (Told.refused (v / 72057594037927936) (v % 72057594037927936))) (lt-ltb v 72057594037927936 h)
-
-  number-code : (n l : ℕ) → 1 ≤ n → l < 72057594037927936 → toldCode (n * 72057594037927936 + l) ≡ Told.refused n l
-  number-code n l h g =
-      let r : ℕ = n * 72057594037927936 + l in
-      let high : 72057594037927936 ≤ r = omega arith in
-      let number : r / 72057594037927936 ≡ n = omega arith in
-      let line : r % 72057594037927936 ≡ l = omega arith in
-      ap (λ (b : Bool). cond b (Told.value r) (Told.refused (r / 72057594037927936) (r % 72057594037927936))) (le-ltb r 72057594037927936 high)
-      ∙ ap₂ Told.refused number line
-
-  some-number : (q : Refusal) → 1 ≤ refusalNumber q
-  some-number refusals.TextForm = omega arith
-  some-number (refusals.LineForm l) = omega arith
-  some-number refusals.LineCount = omega arith
-  some-number (refusals.RowDue l) = omega arith
-  some-number (refusals.NumberRange l) = omega arith
-  some-number (refusals.NameCount l) = omega arith
-  some-number (refusals.TypeMisfit l) = omega arith
-  some-number (refusals.TypeSize l) = omega arith
-  some-number (refusals.OffsetBound l) = omega arith
-  some-number refusals.LoopsLength = omega arith
-  some-number refusals.WriteCount = omega arith
-  some-number refusals.LentSize = omega arith
-  some-number refusals.UnknownOrder = omega arith
-  some-number refusals.StoreSize = omega arith
-  some-number refusals.ValueLines = omega arith
-
-  refusal-code : (q : Refusal) → toldCode (refusalCode q) ≡ cut (refusal q)
-  refusal-code q = number-code (refusalNumber q) (min (refusalLine q) 72057594037927935) (some-number q) (omega arith)
-
-  -- ---- each answer, where its number is small
-
-  accepted-code : (a : Answer) → toldCode (acceptedCode a) ≡ cut (toldAccepted a)
-  accepted-code (answer.Told n) = value-code 0 (omega arith)
-  accepted-code (answer.Refused q) = refusal-code q
-
-  answer-code : (a : Answer) → ((n : ℕ) → a ≡ answer.Told n → n ≤ 16777216) → toldCode (answerCode a) ≡ cut (toldAnswer a)
-  answer-code (answer.Told n) h = value-code n (omega (arith, h n refl))
-  answer-code (answer.Refused q) h = refusal-code q
-
-  writes-code : (a : Checked) → ((w n : ℕ) → a ≡ loops.Passes w n → w ≤ 16777216) → toldCode (answerCode (writesOf a)) ≡ cut (toldWrites a)
-  writes-code (loops.Passes w n) h = value-code w (omega (arith, h w n refl))
-  writes-code (loops.Refused q) h = refusal-code q
-
-  need-code : (a : Checked) → ((w n : ℕ) → a ≡ loops.Passes w n → n ≤ 16777216) → toldCode (answerCode (needOf a)) ≡ cut (toldNeed a)
-  need-code (loops.Passes w n) h = value-code n (omega (arith, h w n refl))
-  need-code (loops.Refused q) h = refusal-code q
-
   -- ---- how great they are
 
   few-rows : (t : List ℕ) (w n : ℕ) → checkLoopsText ws t ≡ loops.Passes w n → length (textRows ws t) ≤ 4096

@@ -6,11 +6,10 @@ use native.Mathlib.Omega.{arith}
 use lib.IntN.{ℤ}
 use lib.ListN.{length}
 use Rattle.texts.specs.Texts.{linesOf}
-use Rattle.lines.specs.Reading.{headOf, valuesLimits, kindsOf, filled}
+use Rattle.lines.specs.Reading.{cellHead, valuesLimits, kindsOf, filled}
 use Rattle.refusals.specs.declared.Answer.{Answer}
 use Rattle.refusals.specs.declared.Answer.the-variants.{Told, Refused}
 use Rattle.refusals.specs.Answers.{after, isTold}
-use Rattle.lines.specs.declared.Heads.the-variants.{Cells}
 use Rattle.meaning.specs.Sequence.{upFrom}
 use Rattle.typing.specs.Questions.{Question, ask}
 use Rattle.typing.specs.EntryQuestions.{formQuestions}
@@ -24,33 +23,30 @@ use Rattle.guarantees.specs.Questions.{fillQuestions}
 use Rattle.guarantees.specs.Demand1.{TextLeft}
 use Rattle.guarantees.specs.Laws.Asked.{answers}
 use Rattle.guarantees.specs.Laws.Told.{told-asks, answer-refused, answer-done}
-use Rattle.words.specs.Good.{Good}
 
--- ws is any good table of words.
-module _ (ws : List (List ℕ)) (good : Good ws) where
-  module _ (t : List ℕ) (n cells : ℕ) where
-    abbrev cs : List ℕ
-    cs = kindsOf (valueLines ws t)
+module _ (t : List ℕ) (n cells : ℕ) where
+  abbrev cs : List ℕ
+  cs = kindsOf (valueLines t)
 
-    abbrev lines : ℕ
-    lines = length (linesOf t)
+  abbrev lines : ℕ
+  lines = length (linesOf t)
 
-    pub filling-asks : filling ws t n cells ≡ ask Refused (fillQuestions ws t n cells) (Told lines)
-    unfolding filling ask
-    filling-asks =
-        let form : List Question = formQuestions (headOf ws Cells) 65536 t in
-        let next : Answer → Answer = λ r. after r (asked n cells cs) in
-        ap next (reading-asks-form (headOf ws Cells) valuesLimits t (omega arith))
-        ∙ ask-through Refused Refused next (λ q. refl) form (Told lines)
-        ∙ sym (ask-append Refused form _ (Told lines))
+  pub filling-asks : filling t n cells ≡ ask Refused (fillQuestions t n cells) (Told lines)
+  unfolding filling ask
+  filling-asks =
+      let form : List Question = formQuestions cellHead 65536 t in
+      let next : Answer → Answer = λ r. after r (asked n cells cs) in
+      ap next (reading-asks-form cellHead valuesLimits t (omega arith))
+      ∙ ask-through Refused Refused next (λ q. refl) form (Told lines)
+      ∙ sym (ask-append Refused form _ (Told lines))
 
-  pub fill : (t : List ℕ) (n : ℕ) (s s′ : List ℤ) (r : Answer) → FillsStore ws t n s r s′
-      → Answers (fillQuestions ws t n (length s)) (length (linesOf t)) (s′ ≡ s)
-      (TextLeft (map (valueOf (valueLines ws t)) (upFrom 0 n)) s s′) (toldAnswer r)
-  fill t n s s′ r I =
-      let put : List ℤ = map (valueOf (valueLines ws t)) (upFrom 0 n) in
-      answers (fillQuestions ws t n (length s)) (length (linesOf t)) (s′ ≡ s) (TextLeft put s s′) (toldAnswer r)
-      (ap toldAnswer (I .answer)
-      ∙ told-asks Refused toldAnswer (λ q. refl) (fillQuestions ws t n (length s)) (Told (length (linesOf t))) _ (filling-asks t n (length s)))
-      (λ q e. answer-refused r q e (λ p f. I .store-left ∙ ap (λ (a : Answer). filled (isTold a) put s) f))
-      (λ e. answer-done r _ e (λ m f. I .store-left ∙ ap (λ (a : Answer). filled (isTold a) put s) f))
+pub fill : (t : List ℕ) (n : ℕ) (s s′ : List ℤ) (r : Answer) → FillsStore t n s r s′
+    → Answers (fillQuestions t n (length s)) (length (linesOf t)) (s′ ≡ s)
+    (TextLeft (map (valueOf (valueLines t)) (upFrom 0 n)) s s′) (toldAnswer r)
+fill t n s s′ r I =
+    let put : List ℤ = map (valueOf (valueLines t)) (upFrom 0 n) in
+    answers (fillQuestions t n (length s)) (length (linesOf t)) (s′ ≡ s) (TextLeft put s s′) (toldAnswer r)
+    (ap toldAnswer (I .answer)
+    ∙ told-asks Refused toldAnswer (λ q. refl) (fillQuestions t n (length s)) (Told (length (linesOf t))) _ (filling-asks t n (length s)))
+    (λ q e. answer-refused r q e (λ p f. I .store-left ∙ ap (λ (a : Answer). filled (isTold a) put s) f))
+    (λ e. answer-done r _ e (λ m f. I .store-left ∙ ap (λ (a : Answer). filled (isTold a) put s) f))

@@ -79,13 +79,13 @@ module _ (ws : List (List ℕ)) (good : Good ws) where
 
     module _ (v : List ℕ) (s : List ℤ) (long : need L ≤ length s) where
       abbrev held : List ℤ
-      held = withValues ws v (inputCount P) s
+      held = withValues v (inputCount P) s
 
       held-long : need L ≤ length held
       unfolding need translation
       held-long =
-          let put : List ℤ = map (valueOf (valueLines ws v)) (upFrom 0 (inputCount P)) in
-          let count : length put ≡ inputCount P = length-map (upFrom 0 (inputCount P)) (valueOf (valueLines ws v)) ∙ upFrom-length 0 (inputCount P) in
+          let put : List ℤ = map (valueOf (valueLines v)) (upFrom 0 (inputCount P)) in
+          let count : length put ≡ inputCount P = length-map (upFrom 0 (inputCount P)) (valueOf (valueLines v)) ∙ upFrom-length 0 (inputCount P) in
           omega (arith, long, length-append put (drop (inputCount P) s), length-drop (inputCount P) s, count)
 
       abbrev end : State clamped32
@@ -95,12 +95,12 @@ module _ (ws : List (List ℕ)) (good : Good ws) where
       ended = subst (Outcome clamped32 P held) (run-in-order ws good 0 L held) (every held held-long (runOf L 0 held) (run-is-run L 0 held))
 
       -- what the runner showed of the loops x, which are those of the plan
-      shown : (s′ : List ℤ) (text : List ℕ) (x : Loops) → x ≡ L → ShowsRun ws v s s′ text x
+      shown : (s′ : List ℤ) (text : List ℕ) (x : Loops) → x ≡ L → ShowsRun v s s′ text x
           → (text ≡ finishedText (flatten (planValue clamped32 P held)) (planWrites P))
           × Outcome clamped32 P held (record { store = s′; writes = planWrites P })
       unfolding translation
       shown s′ text x same h =
-          let g : ShowsRun ws v s s′ text L = subst (ShowsRun ws v s s′ text) same h in (
+          let g : ShowsRun v s s′ text L = subst (ShowsRun v s s′ text) same h in (
             g .1
                 ∙ ap (λ (w : ℕ). finishedText (outputCells L (end .store)) w) (ended .writesCounted)
                 ∙ ap (λ (z : List ℤ). finishedText z (planWrites P)) (ended .outputHolds),
@@ -108,7 +108,7 @@ module _ (ws : List (List ℕ)) (good : Good ws) where
           )
 
       pub printed-run : {u : List ℕ} → MadeText ws t u → (s′ : List ℤ) (l l′ : List ℕ) (r : Answer) → PrintsRun ws u v s l r s′ l′
-          → AllYes (outputRoom (length l)) → AllYes (valuesQuestions ws v (length s) L) → PrintedRightly P held l (toldAnswer r) s′ l′
+          → AllYes (outputRoom (length l)) → AllYes (valuesQuestions v (length s) L) → PrintedRightly P held l (toldAnswer r) s′ l′
       printed-run {u} M s′ l l′ r I room values =
           let m = made-text ws good t M in
           let M′ : Loops = loopsOf (textRows ws u) in
@@ -122,7 +122,7 @@ module _ (ws : List (List ℕ)) (good : Good ws) where
           let b = a .1 .1 .behind (yes .0) in
           let same : L ≡ b .0 = b .2 L rows in
           let one : M′ ≡ b .0 = ap loopsOf (b .1) ∙ loops-read (b .0) in
-          let later : Loops → List Question = λ x. storeRoom (length s) x ++ valuesQuestions ws v (length s) x in
+          let later : Loops → List Question = λ x. storeRoom (length s) x ++ valuesQuestions v (length s) x in
           let here : AllYes (later L) = (subst T (sym (le-leb (need L) (length s) long)) tt, values) in
           let more : AllYes (loopsQuestions (b .0) ++ later (b .0)) =
           yes-append (loopsQuestions (b .0)) (later (b .0)) (subst (λ (x : Loops). AllYes (loopsQuestions x)) one (yes .1))

@@ -31,9 +31,9 @@ use Rattle.translate.specs.Entry.{madeRows, makeText}
 use Rattle.translate.specs.Questions.{madeQuestions}
 use Rattle.run.specs.Run.{Ran, finished, refused}
 use Rattle.values.specs.Values.{filling}
-use Rattle.programs.specs.Printed.{madeText, translatorText}
+use Rattle.programs.specs.Printed.{madeText, translatorText, PutInto}
 use Rattle.programs.specs.Runner.{askValues, withValues, afterValues, valuesRun, printChecked, runnerOutcome}
-use Rattle.programs.specs.Runner.{outcomeText, runnerText}
+use Rattle.programs.specs.Runner.{outcomeText, runnerText, ShownInto}
 use Rattle.programs.specs.Contracts.{PrintsLoops, PrintsRun}
 use Rattle.guarantees.specs.Told.{Told, refusal, toldAnswer}
 use Rattle.guarantees.specs.Answers.{Answers}
@@ -48,19 +48,37 @@ use Rattle.guarantees.specs.Laws.PlanEntries.{of-plan, make-told}
 use Rattle.guarantees.specs.Laws.Told.{no-value, no-run, told-asks, told-further, answer-refused, answer-done}
 use Rattle.words.specs.Good.{Good}
 
+-- an answer that depends on room alone
+room-answers : (b : Bool) (n : ℕ) (Kept Left : Type 0) (r : Answer) → r ≡ cond b (answer.Told n) (answer.Refused LentSize)
+    → (b ≡ false → Kept) → (b ≡ true → Left) → Answers (question b LentSize ∷ []) n Kept Left (toldAnswer r)
+unfolding ask
+room-answers true n Kept Left r e kept left =
+    answers (question true LentSize ∷ []) n Kept Left (toldAnswer r) (ap toldAnswer e) (λ q f. no-value (sym (ap toldAnswer e) ∙ f))
+    (λ f. left refl)
+room-answers false n Kept Left r e kept left =
+    answers (question false LentSize ∷ []) n Kept Left (toldAnswer r) (ap toldAnswer e) (λ q f. kept refl)
+    (λ f. no-value (sym f ∙ ap toldAnswer e))
+
+-- a text put into a lent one
+pub put-answers : {text u u′ : List ℕ} {r : Answer} → PutInto text u r u′
+    → Answers (textRoom text (length u)) (length text) (u′ ≡ u) (TextLeft text u u′) (toldAnswer r)
+unfolding printing
+put-answers {text} {u} {u′} {r} I =
+    let left : (b : Bool) → leb (length text) (length u) ≡ b → u′ ≡ filled b text u = λ b e. I .text-left ∙ ap (λ (x : Bool). filled x text u) e in
+    room-answers (leb (length text) (length u)) (length text) (u′ ≡ u) (TextLeft text u u′) r (I .answer) (left false) (left true)
+
+-- the same, with room for the longest output and a store: what follows from the store left is `Left`
+pub shown-answers : {text : List ℕ} {end s s′ : List ℤ} {u u′ : List ℕ} {r : Answer} → ShownInto text end s u r s′ u′
+    → (Left : Type 0) → (s′ ≡ end → Left)
+    → Answers (outputRoom (length u)) (length text) ((u′ ≡ u) × (s′ ≡ s)) (TextLeft text u u′ × Left) (toldAnswer r)
+shown-answers {text} {end} {s} {s′} {u} {u′} {r} I Left left =
+    let put : (b : Bool) → leb 69648 (length u) ≡ b → u′ ≡ filled b text u = λ b e. I .text-left ∙ ap (λ (x : Bool). filled x text u) e in
+    let store : (b : Bool) → leb 69648 (length u) ≡ b → s′ ≡ cond b end s = λ b e. I .store-left ∙ ap (λ (x : Bool). cond x end s) e in
+    room-answers (leb 69648 (length u)) (length text) ((u′ ≡ u) × (s′ ≡ s)) (TextLeft text u u′ × Left) r (I .answer)
+    (λ e. (put false e, store false e)) (λ e. (put true e, left (store true e)))
+
 -- ws is any good table of words.
 module _ (ws : List (List ℕ)) (good : Good ws) where
-  -- an answer that depends on room alone
-  room-answers : (b : Bool) (n : ℕ) (Kept Left : Type 0) (r : Answer) → r ≡ cond b (answer.Told n) (answer.Refused LentSize)
-      → (b ≡ false → Kept) → (b ≡ true → Left) → Answers (question b LentSize ∷ []) n Kept Left (toldAnswer r)
-  unfolding ask
-  room-answers true n Kept Left r e kept left =
-      answers (question true LentSize ∷ []) n Kept Left (toldAnswer r) (ap toldAnswer e) (λ q f. no-value (sym (ap toldAnswer e) ∙ f))
-      (λ f. left refl)
-  room-answers false n Kept Left r e kept left =
-      answers (question false LentSize ∷ []) n Kept Left (toldAnswer r) (ap toldAnswer e) (λ q f. kept refl)
-      (λ f. no-value (sym f ∙ ap toldAnswer e))
-
   -- ---- the translator
 
   pub print-loops : (t u u′ : List ℕ) (r : Answer) → PrintsLoops ws t u r u′
@@ -75,8 +93,7 @@ module _ (ws : List (List ℕ)) (good : Good ws) where
       let text : List ℕ = madeText made S in (
         toldAnswer made,
         text,
-        room-answers (leb (length text) (length u)) (length text) (u′ ≡ u) (TextLeft text u u′) r (I .answer)
-            (λ e. I .text-left ∙ ap (λ (b : Bool). filled b text u) e) (λ e. I .text-left ∙ ap (λ (b : Bool). filled b text u) e),
+        put-answers I,
         of-plan ws good t (λ Q. planQuestions Q ++ madeQuestions Q) (λ Q. length (madeRows Q)) (ShowsRefusal (toldAnswer made) text)
             (λ Q. text ≡ textOf ws (madeRows Q)) (toldAnswer made)
             (make-told ws good t toldAnswer (λ q. refl) [] (length (madeRows P)) refl)
@@ -91,31 +108,31 @@ module _ (ws : List (List ℕ)) (good : Good ws) where
     n = allCells (L .inputs)
 
     abbrev held : List ℤ
-    held = withValues ws v n s
+    held = withValues v n s
 
     abbrev end : State clamped32
     end = runInOrder 0 L held
 
     -- the values, and then the run
-    values-told : toldAnswer (valuesRun ws v L s .answer) ≡ ask refusal (valuesQuestions ws v (length s) L) (Told.value (end .writes))
+    values-told : toldAnswer (valuesRun v L s .answer) ≡ ask refusal (valuesQuestions v (length s) L) (Told.value (end .writes))
     unfolding valuesRun ask
-    values-told = go (eqb n 0) ∙ ap (λ (st : State clamped32). ask refusal (valuesQuestions ws v (length s) L) (Told.value (st .writes))) (run-in-order ws good 0 L held)
+    values-told = go (eqb n 0) ∙ ap (λ (st : State clamped32). ask refusal (valuesQuestions v (length s) L) (Told.value (st .writes))) (run-in-order ws good 0 L held)
       where
-        go : (b : Bool) → toldAnswer (afterValues (cond b (answer.Told 0) (filling ws v n (length s))) L held s .answer)
-            ≡ ask refusal (cond b [] (fillQuestions ws v n (length s))) (Told.value (runOf L 0 held .writes))
+        go : (b : Bool) → toldAnswer (afterValues (cond b (answer.Told 0) (filling v n (length s))) L held s .answer)
+            ≡ ask refusal (cond b [] (fillQuestions v n (length s))) (Told.value (runOf L 0 held .writes))
         go true = refl
         go false =
-            told-asks answer.Refused (λ x. toldAnswer (afterValues x L held s .answer)) (λ q. refl) (fillQuestions ws v n (length s))
-            (answer.Told (length (linesOf v))) (filling ws v n (length s)) (filling-asks ws good v n (length s))
+            told-asks answer.Refused (λ x. toldAnswer (afterValues x L held s .answer)) (λ q. refl) (fillQuestions v n (length s))
+            (answer.Told (length (linesOf v))) (filling v n (length s)) (filling-asks v n (length s))
 
     -- and 14 before them
-    passed-told : toldAnswer (cond (leb (need L) (length s)) (valuesRun ws v L s) (refused StoreSize s) .answer)
-        ≡ ask refusal (storeRoom (length s) L ++ valuesQuestions ws v (length s) L) (Told.value (end .writes))
+    passed-told : toldAnswer (cond (leb (need L) (length s)) (valuesRun v L s) (refused StoreSize s) .answer)
+        ≡ ask refusal (storeRoom (length s) L ++ valuesQuestions v (length s) L) (Told.value (end .writes))
     unfolding ask
     passed-told = go (leb (need L) (length s))
       where
-        go : (b : Bool) → toldAnswer (cond b (valuesRun ws v L s) (refused StoreSize s) .answer)
-            ≡ cond b (ask refusal (valuesQuestions ws v (length s) L) (Told.value (end .writes))) (refusal StoreSize)
+        go : (b : Bool) → toldAnswer (cond b (valuesRun v L s) (refused StoreSize s) .answer)
+            ≡ cond b (ask refusal (valuesQuestions v (length s) L) (Told.value (end .writes))) (refusal StoreSize)
         go true = values-told
         go false = refl
 
@@ -129,67 +146,63 @@ module _ (ws : List (List ℕ)) (good : Good ws) where
     values-kept (answer.Told m) q e = no-run (sym e)
     values-kept (answer.Refused p) q e = let same : p ≡ q = cc in ap (λ (x : Refusal). refused x s) same
 
-    run-left : (c : Checked) (w : ℕ) → printChecked c ws v L s .answer ≡ answer.Told w → printChecked c ws v L s ≡ finished end
+    run-left : (c : Checked) (w : ℕ) → printChecked c v L s .answer ≡ answer.Told w → printChecked c v L s ≡ finished end
     unfolding valuesRun
     run-left (loops.Passes a m) w e = go (leb m (length s)) e ∙ ap finished (run-in-order ws good 0 L held)
       where
-        go : (b : Bool) → cond b (valuesRun ws v L s) (refused StoreSize s) .answer ≡ answer.Told w
-            → cond b (valuesRun ws v L s) (refused StoreSize s) ≡ finished (runOf L 0 held)
-        go true f = values-left (askValues ws v n (length s)) w f
+        go : (b : Bool) → cond b (valuesRun v L s) (refused StoreSize s) .answer ≡ answer.Told w
+            → cond b (valuesRun v L s) (refused StoreSize s) ≡ finished (runOf L 0 held)
+        go true f = values-left (askValues v n (length s)) w f
         go false f = no-run f
     run-left (loops.Refused q) w e = no-run e
 
-    run-kept : (c : Checked) (q : Refusal) → printChecked c ws v L s .answer ≡ answer.Refused q → printChecked c ws v L s ≡ refused q s
+    run-kept : (c : Checked) (q : Refusal) → printChecked c v L s .answer ≡ answer.Refused q → printChecked c v L s ≡ refused q s
     unfolding valuesRun
     run-kept (loops.Passes a m) q e = go (leb m (length s)) e
       where
-        go : (b : Bool) → cond b (valuesRun ws v L s) (refused StoreSize s) .answer ≡ answer.Refused q
-            → cond b (valuesRun ws v L s) (refused StoreSize s) ≡ refused q s
-        go true f = values-kept (askValues ws v n (length s)) q f
+        go : (b : Bool) → cond b (valuesRun v L s) (refused StoreSize s) .answer ≡ answer.Refused q
+            → cond b (valuesRun v L s) (refused StoreSize s) ≡ refused q s
+        go true f = values-kept (askValues v n (length s)) q f
         go false f = let same : StoreSize ≡ q = cc in ap (λ (x : Refusal). refused x s) same
     run-kept (loops.Refused p) q e = let same : p ≡ q = cc in ap (λ (x : Refusal). refused x s) same
 
   pub print-run : (t v : List ℕ) (s s′ : List ℤ) (u u′ : List ℕ) (r : Answer) → PrintsRun ws t v s u r s′ u′
       → (told : Told) × (text : List ℕ) × Answers (outputRoom (length u)) (length text) ((u′ ≡ u) × (s′ ≡ s))
-      (TextLeft text u u′ × OfLoops ws t (λ L. loopsQuestions L ++ (storeRoom (length s) L ++ valuesQuestions ws v (length s) L))
-      (λ L. runInOrder 0 L (withValues ws v (allCells (L .inputs)) s) .writes) (ShowsRefusal told text × (s′ ≡ s)) (ShowsRun ws v s s′ text) told)
+      (TextLeft text u u′ × OfLoops ws t (λ L. loopsQuestions L ++ (storeRoom (length s) L ++ valuesQuestions v (length s) L))
+      (λ L. runInOrder 0 L (withValues v (allCells (L .inputs)) s) .writes) (ShowsRefusal told text × (s′ ≡ s)) (ShowsRun v s s′ text) told)
       (toldAnswer r)
   unfolding runnerOutcome runnerText
   print-run t v s s′ u u′ r I =
       let R : List Row = textRows ws t in
       let L : Loops = loopsOf R in
       let c : Checked = checkLoopsText ws t in
-      let o : Ran = printChecked c ws v L s in
+      let o : Ran = printChecked c v L s in
       let told : Told = toldAnswer (o .answer) in
       let text : List ℕ = outcomeText L o in
-      let more : Loops → List Question = λ M. loopsQuestions M ++ (storeRoom (length s) M ++ valuesQuestions ws v (length s) M) in
-      let writes : Loops → ℕ = λ M. runInOrder 0 M (withValues ws v (allCells (M .inputs)) s) .writes in
+      let more : Loops → List Question = λ M. loopsQuestions M ++ (storeRoom (length s) M ++ valuesQuestions v (length s) M) in
+      let writes : Loops → ℕ = λ M. runInOrder 0 M (withValues v (allCells (M .inputs)) s) .writes in
       let asks : told ≡ ask refusal (loopsDoor ws t ++ more L) (Told.value (writes L)) =
-      told-further (loopsDoor ws t) (loopsQuestions L) (storeRoom (length s) L ++ valuesQuestions ws v (length s) L) told (Told.value (writes L))
-      (loops-told ws good R (loopsDoor ws t) c (loops-are ws good t) (loops-check-asks ws good t) (λ x. toldAnswer (printChecked x ws v L s .answer)) (λ q. refl)
+      told-further (loopsDoor ws t) (loopsQuestions L) (storeRoom (length s) L ++ valuesQuestions v (length s) L) told (Told.value (writes L))
+      (loops-told ws good R (loopsDoor ws t) c (loops-are ws good t) (loops-check-asks ws good t) (λ x. toldAnswer (printChecked x v L s .answer)) (λ q. refl)
       ∙ ap (ask refusal (loopsDoor ws t ++ loopsQuestions L)) (passed-told v s L)) in (
         told,
         text,
-        room-answers (leb 69648 (length u)) (length text) ((u′ ≡ u) × (s′ ≡ s)) _ r (I .answer)
-            (λ e. (I .text-left ∙ ap (λ (b : Bool). filled b text u) e, I .store-left ∙ ap (λ (b : Bool). cond b (o .store) s) e))
-            (λ e.
-            let store : s′ ≡ o .store = I .store-left ∙ ap (λ (b : Bool). cond b (o .store) s) e in (
-              I .text-left ∙ ap (λ (b : Bool). filled b text u) e,
-              of-loops ws good R (loopsDoor ws t) c (loops-are ws good t) (loops-check-asks ws good t) more writes (ShowsRefusal told text × (s′ ≡ s)) (ShowsRun ws v s s′ text) told
-                  asks
-                  (λ q f.
-                  answer-refused (o .answer) q f
-                  (λ p g.
-                  let k : o ≡ refused p s = run-kept v s L c p g in (
-                    (p, ap toldAnswer g, ap (outcomeText L) k),
-                    store ∙ ap (λ (x : Ran). x .store) k,
-                  )))
-                  (λ f.
-                  answer-done (o .answer) (writes L) f
-                  (λ w g.
-                  let k : o ≡ finished (runInOrder 0 L (withValues ws v (allCells (L .inputs)) s)) = run-left v s L c w g in (
-                    store ∙ ap (λ (x : Ran). x .store) k,
-                    ap (outcomeText L) k,
-                  ))),
-            )),
+        shown-answers I _
+            (λ store.
+            of-loops ws good R (loopsDoor ws t) c (loops-are ws good t) (loops-check-asks ws good t) more writes (ShowsRefusal told text × (s′ ≡ s)) (ShowsRun v s s′ text) told
+            asks
+            (λ q f.
+            answer-refused (o .answer) q f
+            (λ p g.
+            let k : o ≡ refused p s = run-kept v s L c p g in (
+              (p, ap toldAnswer g, ap (outcomeText L) k),
+              store ∙ ap (λ (x : Ran). x .store) k,
+            )))
+            (λ f.
+            answer-done (o .answer) (writes L) f
+            (λ w g.
+            let k : o ≡ finished (runInOrder 0 L (withValues v (allCells (L .inputs)) s)) = run-left v s L c w g in (
+              store ∙ ap (λ (x : Ran). x .store) k,
+              ap (outcomeText L) k,
+            )))),
       )

@@ -1,23 +1,16 @@
--- `loops::need_text` meets its contract: each case of the check is one of the definition.
-use mathlib.Core.Path.{sym, ap, _∙_}
-use Rattle.loops.specs.Check.{needOf}
+-- `loops::need_text` meets its contract: the built-in table has the built-in words.
+use mathlib.Core.Path.{subst}
+use mathlib.Core.List.{List}
+use Prim.Native.Nat.{ℕ}
+use Rattle.loops.specs.Contracts.{TellsNeed}
 use borrow.Author.Needs.{needs}
 use Rattle.loops.proofs.need_text.Statement.{statement}
 use Rattle.loops.proofs.need_text.Tie as tie
 
 returns : tie.Need-returns
 returns c =
-    let check-text = c .before .before .before .check-text in
-    let checked = c .before .checked in
-    sym (ap needOf (sym (check-text .ensures) ∙ checked .given .1))
-
-returns-2 : tie.Need-returns-2
-returns-2 c =
-    let check-text = c .before .before .before .check-text in
-    let checked2 = c .before .checked2 in
-    sym (ap needOf (sym (check-text .ensures) ∙ checked2 .given .1))
+    let a = c .before .before .before .before .args in
+    subst (λ (ws : List (List ℕ)). TellsNeed ws (a .text .now) (c .need-with .result)) (c .before .before .built-in .ensures) (c .need-with .ensures)
 
 pub need-text-spec : {M : Type 1} → statement M
-need-text-spec =
-    tie.close
-    (tie.spec (λ c κs. search needs) (λ c. search needs) (λ c. search needs) returns returns-2)
+need-text-spec = tie.close (tie.spec (λ c κs. search needs) (λ c κs. search needs) returns)

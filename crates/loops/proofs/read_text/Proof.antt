@@ -1,33 +1,19 @@
--- `loops::read_text` meets its contract: a text that passes is read, into slices that have room for its rows.
-use mathlib.Core.Path.{sym, _∙_}
-use Rattle.words.specs.Words.{words, lookUp}
-use Rattle.lines.specs.Lent.{textRows}
-use Rattle.lines.specs.Reading.{loopsLimits}
-use Rattle.lines.specs.TableLaws.{refused-into, read-into}
-use Rattle.loops.specs.Check.{needOf, checkLoopsRows}
-use Rattle.loops.proofs.Texts as texts
+-- `loops::read_text` meets its contract: the built-in table has the built-in words.
+use mathlib.Core.Path.{subst}
+use mathlib.Core.List.{List}
+use Prim.Native.Nat.{ℕ}
+use Rattle.loops.specs.Contracts.{ReadsLoops}
 use borrow.Author.Needs.{needs}
 use Rattle.loops.proofs.read_text.Statement.{statement}
 use Rattle.loops.proofs.read_text.Tie as tie
 
 returns : tie.Need-returns
 returns c =
-    let a = c .before .before .before .before .before .args in
-    let need-text = c .before .before .need-text in
-    refused-into (textRows words (a .text .now)) (a .kinds .now) (a .numbers .now) (need-text .ensures) (c .enum-told2 .given .1)
-
-returns-2 : tie.Need-returns-2
-returns-2 c =
-    let a = c .before .before .before .before .before .before .before .before .before .before .before .before .args in
-    let need-text = c .before .before .before .before .before .before .before .before .before .need-text in
-    let enum-told = c .before .before .before .before .before .before .before .enum-told in
-    let read-loops = c .before .before .before .before .read-loops in
-    read-into (lookUp words) loopsLimits (a .text .now) (needOf (checkLoopsRows (textRows words (a .text .now))))
-    (texts.need-asked words (a .text .now)) (sym (need-text .ensures) ∙ enum-told .given .1) (read-loops .ensures)
-    (read-loops .kept .1 .0) (read-loops .kept .1 .1 .0) (c .ask-room .ensures)
+    let a = c .before .before .before .before .before .before .before .before .before .before .args in
+    let read-with = c .before .before .before .read-with in
+    subst (λ (ws : List (List ℕ)). ReadsLoops ws (a .text .now) (a .kinds .now) (a .numbers .now) (read-with .result) (read-with .last .1 .1 .0) (read-with .last .1 .1 .1 .0))
+    (c .before .before .before .before .before .before .before .built-in .ensures)
+    (read-with .ensures)
 
 pub read-text-spec : {M : Type 1} → statement M
-read-text-spec =
-    tie.close
-    (tie.spec (λ c κs. search needs) (λ c. search needs) (λ c. search needs) returns (λ c κs. search needs)
-    (λ c κs. search needs) (λ c. search needs) (λ c. search needs) returns-2)
+read-text-spec = tie.close (tie.spec (λ c κs. search needs) (λ c κs. search needs) (λ c. search needs) (λ c. search needs) returns)

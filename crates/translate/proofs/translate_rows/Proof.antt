@@ -1,75 +1,19 @@
--- `translate_rows` meets its contract: the table that was lent to the reader holds the text's rows, and their answer is the text's.
-use mathlib.Core.Path.{refl, sym, _∙_}
-use native.Mathlib.Omega.{arith}
-use Rattle.words.specs.Words.{words, lookUp}
-use Rattle.lines.specs.Reading.{planLimits}
-use Rattle.lines.specs.TableLaws.{held}
-use Rattle.translate.proofs.ReadPlan as reading
+-- `translate::translate_rows` meets its contract: the built-in table has the built-in words.
+use mathlib.Core.Path.{subst}
+use mathlib.Core.List.{List}
+use Prim.Native.Nat.{ℕ}
+use Rattle.translate.specs.Contracts.{TranslatesRows}
 use borrow.Author.Needs.{needs}
 use Rattle.translate.proofs.translate_rows.Statement.{statement}
 use Rattle.translate.proofs.translate_rows.Tie as tie
 
 returns : tie.Need-returns
 returns c =
-    let a = c .before .before .before .before .before .before .before .before .before .args in
-    let read-plan = c .before .before .before .before .read-plan in
-    reading.text-unread words (a .text .now) (read-plan .result) (read-plan .ensures .answer) (a .kinds .now) (a .numbers .now) (c .enum-told .given .1)
-
-array-share-prefix-plan-kinds : tie.Need-array-share-prefix-plan-kinds
-array-share-prefix-plan-kinds c =
     let a = c .before .before .before .before .before .before .before .before .before .before .args in
-    let read-plan = c .before .before .before .before .before .read-plan in
-    let read = c .before .read in
-    let h = held (lookUp words) planLimits (a .text .now) (read-plan .ensures) (read .given .1) refl refl (read-plan .kept .1 .0) (read-plan .kept .1 .1 .0) in
-    omega (arith, h .few)
-
-slice-aggregate-make-rows : tie.Need-slice-aggregate-make-rows
-slice-aggregate-make-rows c =
-    let a = c .before .before .before .before .before .before .before .before .before .before .before .args in
-    let read-plan = c .before .before .before .before .before .before .read-plan in
-    let read = c .before .before .read in
-    let h = held (lookUp words) planLimits (a .text .now) (read-plan .ensures) (read .given .1) refl refl (read-plan .kept .1 .0) (read-plan .kept .1 .1 .0) in
-    sym (h .kinds-front)
-
-array-share-prefix-plan-numbers : tie.Need-array-share-prefix-plan-numbers
-array-share-prefix-plan-numbers c =
-    let a = c .before .before .before .before .before .before .before .before .before .before .before .args in
-    let read-plan = c .before .before .before .before .before .before .read-plan in
-    let read = c .before .before .read in
-    let h = held (lookUp words) planLimits (a .text .now) (read-plan .ensures) (read .given .1) refl refl (read-plan .kept .1 .0) (read-plan .kept .1 .1 .0) in
-    omega (arith, h .few)
-
-slice-aggregate-make-rows-2 : tie.Need-slice-aggregate-make-rows-2
-slice-aggregate-make-rows-2 c =
-    let a = c .before .before .before .before .before .before .before .before .before .before .before .before .args in
-    let read-plan = c .before .before .before .before .before .before .before .read-plan in
-    let read = c .before .before .before .read in
-    let h = held (lookUp words) planLimits (a .text .now) (read-plan .ensures) (read .given .1) refl refl (read-plan .kept .1 .0) (read-plan .kept .1 .1 .0) in
-    sym (h .numbers-front)
-
-make-rows-requires : tie.Need-make-rows-requires
-make-rows-requires c κs =
-    let a = c .before .before .before .before .before .before .before .before .before .before .before .before
-    .before .before .args in
-    let read-plan = c .before .before .before .before .before .before .before .before .before .read-plan in
-    let read = c .before .before .before .before .before .read in
-    let h = held (lookUp words) planLimits (a .text .now) (read-plan .ensures) (read .given .1) refl refl (read-plan .kept .1 .0) (read-plan .kept .1 .1 .0) in
-    (h .kinds-front ∙ sym (h .numbers-front), omega (arith, h .kinds-front, h .few))
-
-returns-2 : tie.Need-returns-2
-returns-2 c =
-    let a = c .before .before .before .before .before .before .before .before .before .before .before .before
-    .before .before .before .before .before .before .args in
-    let read-plan = c .before .before .before .before .before .before .before .before .before .before .before
-    .before .before .read-plan in
-    let read = c .before .before .before .before .before .before .before .before .before .read in
-    let make-rows = c .before .before .before .make-rows in
-    let h = held (lookUp words) planLimits (a .text .now) (read-plan .ensures) (read .given .1) refl refl (read-plan .kept .1 .0) (read-plan .kept .1 .1 .0) in
-    reading.text-made words (a .text .now) (read-plan .result) (read-plan .ensures .answer) (read .given .1) (h .rows) (make-rows .ensures)
+    let rows-with = c .before .before .before .rows-with in
+    subst (λ (ws : List (List ℕ)). TranslatesRows ws (a .text .now) (a .kinds .now) (a .numbers .now) (rows-with .result) (rows-with .last .1 .1 .0) (rows-with .last .1 .1 .1 .0))
+    (c .before .before .before .before .before .before .before .built-in .ensures)
+    (rows-with .ensures)
 
 pub translate-rows-spec : {M : Type 1} → statement M
-translate-rows-spec =
-    tie.close
-    (tie.spec (λ c. search needs) (λ c. search needs) (λ c κs. search needs) (λ c. search needs) (λ c. search needs) returns
-    array-share-prefix-plan-kinds slice-aggregate-make-rows array-share-prefix-plan-numbers slice-aggregate-make-rows-2
-    make-rows-requires (λ c. search needs) (λ c. search needs) returns-2)
+translate-rows-spec = tie.close (tie.spec (λ c κs. search needs) (λ c κs. search needs) (λ c. search needs) (λ c. search needs) returns)

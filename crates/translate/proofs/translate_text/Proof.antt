@@ -1,69 +1,18 @@
--- `translate_text` meets its contract: a table of 4,096 rows has room for all that is made, and the text is put only where it fits.
-use mathlib.Core.Path.{_≡_, refl, sym}
-use native.Mathlib.Omega.{arith}
-use lib.ListN.{length}
-use lib.Seq.{length-take-le}
-use Rattle.words.specs.Words.{words}
-use Rattle.translate.proofs.LentLaws as lent
+-- `translate::translate_text` meets its contract: the built-in table has the built-in words.
+use mathlib.Core.Path.{subst}
+use mathlib.Core.List.{List}
+use Prim.Native.Nat.{ℕ}
+use Rattle.translate.specs.Contracts.{TranslatesText}
 use borrow.Author.Needs.{needs}
 use Rattle.translate.proofs.translate_text.Statement.{statement}
 use Rattle.translate.proofs.translate_text.Tie as tie
 
 returns : tie.Need-returns
 returns c =
-    let a = c .before .before .before .before .before .before .before .before .before .args in
-    let translate-rows = c .before .before .before .before .translate-rows in
-    lent.text-refused words (a .text .now) (translate-rows .result) _ _ _ _ refl refl (translate-rows .ensures) (a .lent .now)
-    (c .enum-told .given .1)
-
-array-share-prefix-kinds : tie.Need-array-share-prefix-kinds
-array-share-prefix-kinds c =
-    let a = c .before .before .before .before .before .before .before .before .before .before .args in
-    let translate-rows = c .before .before .before .before .before .translate-rows in
-    let made = c .before .made in
-    let few = lent.few-rows words (a .text .now) (translate-rows .result) _ _ _ _ refl refl (translate-rows .ensures) (a .lent .now) (made .given .0 .0) (made .given .1) in
-    omega (arith, few)
-
-slice-aggregate-print : tie.Need-slice-aggregate-print
-slice-aggregate-print c =
-    let a = c .before .before .before .before .before .before .before .before .before .before .before .args in
-    let translate-rows = c .before .before .before .before .before .before .translate-rows in
-    let made = c .before .before .made in
-    let few = lent.few-rows words (a .text .now) (translate-rows .result) _ _ _ _ refl refl (translate-rows .ensures) (a .lent .now) (made .given .0 .0) (made .given .1) in
-    let lk : length (translate-rows .last .1 .0) ≡ 4096 = translate-rows .kept .1 .0 in
-    sym (length-take-le (made .given .0 .0) (translate-rows .last .1 .0) (omega (arith, lk, few)))
-
-array-share-prefix-numbers : tie.Need-array-share-prefix-numbers
-array-share-prefix-numbers c =
-    let a = c .before .before .before .before .before .before .before .before .before .before .before .args in
-    let translate-rows = c .before .before .before .before .before .before .translate-rows in
-    let made = c .before .before .made in
-    let few = lent.few-rows words (a .text .now) (translate-rows .result) _ _ _ _ refl refl (translate-rows .ensures) (a .lent .now) (made .given .0 .0) (made .given .1) in
-    omega (arith, few)
-
-slice-aggregate-print-2 : tie.Need-slice-aggregate-print-2
-slice-aggregate-print-2 c =
-    let a = c .before .before .before .before .before .before .before .before .before .before .before .before .args in
-    let translate-rows = c .before .before .before .before .before .before .before .translate-rows in
-    let made = c .before .before .before .made in
-    let few = lent.few-rows words (a .text .now) (translate-rows .result) _ _ _ _ refl refl (translate-rows .ensures) (a .lent .now) (made .given .0 .0) (made .given .1) in
-    let ln : length (translate-rows .last .1 .1 .0) ≡ 4096 = translate-rows .kept .1 .1 .0 in
-    sym (length-take-le (made .given .0 .0) (translate-rows .last .1 .1 .0) (omega (arith, ln, few)))
-
-returns-2 : tie.Need-returns-2
-returns-2 c =
-    let a = c .before .before .before .before .before .before .before .before .before .before .before .before
-    .before .before .before .before .args in
-    let translate-rows = c .before .before .before .before .before .before .before .before .before .before
-    .before .translate-rows in
-    let made = c .before .before .before .before .before .before .before .made in
-    let print = c .before .before .print in
-    lent.text-filled words (a .text .now) (translate-rows .result) _ _ _ _ refl refl (translate-rows .ensures) (a .lent .now)
-    (made .given .0 .0) (made .given .1) _ _ (print .ensures)
+    let a = c .before .before .before .before .before .before .before .before .args in
+    let text-with = c .before .before .text-with in
+    subst (λ (ws : List (List ℕ)). TranslatesText ws (a .text .now) (a .lent .now) (text-with .result) (text-with .last .1 .1 .0)) (c .before .before .before .before .before .built-in .ensures)
+    (text-with .ensures)
 
 pub translate-text-spec : {M : Type 1} → statement M
-translate-text-spec =
-    tie.close
-    (tie.spec (λ c. search needs) (λ c. search needs) (λ c κs. search needs) (λ c. search needs) (λ c. search needs) returns
-    array-share-prefix-kinds slice-aggregate-print array-share-prefix-numbers slice-aggregate-print-2 (λ c κs. search needs)
-    (λ c. search needs) returns-2)
+translate-text-spec = tie.close (tie.spec (λ c κs. search needs) (λ c κs. search needs) (λ c. search needs) returns)

@@ -4,7 +4,6 @@ use mathlib.Core.Path.{refl, sym, _∙_}
 use native.Mathlib.Omega.{arith}
 use borrow.Author.Needs.{needs}
 use borrow.Author.Tests.{not-true, not-false}
-use Rattle.words.specs.Words.{words}
 use Rattle.values.proofs.Fills.{text-refused, rows-few, rows-fit, rows-front, store-short, lines-wrong, values-put}
 use Rattle.values.proofs.fill.Statement.{statement}
 use Rattle.values.proofs.fill.Tie as tie
@@ -13,13 +12,13 @@ returns : tie.Need-returns
 returns c =
     let a = c .before .before .before .before .before .before .before .before .args in
     let read = c .before .before .before .before .read-values in
-    text-refused words (a .text .now) _ _ (read .ensures) (a .count) (a .store .now) (c .enum-told .given .1)
+    text-refused (a .text .now) _ _ (read .ensures) (a .count) (a .store .now) (c .enum-told .given .1)
 
 returns-2 : tie.Need-returns-2
 returns-2 c =
     let a = c .before .before .before .before .before .before .before .before .before .before .args in
     let read = c .before .before .before .before .before .before .read-values in
-    store-short words (a .text .now) _ _ (read .ensures) (a .count) (a .store .now)
+    store-short (a .text .now) _ _ (read .ensures) (a .count) (a .store .now)
     (c .before .before .answer .given .1) (c .if1 .taken)
 
 array-share-prefix-cells : tie.Need-array-share-prefix-cells
@@ -27,14 +26,14 @@ array-share-prefix-cells c =
     let text = c .before .before .before .before .before .before .before .before .before .before .args .text .now in
     let read = c .before .before .before .before .before .before .read-values in
     let is = c .before .before .answer .given .1 in
-    rows-fit words text _ _ (read .ensures) (read .last .1 .0) (read .kept .1 .0) is
+    rows-fit text _ _ (read .ensures) (read .last .1 .0) (read .kept .1 .0) is
 
 slice-aggregate-named : tie.Need-slice-aggregate-named
 slice-aggregate-named c =
     let text = c .before .before .before .before .before .before .before .before .before .before .before .args .text .now in
     let read = c .before .before .before .before .before .before .before .read-values in
     let is = c .before .before .before .answer .given .1 in
-    sym (rows-front words text _ _ (read .ensures) (read .last .1 .0) (read .kept .1 .0) is)
+    sym (rows-front text _ _ (read .ensures) (read .last .1 .0) (read .kept .1 .0) is)
 
 one-line-each-requires : tie.Need-one-line-each-requires
 one-line-each-requires c κs =
@@ -42,7 +41,7 @@ one-line-each-requires c κs =
     let read = c .before .before .before .before .before .before .before .read-values in
     let is = c .before .before .before .answer .given .1 in
     omega
-    (arith, rows-few words text _ _ (read .ensures) is, rows-front words text _ _ (read .ensures) (read .last .1 .0) (read .kept .1 .0) is)
+    (arith, rows-few text _ _ (read .ensures) is, rows-front text _ _ (read .ensures) (read .last .1 .0) (read .kept .1 .0) is)
 
 returns-3 : tie.Need-returns-3
 returns-3 c =
@@ -53,7 +52,7 @@ returns-3 c =
     let a = at-args in
     let read = at-read-values in
     let test = c .before .one-line-each in
-    lines-wrong words (a .text .now) _ _ (read .ensures) (a .count) (a .store .now) (at-answer .given .1)
+    lines-wrong (a .text .now) _ _ (read .ensures) (a .count) (a .store .now) (at-answer .given .1)
     (c .before .before .before .if1 .left) refl refl (test .ensures) (not-true (test .result) (c .if2 .taken))
 
 array-share-prefix-values : tie.Need-array-share-prefix-values
@@ -61,7 +60,7 @@ array-share-prefix-values c =
     let text = c .before .before .before .before .before .before .before .before .before .before .before .before .before .args .text .now in
     let read = c .before .before .before .before .before .before .before .before .before .read-values in
     let is = c .before .before .before .before .before .answer .given .1 in
-    rows-fit words text _ _ (read .ensures) (read .last .1 .1 .0) (read .kept .1 .1 .0) is
+    rows-fit text _ _ (read .ensures) (read .last .1 .1 .0) (read .kept .1 .1 .0) is
 
 slice-aggregate-put-values : tie.Need-slice-aggregate-put-values
 slice-aggregate-put-values c =
@@ -73,7 +72,7 @@ slice-aggregate-put-values c =
     let text = at-args .text .now in
     let read = at-read-values in
     let is = at-answer .given .1 in
-    sym (rows-front words text _ _ (read .ensures) (read .last .1 .1 .0) (read .kept .1 .1 .0) is)
+    sym (rows-front text _ _ (read .ensures) (read .last .1 .1 .0) (read .kept .1 .1 .0) is)
 
 put-values-requires : tie.Need-put-values-requires
 put-values-requires c κs =
@@ -85,7 +84,7 @@ put-values-requires c κs =
     let text = at-args .text .now in
     let read = at-read-values in
     let is = at-answer .given .1 in
-    rows-front words text _ _ (read .ensures) (read .last .1 .0) (read .kept .1 .0) is ∙ sym (rows-front words text
+    rows-front text _ _ (read .ensures) (read .last .1 .0) (read .kept .1 .0) is ∙ sym (rows-front text
     _ _ (read .ensures) (read .last .1 .1 .0) (read .kept .1 .1 .0) is)
 
 returns-4 : tie.Need-returns-4
@@ -101,7 +100,7 @@ returns-4 c =
     let a = at-args in
     let read = at-read-values in
     let test = at-one-line-each in
-    values-put words (a .text .now) _ _ (read .ensures) (a .count) (a .store .now) (at-answer .given .1)
+    values-put (a .text .now) _ _ (read .ensures) (a .count) (a .store .now) (at-answer .given .1)
     (at-if1 .left) refl refl (test .ensures) (not-false (test .result) (at-if2 .left))
     (c .before .put-values .ensures)
 

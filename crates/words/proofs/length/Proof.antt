@@ -1,19 +1,24 @@
--- `words::length` meets its contract: byte 7 of a packed entry is the digit of its letters' count.
+-- `words::length` meets its contract.
+use mathlib.Core.Path.{_≡_, sym, ap, _∙_}
+use mathlib.Core.List.{List}
+use Prim.Native.Nat.{ℕ, _≤_}
+use lib.ListN.{length}
 use native.Mathlib.Omega.{arith}
 use borrow.Author.Needs.{needs}
-use Rattle.words.proofs.Packed.{word-length, word-short}
+use Rattle.words.specs.Tables.{wordIn}
+use Rattle.words.proofs.Rows.{word-of-row, row-letters}
 use Rattle.words.proofs.length.Statement.{statement}
 use Rattle.words.proofs.length.Tie as tie
 
-digit-requires : tie.Need-digit-requires
-digit-requires c κs = omega (arith, word-length _ _ (c .word-at .ensures))
-
 returns : tie.Need-returns
-returns c = (
-  omega (arith, word-length _ _ (c .before .word-at .ensures), c .digit .ensures),
-  omega
-      (arith, word-length _ _ (c .before .word-at .ensures), c .digit .ensures, word-short (c .before .before .args .kind)),
-)
+returns c =
+    let row = c .before .row-in in
+    let long : length (row .result) ≡ 19 = search needs in (
+      c .letter-count .ensures .0
+          ∙ sym (row-letters (row .result) (omega (arith, long)))
+          ∙ ap (λ (l : List ℕ). length l) (sym (word-of-row _ _ ∙ ap wordIn (sym (row .ensures)))),
+      c .letter-count .ensures .1,
+    )
 
 pub length-spec : {M : Type 1} → statement M
-length-spec = tie.close (tie.spec (λ c κs. search needs) (λ c. search needs) digit-requires returns)
+length-spec = tie.close (tie.spec (λ c κs. search needs) (λ c κs. search needs) returns)

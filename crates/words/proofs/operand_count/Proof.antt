@@ -12,23 +12,23 @@ returns : tie.Need-returns
 returns c =
     let word-at = c .before .before .word-at in
     column-none _ _ (word-at .ensures) (c .before .before .before .args .sort)
-    (ap (λ (j : ℕ). getD (word-at .result) (9 + j) 0) (sym (c .before .column .ensures .0)) ∙ c .if1 .taken)
+    (ap (λ (j : ℕ). getD (word-at .result) (10 + j) 0) (sym (c .before .column .ensures .0)) ∙ c .if1 .taken)
 
 digit-requires : tie.Need-digit-requires
 digit-requires c κs =
     let word-at = c .before .before .word-at in
-    subst (λ (j : ℕ). 48 ≤ getD (word-at .result) (9 + j) 0) (sym (c .before .column .ensures .0)) (column-count _ _
+    subst (λ (j : ℕ). 48 ≤ getD (word-at .result) (10 + j) 0) (sym (c .before .column .ensures .0)) (column-count _ _
     (word-at .ensures) (c .before .before .before .args .sort) (λ e. c .if1 .left (ap
-    (λ (j : ℕ). getD (word-at .result) (9 + j) 0) (c .before .column .ensures .0) ∙ e)) .0)
+    (λ (j : ℕ). getD (word-at .result) (10 + j) 0) (c .before .column .ensures .0) ∙ e)) .0)
 
 returns-2 : tie.Need-returns-2
 returns-2 c =
     let word-at = c .before .before .before .word-at in
     let column = c .before .before .column in
     ap Count (c .digit .ensures)
-    ∙ ap (λ (j : ℕ). Count (getD (word-at .result) (9 + j) 0 - 48)) (column .ensures .0)
+    ∙ ap (λ (j : ℕ). Count (getD (word-at .result) (10 + j) 0 - 48)) (column .ensures .0)
     ∙ column-count _ _ (word-at .ensures) (c .before .before .before .before .args .sort)
-    (λ e. c .before .if1 .left (ap (λ (j : ℕ). getD (word-at .result) (9 + j) 0) (column .ensures .0) ∙ e)) .1
+    (λ e. c .before .if1 .left (ap (λ (j : ℕ). getD (word-at .result) (10 + j) 0) (column .ensures .0) ∙ e)) .1
 
 pub operand-count-spec : {M : Type 1} → statement M
 operand-count-spec =

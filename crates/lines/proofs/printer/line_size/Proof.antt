@@ -5,7 +5,7 @@ use mir.Facts.{toZ-ofZ}
 use native.Mathlib.Omega.{arith}
 use lib.ListN.{length}
 use borrow.Author.Needs.{needs}
-use Rattle.words.specs.Words.{words}
+use Rattle.words.specs.Tables.{wordsIn}
 use Rattle.numerals.specs.Numerals.{decimal}
 use Rattle.lines.specs.Laws.{line-length}
 use Rattle.lines.proofs.printer.line_size.Statement.{statement}
@@ -15,7 +15,7 @@ returns : tie.Need-returns
 returns c =
     let a = c .before .before .args in
     let same = c .size .ensures .0 ∙ ap (λ (z : ℤ). length (decimal z)) (toZ-ofZ (c .before .before .fits .number)) in (
-      omega (arith, same, c .before .length .ensures .0, line-length words (a .kind, a .number)),
+      omega (arith, same, c .before .length .ensures .0, line-length (wordsIn (a .table .now)) (a .kind, a .number)),
       omega (arith, c .size .ensures .1, c .before .length .ensures .1),
     )
 

@@ -7,7 +7,7 @@ use mir.Facts.{toZ-ofZ}
 use native.Mathlib.Omega.{arith}
 use lib.ListN.{length}
 use borrow.Author.Needs.{needs}
-use Rattle.words.specs.Words.{words}
+use Rattle.words.specs.Tables.{wordsIn}
 use Rattle.numerals.specs.Numerals.{decimal}
 use Rattle.lines.specs.Laws.{line-length}
 use Rattle.lines.proofs.Sizes.{line-put}
@@ -26,8 +26,8 @@ returns c =
     let size2 = c .before .before .before .before .size in
     let number = toZ-ofZ (entry .fits .number) in
     let size = size2 .ensures .0 ∙ ap (λ (z : ℤ). length (decimal z)) number in (
-      omega (arith, line-length words (a .kind, a .number), letters .ensures .0, size),
-      line-put words (a .kind)
+      omega (arith, line-length (wordsIn (a .table .now)) (a .kind, a .number), letters .ensures .0, size),
+      line-put (wordsIn (a .table .now)) (a .kind)
           (a .number) (a .text .now) (a .at) (letters .result) (size2 .result) (letters .ensures .0) size
           (c .before .before .before .before .before .before .before .before .before .before .before
           .before .before .before .before .before .put-word .ensures) (put-u8 .ensures)

@@ -7,7 +7,7 @@ use lib.Seq.{sets, length-sets}
 use borrow.Author.Needs.{needs}
 use native.Mathlib.Omega.{arith}
 use Rattle.words.specs.Kinds.{rowsOf}
-use Rattle.words.specs.Words.{words}
+use Rattle.words.specs.Tables.{wordsIn}
 use Rattle.lines.specs.Printing.{written, textOf}
 use Rattle.lines.proofs.Sizes.{text-put, size-from, text-end}
 use Rattle.lines.proofs.Stores.{held}
@@ -15,13 +15,13 @@ use Rattle.lines.proofs.printer.put_text.Statement.{statement}
 use Rattle.lines.proofs.printer.put_text.Tie as tie
 
 abbrev Inv-loop : tie.InvT-loop
-Inv-loop kinds numbers text₀ rows at₀ i₀ text at i =
+Inv-loop table kinds numbers text₀ rows at₀ i₀ text at i =
     (i ≤ rows) × (length text ≡ length text₀)
-    × (at + length (textOf words (drop i (rowsOf kinds numbers))) ≤ length text₀)
-    × (sets text at (textOf words (drop i (rowsOf kinds numbers))) ≡ sets text₀ 0 (textOf words (rowsOf kinds numbers)))
+    × (at + length (textOf (wordsIn table) (drop i (rowsOf kinds numbers))) ≤ length text₀)
+    × (sets text at (textOf (wordsIn table) (drop i (rowsOf kinds numbers))) ≡ sets text₀ 0 (textOf (wordsIn table) (rowsOf kinds numbers)))
 
 abbrev μ-loop : tie.MeasureT-loop
-μ-loop kinds numbers text₀ rows at₀ i₀ text at i = rows - i
+μ-loop table kinds numbers text₀ rows at₀ i₀ text at i = rows - i
 
 loop-holds : tie.Need-loop-holds Inv-loop μ-loop
 loop-holds c = (search needs, refl, omega (arith, c .before .before .before .pre), refl)
@@ -37,14 +37,14 @@ loop-again c =
     let row-count = c .before .before .before .before .before .before .before .before .row-count in
     let turn = c .before .before .before .before .before .before .before .loop in
     let put-line = c .before .before .put-line in
-    let line = ap (λ (z : ℤ). written words (getD (a .kinds .now) (turn .i) 0, z))
+    let line = ap (λ (z : ℤ). written (wordsIn (a .table .now)) (getD (a .kinds .now) (turn .i) 0, z))
     (held (getD (a .numbers .now) (turn .i) (pos 0)) (c .before .before .before .before .put-line-arg .given)) in
-    let left = size-from words (a .kinds .now) (a .numbers .now) (turn .i)
+    let left = size-from (wordsIn (a .table .now)) (a .kinds .now) (a .numbers .now) (turn .i)
     (omega (arith, row-count .ensures .0, c .before .before .before .before .before .before .loop-test .taken)) in (
       search needs,
       ap length (put-line .ensures .1) ∙ simp length-sets (turn .inv .1),
       omega (arith, turn .inv .2, left, put-line .ensures .0, ap length line),
-      text-put words (a .kinds .now) (a .numbers .now) (turn .i)
+      text-put (wordsIn (a .table .now)) (a .kinds .now) (a .numbers .now) (turn .i)
           (omega (arith, row-count .ensures .0, c .before .before .before .before .before .before .loop-test .taken))
           (turn .text) _ _ _ (turn .at) (put-line .result) line (put-line .ensures .0) (put-line .ensures .1) (turn .inv .3),
     )
@@ -56,7 +56,7 @@ returns : tie.Need-returns Inv-loop μ-loop
 returns c =
     let a = c .before .before .before .before .before .args in
     let turn = c .before .loop in
-    ap (sets (turn .text) (turn .at)) (sym (text-end words (a .kinds .now) (a .numbers .now) (turn .i) (omega
+    ap (sets (turn .text) (turn .at)) (sym (text-end (wordsIn (a .table .now)) (a .kinds .now) (a .numbers .now) (turn .i) (omega
     (arith, c .before .before .row-count .ensures .0, c .loop-test .left)))) ∙ turn .inv .3
 
 pub put-text-spec : {M : Type 1} → statement M

@@ -9,18 +9,18 @@ use native.Mathlib.Omega.{arith}
 use Rattle.lines.proofs.Stores.{held}
 use Rattle.lines.specs.Printing.{written, textOf}
 use Rattle.words.specs.Kinds.{rowsOf}
-use Rattle.words.specs.Words.{words}
+use Rattle.words.specs.Tables.{wordsIn}
 use Rattle.lines.proofs.Sizes.{size-from, text-end, too-long, fits-in}
 use Rattle.lines.proofs.printer.text_size.Statement.{statement}
 use Rattle.lines.proofs.printer.text_size.Tie as tie
 
 abbrev Inv-loop : tie.InvT-loop
-Inv-loop kinds numbers room rows bytes₀ i₀ bytes i =
+Inv-loop table kinds numbers room rows bytes₀ i₀ bytes i =
     (i ≤ rows) × (bytes ≤ room)
-    × (length (textOf words (rowsOf kinds numbers)) ≡ bytes + length (textOf words (drop i (rowsOf kinds numbers))))
+    × (length (textOf (wordsIn table) (rowsOf kinds numbers)) ≡ bytes + length (textOf (wordsIn table) (drop i (rowsOf kinds numbers))))
 
 abbrev μ-loop : tie.MeasureT-loop
-μ-loop kinds numbers room rows bytes₀ i₀ bytes i = rows - i
+μ-loop table kinds numbers room rows bytes₀ i₀ bytes i = rows - i
 
 loop-holds : tie.Need-loop-holds Inv-loop μ-loop
 loop-holds c = (search needs, search needs, sym (zero-add _))
@@ -30,14 +30,14 @@ returns c =
     let a = c .before .before .before .before .before .before .before .before .args in
     let turn = c .before .before .before .before .before .loop in
     let size = c .before .line-size .ensures .0 ∙ ap (λ (z : ℤ). length
-    (written words (getD (a .kinds .now) (turn .i) 0, z))) (held (getD (a .numbers .now) (turn .i) (pos 0))
+    (written (wordsIn (a .table .now)) (getD (a .kinds .now) (turn .i) 0, z))) (held (getD (a .numbers .now) (turn .i) (pos 0))
     (c .before .before .line-size-arg .given)) in
-    let rest = size-from words (a .kinds .now) (a .numbers .now) (turn .i) (omega (
+    let rest = size-from (wordsIn (a .table .now)) (a .kinds .now) (a .numbers .now) (turn .i) (omega (
       arith,
       c .before .before .before .before .before .before .row-count .ensures .0,
       c .before .before .before .before .loop-test .taken,
     )) in
-    too-long (textOf words (rowsOf (a .kinds .now) (a .numbers .now))) (a .room) (omega (
+    too-long (textOf (wordsIn (a .table .now)) (rowsOf (a .kinds .now) (a .numbers .now))) (a .room) (omega (
       arith,
       turn .inv .1,
       turn .inv .2,
@@ -51,9 +51,9 @@ loop-again c =
     let a = c .before .before .before .before .before .before .before .before .args in
     let turn = c .before .before .before .before .before .loop in
     let size = c .before .line-size .ensures .0 ∙ ap (λ (z : ℤ). length
-    (written words (getD (a .kinds .now) (turn .i) 0, z))) (held (getD (a .numbers .now) (turn .i) (pos 0))
+    (written (wordsIn (a .table .now)) (getD (a .kinds .now) (turn .i) 0, z))) (held (getD (a .numbers .now) (turn .i) (pos 0))
     (c .before .before .line-size-arg .given)) in
-    let rest = size-from words (a .kinds .now) (a .numbers .now) (turn .i) (omega (
+    let rest = size-from (wordsIn (a .table .now)) (a .kinds .now) (a .numbers .now) (turn .i) (omega (
       arith,
       c .before .before .before .before .before .before .row-count .ensures .0,
       c .before .before .before .before .loop-test .taken,
@@ -64,10 +64,10 @@ returns-2 : tie.Need-returns-2 Inv-loop μ-loop
 returns-2 c =
     let a = c .before .before .before .before .args in
     let turn = c .before .loop in
-    fits-in (textOf words (rowsOf (a .kinds .now) (a .numbers .now))) (a .room) (turn .bytes) (omega (
+    fits-in (textOf (wordsIn (a .table .now)) (rowsOf (a .kinds .now) (a .numbers .now))) (a .room) (turn .bytes) (omega (
       arith,
       turn .inv .2,
-      ap length (text-end words (a .kinds .now) (a .numbers .now) (turn .i) (omega (
+      ap length (text-end (wordsIn (a .table .now)) (a .kinds .now) (a .numbers .now) (turn .i) (omega (
         arith,
         c .before .before .row-count .ensures .0,
         c .loop-test .left,

@@ -3,7 +3,7 @@
 use mathlib.Core.Path.{sym, ap, _∙_}
 use lib.Seq.{length-take-le}
 use borrow.Author.Needs.{needs}
-use Rattle.words.specs.Words.{words}
+use Rattle.words.specs.Tables.{wordsIn}
 use Rattle.lines.specs.Reading.{headOf}
 use Rattle.lines.specs.declared.Line.the-variants.{IsRow}
 use Rattle.lines.proofs.Lines.{no-head, no-comma, no-number, row}
@@ -20,20 +20,20 @@ returns : tie.Need-returns
 returns c =
     let a = c .before .before .before .before .before .before .args in
     let field-length = c .before .before .before .before .field-length in
-    no-head (headOf words (a .heads)) (a .line .now) (field-length .result) (field-length .ensures .0)
+    no-head (headOf (wordsIn (a .table .now)) (a .heads)) (a .line .now) (field-length .result) (field-length .ensures .0)
     (c .before .before .head-of .ensures) (c .enum-told .given .1)
 
 returns-2 : tie.Need-returns-2
 returns-2 c =
     let a = c .before .before .before .before .before .before .before .before .args in
     let field-length = c .before .before .before .before .before .before .field-length in
-    no-comma (headOf words (a .heads)) (a .line .now) (field-length .result) (field-length .ensures .0) (c .if1 .taken)
+    no-comma (headOf (wordsIn (a .table .now)) (a .heads)) (a .line .now) (field-length .result) (field-length .ensures .0) (c .if1 .taken)
 
 returns-3 : tie.Need-returns-3
 returns-3 c =
     let a = c .before .before .before .before .before .before .before .before .before .before .before .before .args in
     let field-length = c .before .before .before .before .before .before .before .before .before .before .field-length in
-    no-number (headOf words (a .heads)) (a .line .now) (field-length .result) (field-length .ensures .0)
+    no-number (headOf (wordsIn (a .table .now)) (a .heads)) (a .line .now) (field-length .result) (field-length .ensures .0)
     (c .before .before .read .ensures) (c .enum-told2 .given .1)
 
 returns-4 : tie.Need-returns-4
@@ -42,7 +42,7 @@ returns-4 c =
     let field-length = c .before .before .before .before .before .before .before .before .before .before .before .field-length in
     let head = c .before .before .before .before .before .before .before .head in
     ap (IsRow (head .given .0 .0)) (held (c .before .value .given .0 .0) (c .known-told2 .given .0 .1))
-    ∙ row (headOf words (a .heads)) (a .line .now) (field-length .result) (field-length .ensures .0)
+    ∙ row (headOf (wordsIn (a .table .now)) (a .heads)) (a .line .now) (field-length .result) (field-length .ensures .0)
     (c .before .before .before .before .before .before .before .before .before .head-of .ensures) (head .given .1)
     (c .before .before .before .read .ensures) (c .before .value .given .1)
 

@@ -6,7 +6,7 @@ use lib.Seq.{sets}
 use borrow.Author.Needs.{needs}
 use native.Mathlib.Omega.{arith}
 use Rattle.words.specs.Kinds.{Row}
-use Rattle.words.specs.Words.{words}
+use Rattle.words.specs.Tables.{wordsIn}
 use Rattle.texts.specs.Texts.{linesOf, firstLine}
 use Rattle.lines.specs.Reading.{headOf, rowsIn, kindsOf, numbersOf}
 use Rattle.lines.specs.declared.Heads.the-variants.{Words}
@@ -16,24 +16,25 @@ use Rattle.lines.proofs.reader.put_rows.Statement.{statement}
 use Rattle.lines.proofs.reader.put_rows.Tie as tie
 
 abbrev Inv-loop : tie.InvT-loop
-Inv-loop text kinds₀ numbers₀ at₀ row₀ kinds numbers at row =
+Inv-loop table text kinds₀ numbers₀ at₀ row₀ kinds numbers at row =
     (at ≤ length text + 1) × (row ≤ at) × (length kinds ≡ length kinds₀) × (length numbers ≡ length numbers₀) ×
-    (sets kinds row (kindsOf (rowsIn (headOf words Words) (linesOf (drop at text)))) ≡ sets kinds₀ 0
-    (kindsOf (rowsIn (headOf words Words) (linesOf text)))) × (sets numbers row (numbersOf
-    (rowsIn (headOf words Words) (linesOf (drop at text)))) ≡ sets numbers₀ 0
-    (numbersOf (rowsIn (headOf words Words) (linesOf text))))
+    (sets kinds row (kindsOf (rowsIn (headOf (wordsIn table) Words) (linesOf (drop at text)))) ≡ sets kinds₀ 0
+    (kindsOf (rowsIn (headOf (wordsIn table) Words) (linesOf text)))) × (sets numbers row (numbersOf
+    (rowsIn (headOf (wordsIn table) Words) (linesOf (drop at text)))) ≡ sets numbers₀ 0
+    (numbersOf (rowsIn (headOf (wordsIn table) Words) (linesOf text))))
 
 abbrev μ-loop : tie.MeasureT-loop
-μ-loop text kinds₀ numbers₀ at₀ row₀ kinds numbers at row = length text - at
+μ-loop table text kinds₀ numbers₀ at₀ row₀ kinds numbers at row = length text - at
 
 loop-holds : tie.Need-loop-holds Inv-loop μ-loop
 loop-holds c = (search needs, search needs, refl, refl, refl, refl)
 
 put-row-requires : tie.Need-put-row-requires Inv-loop μ-loop
 put-row-requires c κs =
+    let a = c .before .before .before .before .before .before .before .args in
     let turn = c .before .before .before .before .loop in (
-      kind-below
-          (firstLine (drop (turn .at) (c .before .before .before .before .before .before .before .args .text .now)))
+      kind-below (a .table .now)
+          (firstLine (drop (turn .at) (a .text .now)))
           (c .before .before .next-line .ensures .0),
       omega (arith, turn .inv .0, turn .inv .1, c .before .before .before .loop-test .taken),
     )
@@ -59,11 +60,11 @@ loop-again c =
       omega (arith, put-row .ensures .0, turn .inv .1, next-line .ensures .1),
       kept-first ∙ turn .inv .2,
       kept-second ∙ turn .inv .3,
-      column-next (headOf words Words) (a .text .now) (turn .at) (next-line .result .after)
+      column-next (headOf (wordsIn (a .table .now)) Words) (a .text .now) (turn .at) (next-line .result .after)
           (c .before .before .before .before .before .before .before .loop-test .taken) (next-line .ensures .0)
           (next-line .ensures .1) (λ (r : Row). r .0) (turn .kinds) _ (turn .row) (put-row .result) (put-row .ensures .1 .0)
           (turn .inv .4),
-      column-next (headOf words Words) (a .text .now) (turn .at) (next-line .result .after)
+      column-next (headOf (wordsIn (a .table .now)) Words) (a .text .now) (turn .at) (next-line .result .after)
           (c .before .before .before .before .before .before .before .loop-test .taken) (next-line .ensures .0)
           (next-line .ensures .1) (λ (r : Row). r .1) (turn .numbers) _ (turn .row) (put-row .result)
           (put-row .ensures .1 .1) (turn .inv .5),
@@ -79,9 +80,9 @@ returns : tie.Need-returns Inv-loop μ-loop
 returns c =
     let a = c .before .before .before .before .args in
     let turn = c .before .loop in (
-      column-end (headOf words Words) (a .text .now) (turn .at) (c .loop-test .left) (λ (r : Row). r .0) (turn .kinds)
+      column-end (headOf (wordsIn (a .table .now)) Words) (a .text .now) (turn .at) (c .loop-test .left) (λ (r : Row). r .0) (turn .kinds)
           (turn .row) (turn .inv .4),
-      column-end (headOf words Words) (a .text .now) (turn .at) (c .loop-test .left) (λ (r : Row). r .1) (turn .numbers)
+      column-end (headOf (wordsIn (a .table .now)) Words) (a .text .now) (turn .at) (c .loop-test .left) (λ (r : Row). r .1) (turn .numbers)
           (turn .row) (turn .inv .5),
     )
 

@@ -6,25 +6,23 @@ use lib.Seq.{sets}
 use borrow.Author.Needs.{needs}
 use native.Mathlib.Omega.{arith}
 use Rattle.words.specs.Kinds.{Row}
-use Rattle.words.specs.Words.{words}
 use Rattle.texts.specs.Texts.{linesOf, firstLine}
-use Rattle.lines.specs.Reading.{headOf, rowsIn, kindsOf, numbersOf}
-use Rattle.lines.specs.declared.Heads.the-variants.{Cells}
+use Rattle.lines.specs.Reading.{cellHead, rowsIn, kindsOf, numbersOf}
 use Rattle.lines.proofs.Lines.{column-next, column-end, cell-below}
 use Rattle.lines.proofs.Stores.{kept}
 use Rattle.lines.proofs.reader.put_values.Statement.{statement}
 use Rattle.lines.proofs.reader.put_values.Tie as tie
 
 abbrev Inv-loop : tie.InvT-loop
-Inv-loop text cells₀ values₀ at₀ row₀ cells values at row =
+Inv-loop table text cells₀ values₀ at₀ row₀ cells values at row =
     (at ≤ length text + 1) × (row ≤ at) × (length cells ≡ length cells₀) × (length values ≡ length values₀) × (sets
-    cells row (kindsOf (rowsIn (headOf words Cells) (linesOf (drop at text)))) ≡ sets cells₀ 0
-    (kindsOf (rowsIn (headOf words Cells) (linesOf text)))) × (sets values row (numbersOf
-    (rowsIn (headOf words Cells) (linesOf (drop at text)))) ≡ sets values₀ 0
-    (numbersOf (rowsIn (headOf words Cells) (linesOf text))))
+    cells row (kindsOf (rowsIn (cellHead) (linesOf (drop at text)))) ≡ sets cells₀ 0
+    (kindsOf (rowsIn (cellHead) (linesOf text)))) × (sets values row (numbersOf
+    (rowsIn (cellHead) (linesOf (drop at text)))) ≡ sets values₀ 0
+    (numbersOf (rowsIn (cellHead) (linesOf text))))
 
 abbrev μ-loop : tie.MeasureT-loop
-μ-loop text cells₀ values₀ at₀ row₀ cells values at row = length text - at
+μ-loop table text cells₀ values₀ at₀ row₀ cells values at row = length text - at
 
 loop-holds : tie.Need-loop-holds Inv-loop μ-loop
 loop-holds c = (search needs, search needs, refl, refl, refl, refl)
@@ -59,11 +57,11 @@ loop-again c =
       omega (arith, put-value .ensures .0, turn .inv .1, next-line .ensures .1),
       kept-first ∙ turn .inv .2,
       kept-second ∙ turn .inv .3,
-      column-next (headOf words Cells) (a .text .now) (turn .at) (next-line .result .after)
+      column-next (cellHead) (a .text .now) (turn .at) (next-line .result .after)
           (c .before .before .before .before .before .before .before .loop-test .taken) (next-line .ensures .0)
           (next-line .ensures .1) (λ (r : Row). r .0) (turn .cells) _ (turn .row) (put-value .result)
           (put-value .ensures .1 .0) (turn .inv .4),
-      column-next (headOf words Cells) (a .text .now) (turn .at) (next-line .result .after)
+      column-next (cellHead) (a .text .now) (turn .at) (next-line .result .after)
           (c .before .before .before .before .before .before .before .loop-test .taken) (next-line .ensures .0)
           (next-line .ensures .1) (λ (r : Row). r .1) (turn .values) _ (turn .row) (put-value .result)
           (put-value .ensures .1 .1) (turn .inv .5),
@@ -79,9 +77,9 @@ returns : tie.Need-returns Inv-loop μ-loop
 returns c =
     let a = c .before .before .before .before .args in
     let turn = c .before .loop in (
-      column-end (headOf words Cells) (a .text .now) (turn .at) (c .loop-test .left) (λ (r : Row). r .0) (turn .cells)
+      column-end (cellHead) (a .text .now) (turn .at) (c .loop-test .left) (λ (r : Row). r .0) (turn .cells)
           (turn .row) (turn .inv .4),
-      column-end (headOf words Cells) (a .text .now) (turn .at) (c .loop-test .left) (λ (r : Row). r .1) (turn .values)
+      column-end (cellHead) (a .text .now) (turn .at) (c .loop-test .left) (λ (r : Row). r .1) (turn .values)
           (turn .row) (turn .inv .5),
     )
 

@@ -1,5 +1,4 @@
 -- `fill_inputs` meets its contract: with no cells nothing is asked, else `fill` asks.
-use Rattle.words.specs.Words.{words}
 use Rattle.programs.proofs.Tables.{none-asked, values-asked}
 use borrow.Author.Needs.{needs}
 use Rattle.programs.proofs.table.fill_inputs.Statement.{statement}
@@ -8,13 +7,13 @@ use Rattle.programs.proofs.table.fill_inputs.Tie as tie
 returns : tie.Need-returns
 returns c =
     let args = c .before .before .args in
-    none-asked words (args .values .now) (args .store .now) (args .cells) (c .if1 .taken)
+    none-asked (args .values .now) (args .store .now) (args .cells) (c .if1 .taken)
 
 returns-2 : tie.Need-returns-2
 returns-2 c =
     let args = c .before .before .before .before .before .args in
     let fill = c .before .fill in
-    values-asked words (args .values .now) (args .store .now) (args .cells) (fill .result) _ (c .before .before .before .if1 .left) (fill .ensures)
+    values-asked (args .values .now) (args .store .now) (args .cells) (fill .result) _ (c .before .before .before .if1 .left) (fill .ensures)
 
 pub fill-inputs-spec : {M : Type 1} → statement M
 fill-inputs-spec =

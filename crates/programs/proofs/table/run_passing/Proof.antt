@@ -1,7 +1,6 @@
 -- `run_passing` meets its contract: the values are asked, and the loops run on the store that holds them.
 use lib.ListN.{length}
 use Rattle.words.specs.Kinds.{rowsOf}
-use Rattle.words.specs.Words.{words}
 use Rattle.syntax.specs.Reading.{loopsOf}
 use Rattle.programs.proofs.Outcomes as outcomes
 use borrow.Author.Needs.{needs}
@@ -30,7 +29,7 @@ returns c =
     let pre = c .before .before .before .before .before .before .before .before .before .before .before
     .before .before .before .pre in
     let L = loopsOf (rowsOf (a .kinds .now) (a .numbers .now)) in
-    outcomes.values-refused words (a .values .now) L (a .store .now) (fill-inputs .last .1 .1 .0) (layout-of .result .inputs) (layout-of .result .output) (layout-of .ensures)
+    outcomes.values-refused (a .values .now) L (a .store .now) (fill-inputs .last .1 .1 .0) (layout-of .result .inputs) (layout-of .result .output) (layout-of .ensures)
     (fill-inputs .result) (fill-inputs .ensures) _ (filled .given .1)
     (outcomes.refusal-into L _ (fill-inputs .last .1 .1 .0) (put-refusal .ensures .0) (put-refusal .ensures .1) (pre .1))
 
@@ -42,7 +41,7 @@ returns-2 c =
     let layout-of = c .before .before .before .before .before .before .before .before .before .before .before .layout-of in
     let enum-told = c .before .before .before .before .before .before .enum-told in
     let print-run = c .before .before .before .print-run in
-    outcomes.values-run words (a .values .now) (loopsOf (rowsOf (a .kinds .now) (a .numbers .now))) (a .store .now) (fill-inputs .last .1 .1 .0)
+    outcomes.values-run (a .values .now) (loopsOf (rowsOf (a .kinds .now) (a .numbers .now))) (a .store .now) (fill-inputs .last .1 .1 .0)
     (layout-of .result .inputs) (layout-of .result .output) (layout-of .ensures) (fill-inputs .result) (fill-inputs .ensures) _ (enum-told .given .1)
     (print-run .ensures)
 

@@ -1,7 +1,6 @@
 -- `run_table` meets its contract: the check's answer, then question 14, then the values and the run.
 use Rattle.refusals.specs.declared.Refusal.the-variants.{StoreSize}
 use Rattle.words.specs.Kinds.{rowsOf}
-use Rattle.words.specs.Words.{words}
 use Rattle.syntax.specs.Reading.{loopsOf}
 use Rattle.programs.proofs.Outcomes as outcomes
 use borrow.Author.Needs.{needs}
@@ -16,7 +15,7 @@ returns c =
     let if1 = c .before .before .before .before .if1 in
     let put-refusal2 = c .before .before .put-refusal2 in
     let pre = c .before .before .before .before .before .before .before .before .before .before .before .before .pre in
-    outcomes.store-short words (a .values .now) (a .kinds .now) (a .numbers .now) (a .store .now) (check-table .result) (check-table .ensures)
+    outcomes.store-short (a .values .now) (a .kinds .now) (a .numbers .now) (a .store .now) (check-table .result) (check-table .ensures)
     (checked2 .given .0 .0) (checked2 .given .0 .1 .0) (checked2 .given .1) (if1 .taken)
     (outcomes.refusal-into (loopsOf (rowsOf (a .kinds .now) (a .numbers .now))) StoreSize (a .store .now) (put-refusal2 .ensures .0) (put-refusal2 .ensures .1) (pre .2))
 
@@ -27,7 +26,7 @@ run-passing-requires c κs =
     let checked2 = c .before .before .before .before .checked2 in
     let pre = c .before .before .before .before .before .before .before .before .before .before .pre in
     let if1 = c .before .before .if1 in (
-      outcomes.ready words (a .values .now) (a .kinds .now) (a .numbers .now) (a .store .now) (check-table .result) (check-table .ensures)
+      outcomes.ready (a .values .now) (a .kinds .now) (a .numbers .now) (a .store .now) (check-table .result) (check-table .ensures)
           (checked2 .given .0 .0) (checked2 .given .0 .1 .0) (checked2 .given .1) (pre .0) (pre .1) (if1 .left),
       pre .2,
     )
@@ -39,7 +38,7 @@ returns-2 c =
     let checked = c .before .before .before .before .before .checked in
     let put-refusal = c .before .before .put-refusal in
     let pre = c .before .before .before .before .before .before .before .before .before .before .before .pre in
-    outcomes.check-refused words (a .values .now) (a .kinds .now) (a .numbers .now) (a .store .now) (check-table .result) (check-table .ensures) _
+    outcomes.check-refused (a .values .now) (a .kinds .now) (a .numbers .now) (a .store .now) (check-table .result) (check-table .ensures) _
     (checked .given .1)
     (outcomes.refusal-into (loopsOf (rowsOf (a .kinds .now) (a .numbers .now))) _ (a .store .now) (put-refusal .ensures .0) (put-refusal .ensures .1) (pre .2))
 
@@ -51,7 +50,7 @@ returns-3 c =
     let checked2 = c .before .before .before .before .before .before .before .before .checked2 in
     let if1 = c .before .before .before .before .before .before .if1 in
     let run-passing = c .before .before .before .run-passing in
-    outcomes.passing-run words (a .values .now) (a .kinds .now) (a .numbers .now) (a .store .now) (check-table .result) (check-table .ensures)
+    outcomes.passing-run (a .values .now) (a .kinds .now) (a .numbers .now) (a .store .now) (check-table .result) (check-table .ensures)
     (checked2 .given .0 .0) (checked2 .given .0 .1 .0) (checked2 .given .1) (if1 .left) (run-passing .ensures)
 
 pub run-table-spec : {M : Type 1} → statement M
