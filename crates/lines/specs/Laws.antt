@@ -6,14 +6,13 @@ use mathlib.Core.List.{List, [], _∷_, _++_, append-nil, append-assoc}
 use mathlib.Core.Logic.{_⊎_, ⊎-elim}
 use Prim.Native.Nat.{ℕ, suc, _+_, _-_, _*_, _≤_, _<_}
 use native.Mathlib.Nat.{zero-add, add-zero, add-suc, suc-add}
-use native.Mathlib.Numerals.{add-one}
 use native.Mathlib.Omega.{arith}
 use borrow.Author.Tests.{le-leb, eq-eqb}
 use lib.Dec.{T, eqb, leb, leb→le, eqb→eq}
 use lib.Ieee.Fits.{and-l, and-r}
 use lib.IntN.{ℤ, pos}
-use lib.ListN.{length, getD, take, drop, length-append}
-use lib.Seq.{take-append-seam, drop-append-add, append-snoc}
+use lib.ListN.{length, getD, take, length-append}
+use lib.Seq.{append-snoc}
 use mir.Syntax.{w32}
 use mir.Val.{SFits}
 use Rattle.words.specs.Kinds.{Row, word-lit}
@@ -23,13 +22,13 @@ use Rattle.words.specs.Laws.{found-word, own-place, word-formed}
 use Rattle.words.specs.declared.Found.{Found}
 use Rattle.words.specs.declared.Found.the-variants.{At, NotListed}
 use Rattle.numerals.specs.Numerals.{numeralOf, decimal}
-use Rattle.texts.specs.Laws.{Free, lines-within, place-behind, place-split, lines-line, together, Closed, lines-together, last-closed, closed-last}
+use Rattle.texts.specs.Laws.{Free, free-append, before-cut, after-cut, lines-within, place-split, lines-line, together, Closed, lines-together, last-closed, closed-last}
 use Rattle.numerals.specs.Laws.{read-back, one-way, no-line-end, decimal-length, decimal-short, decimal-nonempty}
 use Rattle.numerals.specs.declared.Numeral.{Numeral}
 use Rattle.numerals.specs.declared.Numeral.the-variants.{Is, Malformed}
 use Rattle.refusals.specs.declared.Refusal.{Refusal}
 use Rattle.refusals.specs.declared.Refusal.the-variants.{TextForm, LineForm, LineCount}
-use Rattle.texts.specs.Texts.{linesOf, placeOf, beforeComma, afterComma}
+use Rattle.texts.specs.Texts.{linesOf, beforeComma, afterComma}
 use Rattle.lines.specs.Reading.{paired, lineOf, addRow, rowsIn, closed, whether, formed, limited, reading}
 use Rattle.refusals.specs.declared.Answer.{Answer}
 use Rattle.refusals.specs.declared.Answer.the-variants.{Told, Refused}
@@ -50,19 +49,11 @@ lower-free b (c ∷ cs) h t =
     let c-least : 97 ≤ c = leb→le 97 c (and-l (leb 97 c) (leb c 122) c-low) in
     ((λ e. omega arith), lower-free b cs h (and-r (leb 97 c && leb c 122) (lowerCase cs) t))
 
-free-append : (b : ℕ) (l m : List ℕ) → Free b l → Free b m → Free b (l ++ m)
-free-append b [] m f g = g
-free-append b (c ∷ cs) m f g = (f .0, free-append b cs m (f .1) g)
-
 -- what stands before the first comma and behind it
 line-parts : (head : List ℕ → Found) (w d : List ℕ) → Free 44 w → lineOf head (w ++ (44 ∷ d)) ≡ paired (head w) (numeralOf d)
 unfolding lineOf
 line-parts head w d f =
-    let place : placeOf 44 (w ++ (44 ∷ d)) ≡ length w = place-behind 44 w d f in
-    let before : beforeComma (w ++ (44 ∷ d)) ≡ w = ap (λ (n : ℕ). take n (w ++ (44 ∷ d))) place ∙ take-append-seam w (44 ∷ d) in
-    let after : afterComma (w ++ (44 ∷ d)) ≡ d =
-    ap (λ (n : ℕ). drop n (w ++ (44 ∷ d))) (ap suc place ∙ sym (add-one (length w))) ∙ drop-append-add w (44 ∷ d) 1 in
-    ap₂ (λ (x y : List ℕ). paired (head x) (numeralOf y)) before after
+    ap₂ (λ (x y : List ℕ). paired (head x) (numeralOf y)) (before-cut w d f) (after-cut w d f)
 
 -- ---- what is printed reads back
 

@@ -1,6 +1,6 @@
 -- What `read` answers at each way out. Assumes nothing.
 use mathlib.Core.Path.{_≡_, refl, sym, ap, ap₂, _∙_}
-use mathlib.Core.Bool.{Bool, true, false, cond, _&&_}
+use mathlib.Core.Bool.{Bool, true, false, cond, _&&_, true≢false}
 use mathlib.Core.List.{List, [], _∷_, map}
 use Prim.Native.Nat.{ℕ, _-_}
 use native.Mathlib.Omega.{arith}
@@ -17,8 +17,8 @@ use Rattle.own_words.specs.OwnWords.{areOwnLines, isWordsText, ownWords,
 use Rattle.own_words.specs.Contracts.{ReadsWords}
 use Rattle.own_words.proofs.Letters.{and-false}
 
-never : {A : Type 0} → false ≡ true → A
-never e = let z : _≡_ {A = ℕ} 0 1 = cc in absurd (omega arith)
+pub never : {A : Type 0} → false ≡ true → A
+never e = absurd (true≢false (sym e))
 
 -- an empty text does not end with byte 10
 pub nothing-closed : (t : List ℕ) → length t ≡ 0 → getD t (length t - 1) 0 ≡ 10 → ⊥

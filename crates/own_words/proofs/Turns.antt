@@ -1,5 +1,5 @@
 -- The lines of a words text read so far, and a turn more. Assumes nothing.
-use mathlib.Core.Path.{_≡_, refl, sym, ap, ap₂, _∙_}
+use mathlib.Core.Path.{_≡_, refl, sym, ap, ap₂, _∙_, subst}
 use mathlib.Core.Bool.{Bool, true, false, _&&_}
 use mathlib.Core.List.{List, [], _∷_, map}
 use Prim.Native.Nat.{ℕ, zero, suc, _+_, _-_, _≤_, _<_}
@@ -35,10 +35,6 @@ drop-next zero (x ∷ xs) y ys e = (cc, cc)
 drop-next (suc k) [] y ys e = let z : _≡_ {A = ℕ} 0 1 = cc in absurd (omega arith)
 drop-next (suc k) (x ∷ xs) y ys e = drop-next k xs y ys e
 
-says-true : (b : Bool) → b ≡ true → T b
-says-true true e = tt
-says-true false e = let z : _≡_ {A = ℕ} 0 1 = cc in absurd (omega arith)
-
 -- ---- a turn
 
 module _ (text : List ℕ) (own : List (List ℕ)) (at kind : ℕ) (so-far : ReadTo text own at kind) (more : kind < length words) where
@@ -73,7 +69,7 @@ module _ (text : List ℕ) (own : List (List ℕ)) (at kind : ℕ) (so-far : Rea
       pub an-own-line : OwnLine kind (wordAt words kind) (take (end - at) (drop at text))
       an-own-line =
           own-line kind (wordAt words kind) (take (end - at) (drop at text))
-          (says-true (isOwnLine kind (wordAt words kind) (take (end - at) (drop at text))) (sym e ∙ yes-line))
+          (subst T (sym yes-line ∙ e) tt)
 
       lines-next : (drop (suc kind) (linesOf text) ≡ linesOf (drop (end + 1) text)) × (getD (linesOf text) kind [] ≡ take (end - at) (drop at text))
       lines-next =
@@ -126,7 +122,7 @@ module _ (text : List ℕ) (own : List (List ℕ)) (at kind : ℕ) (so-far : Rea
 
   pub words-put : length text ≤ at → wordsIn own ≡ map afterComma (linesOf text)
   words-put h =
-      let count = lines-count 0 words (linesOf text) (says-true (areOwnLines 0 words (linesOf text)) (sym (as-many h))) in
+      let count = lines-count 0 words (linesOf text) (subst T (as-many h) tt) in
       ext-getD [] (wordsIn own) (map afterComma (linesOf text)) (words-in-count own ∙ sym count)
       (λ i g. let below : i < length words = omega (arith, g, words-in-count own) in
       word-in-row own i below ∙ so-far .put i (omega (arith, below, all)))

@@ -4,19 +4,19 @@ use mathlib.Core.Bool.{Bool, true, false, cond, _&&_}
 use mathlib.Core.List.{List, [], _∷_, _++_, map}
 use Prim.Native.Nat.{ℕ, suc, _+_, _-_, _≤_, _<_}
 use native.Mathlib.Nat.{zero-add, add-zero, add-suc, suc-add}
-use native.Mathlib.Numerals.{add-one}
 use native.Mathlib.Omega.{arith}
 use borrow.Author.Tests.{eqb-true}
 use lib.Dec.{T, eqb, leb, leb→le, le→leb}
+use lib.Ieee.Bits.{is-true}
 use lib.Ieee.Fits.{and-i, and-l, and-r}
-use lib.ListN.{length, getD, take, drop, length-append}
-use lib.Seq.{take-append-seam, drop-append-add, getD-append-add}
+use lib.ListN.{length, getD, length-append}
+use lib.Seq.{getD-append-add}
 use Rattle.words.specs.Kinds.{word-lit}
 use Rattle.words.specs.Words.{words, sameLetters, wordAt}
 use Rattle.words.specs.Good.{lowerCase, distinct, wellFormed, Good}
 use Rattle.words.specs.Laws.{same-refl, words-count, words-good, word-formed}
-use Rattle.texts.specs.Texts.{linesOf, placeOf, beforeComma, afterComma}
-use Rattle.texts.specs.Laws.{Free, place-behind, lines-line, closed-last}
+use Rattle.texts.specs.Texts.{linesOf, beforeComma, afterComma}
+use Rattle.texts.specs.Laws.{Free, free-append, before-cut, after-cut, lines-line, closed-last}
 use Rattle.refusals.specs.declared.Answer.the-variants.{Told, Refused}
 use Rattle.refusals.specs.declared.Refusal.the-variants.{WordsForm, WordTwice}
 use Rattle.own_words.specs.OwnWords.{mostLetters, isOwnWord, isOwnLine, areOwnLines, isWordsText, ownWords, askWords}
@@ -26,10 +26,6 @@ use Rattle.own_words.specs.Laws.{OwnWord, linesWith, accepted, text-back
 abbrev pub wordsText : List (List ℕ) → List ℕ
 wordsText ws = linesWith words ws
 
-is-true : (b : Bool) → T b → b ≡ true
-is-true true t = refl
-is-true false t = absurd t
-
 -- ---- letters are neither a comma nor byte 10
 
 lower-free : (b : ℕ) (l : List ℕ) → b < 97 → T (lowerCase l) → Free b l
@@ -38,25 +34,17 @@ lower-free b (c ∷ cs) h t =
     let low : 97 ≤ c = leb→le 97 c (and-l (leb 97 c) (leb c 122) (and-l (leb 97 c && leb c 122) (lowerCase cs) t)) in
     ((λ e. omega (arith, e)), lower-free b cs h (and-r (leb 97 c && leb c 122) (lowerCase cs) t))
 
-free-append : (b : ℕ) (l m : List ℕ) → Free b l → Free b m → Free b (l ++ m)
-free-append b [] m f g = g
-free-append b (c ∷ cs) m f g = (f .0, free-append b cs m (f .1) g)
-
 -- ---- a line made of a built-in word and an own word
 
 module _ (h w : List ℕ) (built-in : T (lowerCase h)) (own : T (lowerCase w)) where
   line-free : Free 10 (h ++ (44 ∷ w))
   line-free = free-append 10 h (44 ∷ w) (lower-free 10 h (omega arith) built-in) ((λ e. omega (arith, e)), lower-free 10 w (omega arith) own)
 
-  comma-at : placeOf 44 (h ++ (44 ∷ w)) ≡ length h
-  comma-at = place-behind 44 h w (lower-free 44 h (omega arith) built-in)
-
   line-front : beforeComma (h ++ (44 ∷ w)) ≡ h
-  line-front = ap (λ (n : ℕ). take n (h ++ (44 ∷ w))) comma-at ∙ take-append-seam h (44 ∷ w)
+  line-front = before-cut h w (lower-free 44 h (omega arith) built-in)
 
   line-own : afterComma (h ++ (44 ∷ w)) ≡ w
-  line-own =
-      ap (λ (n : ℕ). drop n (h ++ (44 ∷ w))) (ap suc comma-at ∙ sym (add-one (length h))) ∙ drop-append-add h (44 ∷ w) 1
+  line-own = after-cut h w (lower-free 44 h (omega arith) built-in)
 
 own-word-is : {k : ℕ} {w : List ℕ} → OwnWord k w → T (isOwnWord k w)
 unfolding isOwnWord

@@ -1,4 +1,5 @@
--- Laws of texts as lines: the first line and the rest, a line put in front, the lines put together again. Assumes nothing.
+-- Laws of texts as lines: the first line and the rest, a line put in front, the lines put together again; and of a line as its two fields.
+-- Assumes nothing.
 use mathlib.Core.Path.{_≡_, refl, sym, ap, _∙_, subst}
 use mathlib.Core.Bool.{Bool, true, false}
 use mathlib.Core.List.{List, [], _∷_, _++_}
@@ -10,13 +11,17 @@ use borrow.Author.Tests.{eqb-true, eqb-false, eq-eqb, ne-eqb}
 use lib.Dec.{eqb}
 use lib.ListN.{length, getD, take, drop, drop-of-length-le, length-drop, length-append}
 use native.Mathlib.Numerals.{add-one}
-use lib.Seq.{drop-cons, drop-drop, getD-append-seam}
-use Rattle.texts.specs.Texts.{begin, linesOf, placeOf, firstLine, afterFirst}
+use lib.Seq.{drop-cons, drop-drop, getD-append-seam, take-append-seam, drop-append-add}
+use Rattle.texts.specs.Texts.{begin, linesOf, placeOf, firstLine, afterFirst, beforeComma, afterComma}
 
 -- No byte of the list is b.
 abbrev pub Free : ℕ → List ℕ → Type 0
 Free b [] = Unit {0}
 Free b (c ∷ cs) = (c ≢ b) × Free b cs
+
+pub free-append : (b : ℕ) (l m : List ℕ) → Free b l → Free b m → Free b (l ++ m)
+free-append b [] m f g = g
+free-append b (c ∷ cs) m f g = (f .0, free-append b cs m (f .1) g)
 
 -- ---- the place of a byte
 
@@ -31,6 +36,16 @@ place-later b c cs h = rw (ne-eqb c b h)
 pub place-behind : (b : ℕ) (l t : List ℕ) → Free b l → placeOf b (l ++ (b ∷ t)) ≡ length l
 place-behind b [] t f = place-here b t
 place-behind b (c ∷ cs) t f = place-later b c (cs ++ (b ∷ t)) (f .0) ∙ ap suc (place-behind b cs t (f .1))
+
+-- [1.2] a line put together is cut at its first comma
+module _ (front back : List ℕ) (f : Free 44 front) where
+  pub before-cut : beforeComma (front ++ (44 ∷ back)) ≡ front
+  before-cut = ap (λ (n : ℕ). take n (front ++ (44 ∷ back))) (place-behind 44 front back f) ∙ take-append-seam front (44 ∷ back)
+
+  pub after-cut : afterComma (front ++ (44 ∷ back)) ≡ back
+  after-cut =
+      ap (λ (n : ℕ). drop n (front ++ (44 ∷ back))) (ap suc (place-behind 44 front back f) ∙ sym (add-one (length front)))
+      ∙ drop-append-add front (44 ∷ back) 1
 
 -- by whether a byte is b
 byte-cases : {P : Type 0} (c b : ℕ) → (c ≡ b → P) → (c ≢ b → P) → P

@@ -8,6 +8,7 @@ use native.Mathlib.Omega.{arith}
 use borrow.Author.Tests.{eqb-true}
 use lib.Dec.{T, eqb, leb, ltb, leb→le, ltb→lt, eqb→eq}
 use lib.Ieee.Fits.{and-r}
+use lib.Ieee.Bits.{is-true}
 use lib.IntN.{ℤ, pos, negsuc}
 use lib.ListN.{length}
 use mir.Syntax.{w32}
@@ -89,10 +90,6 @@ opened-few N k n few s fit =
       counters = omega (arith, b .counters-fit);
       regions = omega (arith, b .regions-fit);
     }
-  where
-    is-true : (b : Bool) → T b → b ≡ true
-    is-true true t = refl
-    is-true false t = absurd t
 
 abbrev AllFew : List Due → Type 0
 AllFew [] = Unit {0}

@@ -1,7 +1,6 @@
 -- `put_words` meets its contract. The loop's invariant: the kinds passed have their lines, and these lines' own words are put.
 use mathlib.Core.Path.{_≡_, refl, sym, _∙_}
-use mathlib.Core.Bool.{true, false}
-use Prim.Native.Nat.{ℕ, _-_}
+use Prim.Native.Nat.{_-_}
 use native.Mathlib.Nat.{not-suc-le-zero}
 use native.Mathlib.Omega.{arith}
 use lib.ListN.{length}
@@ -10,12 +9,10 @@ use borrow.Author.Tests.{not-true, not-false}
 use Rattle.words.specs.Laws.{words-count}
 use Rattle.words.specs.Words.{words}
 use Rattle.own_words.specs.Laws.{most-eight}
+use Rattle.own_words.proofs.Answers.{never}
 use Rattle.own_words.proofs.Turns.{ReadTo, too-few, no-own-line, an-own-line, next-turn, too-many, as-many, words-put}
 use Rattle.own_words.proofs.put_words.Statement.{statement}
 use Rattle.own_words.proofs.put_words.Tie as tie
-
-never : {A : Type 0} → false ≡ true → A
-never e = let z : _≡_ {A = ℕ} 0 1 = cc in absurd (omega arith)
 
 abbrev Inv-loop : tie.InvT-loop
 Inv-loop text table built-in own₀ at₀ kind₀ own at kind = ReadTo text own at kind
