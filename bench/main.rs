@@ -1,4 +1,4 @@
-// The run of the static library beside a plain interpreter in Rust, on the loops of five plans of about ten million writes: nanoseconds for
+// The run of the static library beside a plain interpreter in Rust, on the loops of five plans of five to ten million writes: nanoseconds for
 // each write, the least of several turns. Then the check of the longest plan, in the built-in words and in German: microseconds for each check.
 use std::time::Instant;
 

@@ -18,11 +18,11 @@ fn main() {
 // P1 [15.1] and P2.
 fn example_and_groups() {
     translate_card(b"P1", b"P1.plan");
-    run_card(b"P1", b"P1.plan", &mut [4i32, 5, 0, 0, 0], 2, 1);
+    run_card(b"P1", b"P1.plan", &mut [4i32, 5, 0, 0], 2, 1);
     run_card(
         b"P2",
         b"P2.plan",
-        &mut [10i32, 11, 12, 13, 14, 15, 0, 0, 0, 0, 0],
+        &mut [10i32, 11, 12, 13, 14, 15, 0, 0, 0, 0],
         6,
         3,
     );
@@ -45,8 +45,8 @@ fn divisions() {
 // P7 and P8.
 fn exchange_and_store() {
     run_card(b"P7", b"P7.plan", &mut [0i32, 0, 0, 0, 0, 0, 0], 1, 2);
-    run_card(b"P8, store 5", b"P1.plan", &mut [4i32, 5, 0, 0, 0], 2, 1);
     run_card(b"P8, store 4", b"P1.plan", &mut [4i32, 5, 0, 0], 2, 1);
+    run_card(b"P8, store 3", b"P1.plan", &mut [4i32, 5, 0], 2, 1);
 }
 
 // P9 and P10.

@@ -19,7 +19,7 @@ use Rattle.emission.specs.Nodes.{nodeOf}
 use Rattle.emission.specs.Table.{Table, table, putRow, putRows}
 use Rattle.emission.specs.References.{expressionAt, acceptorAt}
 use Rattle.emission.specs.Growth.{Pushed}
-use Rattle.clauses.specs.Clauses.{numberOver, regionRows, mapLoop, mapRows, enteredRows, NodeUsed, VariableUsed, LeafUsed, ReductionPushed, InRound}
+use Rattle.clauses.specs.Clauses.{numberOver, regionRows, mapLoop, mapRows, nextRows, enteredRows, NodeUsed, VariableUsed, LeafUsed, ReductionPushed, ReductionBegun, InRound, ReductionEntered}
 use Rattle.emission.specs.Laws.Readings.{reads-on}
 use Rattle.clauses.specs.Laws.{reduction-grown, total-writes}
 use Rattle.clauses.specs.declared.State.{State}
@@ -95,31 +95,36 @@ pub map-put : (k w n : ℕ) (t : DataType) (o o₁ : Table) → w ≡ mapLoop k 
 map-put k w n t o o₁ e f p = p ∙ ap₂ (λ (i j : ℕ). putRow o (i, pos j)) e f
 
 -- as far as a reduction's body, the start being node v
-pub reduction-put : (Y : List ℕ) (N : List ℤ) (T B : List ℕ) (p a v c r len n : ℕ) → ReductionPushed T B p a c r len
-    → len + 3 ≤ 4096 → p < 65536 → a < len → v < len → c < 65536 → r < 65535 → (o o₁ o₂ o₃ o₄ o₅ : Table)
+pub reduction-put : (Y : List ℕ) (N : List ℤ) (T B : List ℕ) (p a v c r g len n : ℕ) → ReductionPushed T B p a c r g len
+    → len + 3 ≤ 4096 → p < 65536 → a < len → v < len → c < 65536 → r < 65536 → (o o₁ o₂ o₃ o₄ o₅ : Table)
     → o₁ ≡ regionRows (typeAt Y p) o
     → o₂ ≡ putRows (commandRows (assign (typeAt Y p) (expressionAt Y N B v) (acceptorAt Y B len) c (r + 1))) o₁
-    → o₃ ≡ putRow o₂ (word-seq, pos 0) → o₄ ≡ putRow o₃ (word-for, pos n) → o₅ ≡ regionRows (typeAt Y p) o₄
+    → o₃ ≡ putRow o₂ (word-seq, pos 0) → o₄ ≡ putRow o₃ (word-for, pos n) → o₅ ≡ nextRows (typeAt Y p) o₄
     → o₅ ≡ enteredRows (typeAt Y p) n (expressionAt Y N T v) c r o
-reduction-put Y N T B p a v c r len n R hl hp ha hv hc hr o o₁ o₂ o₃ o₄ o₅ e₁ e₂ e₃ e₄ e₅ =
+reduction-put Y N T B p a v c r g len n R hl hp ha hv hc hr o o₁ o₂ o₃ o₄ o₅ e₁ e₂ e₃ e₄ e₅ =
     let t : DataType = typeAt Y p in
-    let ev : expressionAt Y N B v ≡ expressionAt Y N T v = reads-on T B len v hv (reduction-grown T B p a c r len R) Y N in
-    let et : acceptorAt Y B len ≡ Acceptor.region r t = total-writes T B p a c r len R hl (omega arith) hp ha hc hr Y in
+    let ev : expressionAt Y N B v ≡ expressionAt Y N T v = reads-on T B len v hv (reduction-grown T B p a c r g len R) Y N in
+    let et : acceptorAt Y B len ≡ Acceptor.region r t = total-writes T B p a c r g len R hl (omega arith) hp ha hc hr Y in
     let f₂ : o₂ ≡ putRows (commandRows (assign t (expressionAt Y N T v) (Acceptor.region r t) c (r + 1))) (regionRows t o)
     = e₂ ∙ ap₂ (λ (E : Expression) (P : Acceptor). putRows (commandRows (assign t E P c (r + 1))) o₁) ev et
     ∙ ap (putRows (commandRows (assign t (expressionAt Y N T v) (Acceptor.region r t) c (r + 1)))) e₁ in
-    e₅ ∙ ap (regionRows t) (e₄ ∙ ap (λ (u : Table). putRow u (word-for, pos n)) (e₃ ∙ ap (λ (u : Table). putRow u (word-seq, pos 0)) f₂))
+    e₅ ∙ ap (nextRows t) (e₄ ∙ ap (λ (u : Table). putRow u (word-for, pos n)) (e₃ ∙ ap (λ (u : Table). putRow u (word-seq, pos 0)) f₂))
 
--- in the round: the end is the one that was reached
-pub round-here : (s : State) (start : Translated) (to : ℕ) (r : State) → InRound s start to r → InRound s start (r .to) r
-round-here s start to r h = record {
-  counters = h .counters;
-  regions = h .regions;
-  variables = h .variables;
-  count = h .count;
-  len = h .len;
-  end = refl;
-}
+-- in the round: the end is the one that was reached, and the region is the one that was found
+pub entered-here : {T U : List ℕ} {t a g h : ℕ} (s : State) (start : Translated) (to : ℕ) (r : State) → g ≡ h
+    → ReductionBegun T U t a (s .counters) (start .regions) g (start .len) → InRound s start g to r → ReductionEntered T U t a h s start r
+entered-here {T} {U} {t} {a} s start to r e B R =
+    subst (λ (g : ℕ). ReductionEntered T U t a g s start r) e (record {
+      begun = B;
+      round = record {
+        counters = R .counters;
+        regions = R .regions;
+        variables = R .variables;
+        count = R .count;
+        len = R .len;
+        end = refl;
+      };
+    })
 
 pub rows-here : (K : List ℕ) (M : List ℤ) (i j : ℕ) (o : Table) → i ≡ j → table K M j ≡ o → table K M i ≡ o
 rows-here K M i j o e h = ap (table K M) e ∙ h

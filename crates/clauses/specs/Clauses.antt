@@ -10,7 +10,7 @@ use lib.ListN.{getD, set}
 use Rattle.words.specs.Kinds.{word-in, word-var, word-lit, word-mappar, word-zip, word-pair, word-split, word-join}
 use Rattle.words.specs.Kinds.{word-fst, word-snd, word-seq, word-for, word-par, word-new, word-loc, word-ctr}
 use Rattle.words.specs.Groups.{isMap}
-use Rattle.meaning.specs.Types.{DataType, cells, arrayLength, element}
+use Rattle.meaning.specs.Types.{DataType, isNumber, cells, arrayLength, element}
 use Rattle.meaning.specs.Expressions.{Expression, Acceptor}
 use Rattle.meaning.specs.Translation.{assign}
 use Rattle.meaning.specs.Rows.{commandRows}
@@ -62,17 +62,25 @@ regionRows t o = putRow (putRow o (word-new, pos (cells t))) (word-seq, pos 0)
 abbrev pub mapRows : ℕ → DataType → Table → Table
 mapRows k t o = putRow o (mapLoop k, pos (arrayLength t))
 
+-- [6.14] The region that the body of a reduction of type t is written into, the total being region r; and what opens it in a round:
+-- nothing, where it is the total.
+abbrev pub bodyRegion : DataType → ℕ → ℕ
+bodyRegion t r = cond (isNumber t) r (r + 1)
+
+abbrev pub nextRows : DataType → Table → Table
+nextRows t o = cond (isNumber t) o (regionRows t o)
+
 -- [6.14], [6.16] A reduction of type t and n rounds as far as its body, in round c, the total being region r: the start Z is assigned.
 abbrev pub enteredRows : DataType → ℕ → Expression → ℕ → ℕ → Table → Table
 enteredRows t n Z c r o =
-    regionRows t
+    nextRows t
     (putRow
     (putRow (putRows (commandRows (assign t Z (Acceptor.region r t) c (r + 1))) (regionRows t o)) (word-seq, pos 0))
     (word-for, pos n))
 
--- [6.14] Behind its body, the next total E is assigned to the total P.
+-- [6.14] Behind its body, next, which is read as E, is assigned to the total P; a number stands there already.
 abbrev pub leftRows : DataType → Expression → Acceptor → ℕ → ℕ → Table → Table
-leftRows t E P c r o = putRows (commandRows (assign t E P (c + 1) (r + 2))) o
+leftRows t E P c r o = cond (isNumber t) o (putRows (commandRows (assign t E P (c + 1) (r + 2))) o)
 
 -- ---- uses
 
@@ -173,32 +181,32 @@ pub record MapEntered (T U : List ℕ) (P : ℕ) (s : State) (used : Translated)
   pub count : r .count ≡ s .count + 1
   pub len : r .len ≡ used .len + 2
 
--- [6.14] The total, region r of the type at place t; the element of node a at counter c; the next total
-pub record ReductionPushed (T U : List ℕ) (t a c r len : ℕ) : Type 0 where
+-- [6.14] The total, region r of the type at place t; the element of node a at counter c; the region g that the body is written into
+pub record ReductionPushed (T U : List ℕ) (t a c r g len : ℕ) : Type 0 where
   pub one : List ℕ
   pub two : List ℕ
   pub total : Pushed T one len (nodeOf word-loc t r 0 0)
   pub elements : Pushed one two (len + 1) (nodeOf word-ctr 0 c a 0)
-  pub next : Pushed two U (len + 2) (nodeOf word-loc t (r + 1) 0 0)
+  pub target : Pushed two U (len + 2) (nodeOf word-loc t g 0 0)
 
 -- then the start is assigned to the total
-pub record ReductionBegun (T U : List ℕ) (t a c r len : ℕ) : Type 0 where
+pub record ReductionBegun (T U : List ℕ) (t a c r g len : ℕ) : Type 0 where
   pub between : List ℕ
-  pub nodes : ReductionPushed T between t a c r len
+  pub nodes : ReductionPushed T between t a c r g len
   pub grown : Grown between U (len + 3)
 
--- [3.10] In the round of a reduction: the body's variables are the total, innermost, and the element.
-pub record InRound (s : State) (start : Translated) (to : ℕ) (r : State) : Type 0 where
+-- [3.10] In the round of a reduction: the body's variables are the total, innermost, and the element; the innermost region is g.
+pub record InRound (s : State) (start : Translated) (g to : ℕ) (r : State) : Type 0 where
   pub counters : r .counters ≡ s .counters + 1
-  pub regions : r .regions ≡ start .regions + 2
+  pub regions : r .regions ≡ g + 1
   pub variables : r .variables ≡ set (set (s .variables) (s .count) (start .len + 1)) (s .count + 1) (start .len)
   pub count : r .count ≡ s .count + 2
   pub len : r .len ≡ start .len + 3
   pub end : r .to ≡ to
 
-pub record ReductionEntered (T U : List ℕ) (t a : ℕ) (s : State) (start : Translated) (r : State) : Type 0 where
-  pub begun : ReductionBegun T U t a (s .counters) (start .regions) (start .len)
-  pub round : InRound s start (r .to) r
+pub record ReductionEntered (T U : List ℕ) (t a g : ℕ) (s : State) (start : Translated) (r : State) : Type 0 where
+  pub begun : ReductionBegun T U t a (s .counters) (start .regions) g (start .len)
+  pub round : InRound s start g (r .to) r
 
 -- [6.14] What is used of it is the total, region n; m rows stand before its body.
 pub record ReductionLeft (T U : List ℕ) (total n m : ℕ) (body r : Translated) : Type 0 where

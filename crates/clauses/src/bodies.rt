@@ -2,10 +2,12 @@
 ghost use mathlib.Core.Path.{_≡_};
 ghost use Prim.Native.Nat.{_+_, _≤_, _<_};
 ghost use lib.ListN.{length};
+ghost use Rattle.meaning.specs.Types.{isNumber};
 ghost use Rattle.type_table.specs.Table.{typeAt, Sound};
 ghost use Rattle.emission.specs.Table.{table};
 ghost use Rattle.emission.specs.References.{expressionAt, acceptorAt};
-ghost use Rattle.clauses.specs.Clauses.{mapLoop, mapRows, enteredRows, leftRows, MapEntered, ReductionPushed, ReductionBegun, InRound, ReductionEntered, ReductionLeft};
+ghost use Rattle.emission.specs.Growth.{Grown};
+ghost use Rattle.clauses.specs.Clauses.{mapLoop, mapRows, bodyRegion, nextRows, enteredRows, leftRows, MapEntered, ReductionPushed, ReductionBegun, InRound, ReductionEntered, ReductionLeft};
 use crate::State;
 use crate::Translated;
 use crate::array_length;
@@ -82,25 +84,64 @@ pub fn enter_map(
     }
 }
 
-// [6.14] The nodes of a reduction: its total, the element of the array at a counter, and the next total.
+// [6.14] Whether the total of a reduction, whose type is at a place, is a number: its body is then written into the total itself. Any other
+// body may still read the total as it writes ([14.5]).
+fn total_is_number(types: &[u64], place: usize) -> bool
+    requires { ⌜ Sound (now types) (length (now types)) × (place < length (now types)) ⌝ }
+    ensures { λ r. ⌜ r ≡ isNumber (typeAt (now (types .entry)) place) ⌝ }
+{
+    type_table::is_number(types, place)
+}
+
+// [6.14] The region that its body is written into, where so many are in force before: the total, or next.
+fn body_region(types: &[u64], place: usize, regions: u16) -> u16
+    requires { ⌜ Sound (now types) (length (now types)) × (place < length (now types)) × (regions < 65535) ⌝ }
+    ensures { λ r. ⌜ r ≡ bodyRegion (typeAt (now (types .entry)) place) regions ⌝ }
+{
+    if total_is_number(types, place) {
+        return regions;
+    }
+    regions + 1
+}
+
+// [6.14] The nodes of a reduction: its total, the element of the array at a counter, and the region that its body is written into.
 fn push_reduction(
     references: &mut [u64; 4096],
     place: usize,
     array: usize,
     counters: u16,
     regions: u16,
+    region: u16,
     len: usize,
 )
-    requires { ⌜ (place < 65536) × (array < len) × (len + 3 ≤ 4096) × (regions < 65535) × (length (now references) ≡ 4096) ⌝ }
-    ensures { λ _. ⌜ ReductionPushed (now (references .entry)) (now (references .exit)) place array counters regions len ⌝ }
+    requires { ⌜ (place < 65536) × (array < len) × (len + 3 ≤ 4096) × (length (now references) ≡ 4096) ⌝ }
+    ensures { λ _. ⌜ ReductionPushed (now (references .entry)) (now (references .exit)) place array counters regions region len ⌝ }
 {
     push_stored(references, len, WORD_LOC, regions, place);
     push(references, len + 1, WORD_CTR, counters, array, 0);
-    push_stored(references, len + 2, WORD_LOC, regions + 1, place);
+    push_stored(references, len + 2, WORD_LOC, region, place);
+}
+
+// [6.14] The rows that open next, of the type at a place, in a round: none for a number.
+fn put_next_region(
+    types: &[u64],
+    outkinds: &mut [u8; 4096],
+    outnumbers: &mut [i32; 4096],
+    place: usize,
+    to: usize,
+) -> usize
+    requires { ⌜ Sound (now types) (length (now types)) × (place < length (now types)) ⌝ }
+    ensures { λ r. ⌜ table (now (outkinds .exit)) (now (outnumbers .exit)) r
+        ≡ nextRows (typeAt (now (types .entry)) place) (table (now (outkinds .entry)) (now (outnumbers .entry)) to) ⌝ }
+{
+    if total_is_number(types, place) {
+        return to;
+    }
+    put_region(types, outkinds, outnumbers, place, to)
 }
 
 // [6.14] The nodes of a reduction whose type is at a place, and its rows as far as its body: the start, which was used, is assigned
-// to the total; then come so many rounds over what node `array` reads.
+// to the total; then come so many rounds over what node `array` reads, whose body is written into `region`.
 fn begin_reduction(
     types: &[u64],
     plan: &[i32],
@@ -111,19 +152,28 @@ fn begin_reduction(
     rounds: u16,
     array: usize,
     counters: u16,
+    region: u16,
     start: Translated,
 ) -> usize
     requires { ⌜ Sound (now types) (length (now types)) × (place < length (now types)) × (array < start .len) × (start .value < start .len) × (start .len + 19 ≤ 4096)
         × (counters + 8 < 65536) × (start .regions + 2 < 65536) × (length (now references) ≡ 4096) ⌝ }
-    ensures made { λ _. ⌜ ReductionBegun (now (references .entry)) (now (references .exit)) place array counters (start .regions) (start .len) ⌝ }
+    ensures made { λ _. ⌜ ReductionBegun (now (references .entry)) (now (references .exit)) place array counters (start .regions) region (start .len) ⌝ }
     ensures rows { λ r. ⌜ table (now (outkinds .exit)) (now (outnumbers .exit)) r
         ≡ enteredRows (typeAt (now (types .entry)) place) rounds (expressionAt (now (types .entry))
         (now (plan .entry)) (now (references .entry)) (start .value)) counters (start .regions) (table
         (now (outkinds .entry)) (now (outnumbers .entry)) (start .to)) ⌝ }
 {
-    push_reduction(references, place, array, counters, start.regions, start.len);
+    push_reduction(
+        references,
+        place,
+        array,
+        counters,
+        start.regions,
+        region,
+        start.len,
+    );
     let opened = put_region(types, outkinds, outnumbers, place, start.to);
-    let begun = put_assign(
+    let assigned = put_assign(
         types,
         plan,
         references,
@@ -137,15 +187,16 @@ fn begin_reduction(
         start.len + 3,
         opened,
     );
-    let next = put_count(outkinds, outnumbers, begun, WORD_SEQ, 0);
-    let round = put_count(outkinds, outnumbers, next, WORD_FOR, rounds);
-    put_region(types, outkinds, outnumbers, place, round)
+    let begun = put_count(outkinds, outnumbers, assigned, WORD_SEQ, 0);
+    let round = put_count(outkinds, outnumbers, begun, WORD_FOR, rounds);
+    put_next_region(types, outkinds, outnumbers, place, round)
 }
 
-// [3.10], [14.8] In its round: the body's variables are the total, innermost, and the element.
-fn in_round(state: State, start: Translated, to: usize) -> State
-    requires { ⌜ (start .len + 3 ≤ 4096) × (state .counters + 1 < 65536) × (start .regions + 2 < 65536) × (state .count + 1 < 16) × (length (state .variables) ≡ 16) ⌝ }
-    ensures { λ r. ⌜ InRound state start to r ⌝ }
+// [3.10], [14.8] In its round, whose body is written into `region`, the innermost: the body's variables are the total, innermost, and the
+// element.
+fn in_round(state: State, start: Translated, region: u16, to: usize) -> State
+    requires { ⌜ (start .len + 3 ≤ 4096) × (state .counters + 1 < 65536) × (region + 1 < 65536) × (state .count + 1 < 16) × (length (state .variables) ≡ 16) ⌝ }
+    ensures { λ r. ⌜ InRound state start region to r ⌝ }
 {
     let count = state.count;
     let len = start.len;
@@ -154,7 +205,7 @@ fn in_round(state: State, start: Translated, to: usize) -> State
     variables[count + 1] = len as u16;
     State {
         counters: state.counters + 1,
-        regions: start.regions + 2,
+        regions: region + 1,
         variables,
         count: count + 2,
         len: len + 3,
@@ -162,7 +213,7 @@ fn in_round(state: State, start: Translated, to: usize) -> State
     }
 }
 
-// [6.14] Into the loop of a reduction: both. The body is written apart, into the next total, since it still reads the total ([14.5]).
+// [6.14] Into the loop of a reduction: both. Node `start.len + 2` is where the body is written.
 pub fn enter_reduction(
     types: &[u64],
     plan: &[i32],
@@ -177,12 +228,14 @@ pub fn enter_reduction(
 ) -> State
     requires { ⌜ Sound (now types) (length (now types)) × (place < length (now types)) × (array < start .len) × (start .value < start .len) × (start .len + 19 ≤ 4096)
         × (state .counters + 8 < 65536) × (start .regions + 2 < 65536) × (state .count + 1 < 16) × (length (state .variables) ≡ 16) × (length (now references) ≡ 4096) ⌝ }
-    ensures made { λ r. ⌜ ReductionEntered (now (references .entry)) (now (references .exit)) place array state start r ⌝ }
+    ensures made { λ r. ⌜ ReductionEntered (now (references .entry)) (now (references .exit)) place array
+        (bodyRegion (typeAt (now (types .entry)) place) (start .regions)) state start r ⌝ }
     ensures rows { λ r. ⌜ table (now (outkinds .exit)) (now (outnumbers .exit)) (r .to)
         ≡ enteredRows (typeAt (now (types .entry)) place) rounds (expressionAt (now (types .entry))
         (now (plan .entry)) (now (references .entry)) (start .value)) (state .counters) (start .regions) (table
         (now (outkinds .entry)) (now (outnumbers .entry)) (start .to)) ⌝ }
 {
+    let region = body_region(types, place, start.regions);
     let to = begin_reduction(
         types,
         plan,
@@ -193,12 +246,55 @@ pub fn enter_reduction(
         rounds,
         array,
         state.counters,
+        region,
         start,
     );
-    in_round(state, start, to)
+    in_round(state, start, region, to)
 }
 
-// [6.14] Out of it: the next total is assigned to the total, node `total`, which is what is read of the reduction.
+// [6.14] The rows by which next, node `total + 2`, is assigned to the total, node `total`: none for a number. Nodes from `len` on are
+// free.
+fn put_next_assign(
+    types: &[u64],
+    plan: &[i32],
+    references: &mut [u64; 4096],
+    outkinds: &mut [u8; 4096],
+    outnumbers: &mut [i32; 4096],
+    place: usize,
+    total: usize,
+    counters: u16,
+    regions: u16,
+    len: usize,
+    to: usize,
+) -> usize
+    requires { ⌜ Sound (now types) (length (now types)) × (place < length (now types)) × (total + 2 < len) × (len + 16 ≤ 4096)
+        × (counters + 9 < 65536) × (regions + 2 < 65536) × (length (now references) ≡ 4096) ⌝ }
+    ensures rows { λ r. ⌜ table (now (outkinds .exit)) (now (outnumbers .exit)) r
+        ≡ leftRows (typeAt (now (types .entry)) place) (expressionAt (now (types .entry)) (now (plan .entry))
+        (now (references .entry)) (total + 2)) (acceptorAt (now (types .entry)) (now (references .entry)) total)
+        counters regions (table (now (outkinds .entry)) (now (outnumbers .entry)) to) ⌝ }
+    ensures grown { λ _. ⌜ Grown (now (references .entry)) (now (references .exit)) len ⌝ }
+{
+    if total_is_number(types, place) {
+        return to;
+    }
+    put_assign(
+        types,
+        plan,
+        references,
+        outkinds,
+        outnumbers,
+        place,
+        total + 2,
+        total,
+        counters + 1,
+        regions + 2,
+        len,
+        to,
+    )
+}
+
+// [6.14] Out of it: the total, node `total`, is what is read of the reduction.
 pub fn leave_reduction(
     types: &[u64],
     plan: &[i32],
@@ -220,17 +316,16 @@ pub fn leave_reduction(
         (now (references .entry)) (total + 2)) (acceptorAt (now (types .entry)) (now (references .entry)) total)
         counters regions (table (now (outkinds .entry)) (now (outnumbers .entry)) (body .to)) ⌝ }
 {
-    let to = put_assign(
+    let to = put_next_assign(
         types,
         plan,
         references,
         outkinds,
         outnumbers,
         place,
-        total + 2,
         total,
-        counters + 1,
-        regions + 2,
+        counters,
+        regions,
         body.len,
         body.to,
     );

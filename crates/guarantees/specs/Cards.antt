@@ -129,8 +129,8 @@ example = "plan,1 arr,2 num,0 redseq,0 lit,0 in,0 add,0 var,0 var,1"
 
 abbrev exampleLoops : String
 exampleLoops =
-    append "loops,1 cells,2 cells,1 new,1 seq,0 set,0 loc,0 lit,0 lit,0 seq,0 for,2 new,1 seq,0 set,0 loc,0 lit,0 add,0 loc,1 lit,0 "
-    "in,0 times,1 ctr,0 set,0 loc,1 lit,0 loc,0 lit,0 set,0 out,0 lit,0 loc,0 lit,0"
+    append "loops,1 cells,2 cells,1 new,1 seq,0 set,0 loc,0 lit,0 lit,0 seq,0 for,2 set,0 loc,0 lit,0 add,0 loc,0 lit,0 in,0 "
+    "times,1 ctr,0 set,0 out,0 lit,0 loc,0 lit,0"
 
 abbrev groups : String
 groups = "plan,1 arr,6 num,0 mappar,0 split,2 in,0 redseq,0 lit,0 var,0 add,0 var,0 var,1"
@@ -140,12 +140,12 @@ exchange = "plan,1 arr,1 num,0 redseq,0 pair,0 lit,1 lit,2 in,0 pair,0 snd,0 var
 
 abbrev pub cards : List Card
 cards =
-    -- [15.1] 32 lines, 6 writes and a need of 5 cells; and of 4 and 5 comes 9
-    ("P1", translated example, made (text exampleLoops) 32 6 5)
-    ∷ eachOrder "P1" example (numbers (4 ∷ 5 ∷ 0 ∷ 0 ∷ 0 ∷ [])) (finished 6 (numbers (9 ∷ [])))
+    -- [15.1] 25 lines, 4 writes and a need of 4 cells; and of 4 and 5 comes 9
+    ("P1", translated example, made (text exampleLoops) 25 4 4)
+    ∷ eachOrder "P1" example (numbers (4 ∷ 5 ∷ 0 ∷ 0 ∷ [])) (finished 4 (numbers (9 ∷ [])))
     -- [15.2] P2 to P10
-    ++ eachOrder "P2" groups (numbers (10 ∷ 11 ∷ 12 ∷ 13 ∷ 14 ∷ 15 ∷ 0 ∷ 0 ∷ 0 ∷ 0 ∷ 0 ∷ []))
-    (finished 18 (numbers (21 ∷ 25 ∷ 29 ∷ [])))
+    ++ eachOrder "P2" groups (numbers (10 ∷ 11 ∷ 12 ∷ 13 ∷ 14 ∷ 15 ∷ 0 ∷ 0 ∷ 0 ∷ 0 ∷ []))
+    (finished 12 (numbers (21 ∷ 25 ∷ 29 ∷ [])))
     ++ ("P3", checked "plan,1 arr,7 num,0 split,3 in,0", refused 7 4)
     ∷ ("P4", checked "plan,1 arr,2 num,0 idx,1 in,0", passes)
     ∷ ("P4", checked "plan,1 arr,2 num,0 idx,2 in,0", refused 7 4)
@@ -154,8 +154,8 @@ cards =
     ++ eachOrder "P5" "plan,0 div,0 lit,7 lit,0" (numbers (0 ∷ [])) (finished 1 (numbers (0 ∷ [])))
     ++ eachOrder "P6" "plan,0 div,0 lit,-2147483648 lit,-1" (numbers (0 ∷ [])) (finished 1 (numbers (2147483647 ∷ [])))
     ++ eachOrder "P7" exchange (numbers (0 ∷ 0 ∷ 0 ∷ 0 ∷ 0 ∷ 0 ∷ 0 ∷ [])) (finished 8 (numbers (2 ∷ 1 ∷ [])))
-    ++ eachOrder "P8" example (numbers (4 ∷ 5 ∷ 1 ∷ 2 ∷ 3 ∷ [])) (finished 6 (numbers (9 ∷ [])))
-    ++ eachOrder "P8" example (numbers (4 ∷ 5 ∷ 0 ∷ 0 ∷ [])) (refused 14 0)
+    ++ eachOrder "P8" example (numbers (4 ∷ 5 ∷ 1 ∷ 2 ∷ [])) (finished 4 (numbers (9 ∷ [])))
+    ++ eachOrder "P8" example (numbers (4 ∷ 5 ∷ 0 ∷ [])) (refused 14 0)
     ++ ("P9", checked "plan,1 arr,64 arr,64 num,0 in,0", passes)
     ∷ ("P9", checked "plan,1 arr,65 arr,64 num,0 in,0", refused 8 2)
     ∷ ("P10", checked "plan,0 lit,-0", refused 2 2)

@@ -68,15 +68,15 @@ unfolding _prints_ lined _⌢_ words table textOf written decimal digits lastDig
 p1-plan = refl
 
 p1-loops : loopsRows (translation P1)
-    prints "loops,1 cells,2 cells,1 new,1 seq,0 set,0 loc,0 lit,0 lit,0 seq,0 for,2 new,1 seq,0 set,0 loc,0 lit,0"
-    ⌢ "add,0 loc,1 lit,0 in,0 times,1 ctr,0 set,0 loc,1 lit,0 loc,0 lit,0 set,0 out,0 lit,0 loc,0 lit,0"
+    prints "loops,1 cells,2 cells,1 new,1 seq,0 set,0 loc,0 lit,0 lit,0 seq,0 for,2 set,0 loc,0 lit,0 add,0 loc,0 lit,0"
+    ⌢ "in,0 times,1 ctr,0 set,0 out,0 lit,0 loc,0 lit,0"
 unfolding _prints_ lined _⌢_ words table textOf written decimal digits lastDigits
     loopsRows allCellsRows commandRows placeRows valueRows offsetRows
     translation writeTerm useTerm writeMap useReduce assign useWritten
 p1-loops = refl
 
 -- [15.1] its lines, writes and need
-p1-counts : (length (loopsRows (translation P1)) ≡ 32) × (planWrites P1 ≡ 6) × (need (translation P1) ≡ 5)
+p1-counts : (length (loopsRows (translation P1)) ≡ 25) × (planWrites P1 ≡ 4) × (need (translation P1) ≡ 4)
 unfolding need room loopsRows allCellsRows commandRows placeRows valueRows offsetRows
     translation writeTerm useTerm writeMap useReduce assign useWritten
 p1-counts = (refl, refl, refl)
@@ -86,8 +86,8 @@ unfolding value operate sum clamp
 p1-value = refl
 
 p1-run : runLoops clamped32 (translation P1) (always forward (translation P1 .command))
-    (numbers (4 ∷ 5 ∷ 0 ∷ 0 ∷ 0 ∷ []))
-    ≡ record { store = numbers (4 ∷ 5 ∷ 9 ∷ 9 ∷ 9 ∷ []); writes = 6 }
+    (numbers (4 ∷ 5 ∷ 0 ∷ 0 ∷ []))
+    ≡ record { store = numbers (4 ∷ 5 ∷ 9 ∷ 9 ∷ []); writes = 4 }
 unfolding runLoops run always forward operate sum clamp room firstRoom secondRoom roundRoom regionRoom bodyRoom
     translation writeTerm useTerm writeMap useReduce assign useWritten
 p1-run = refl
@@ -259,9 +259,16 @@ clauses =
           (Term.reduce (Term.reduce (Term.literal (pos 3)) (Term.input 0) (Term.variable 0))
           (Term.map LoopKind.parallel (Term.input 0) (Term.literal (pos 6))) (Term.variable 0)),
       "new,1 seq,0 par,1 set,0 loc,0 times,1 ctr,0 lit,6 new,1 seq,0 set,0 loc,0 lit,0 lit,3 seq,0"
-          ⌢ "for,1 new,1 seq,0 set,0 loc,0 lit,0 loc,1 lit,0 set,0 loc,1 lit,0 loc,0 lit,0 new,1 seq,0 set,0"
-          ⌢ "loc,0 lit,0 loc,1 lit,0 seq,0 for,1 new,1 seq,0 set,0 loc,0 lit,0 loc,1 lit,0 set,0 loc,1 lit,0"
-          ⌢ "loc,0 lit,0 set,0 out,0 lit,0 loc,0 lit,0",
+          ⌢ "for,1 set,0 loc,0 lit,0 loc,0 lit,0 new,1 seq,0 set,0 loc,0 lit,0 loc,1 lit,0 seq,0 for,1 set,0"
+          ⌢ "loc,0 lit,0 loc,0 lit,0 set,0 out,0 lit,0 loc,0 lit,0",
+    )
+    -- [6.14] the body of a number total may open regions, the total being one further out
+    ∷ (
+      plan (array 1 number ∷ [])
+          (Term.reduce (Term.literal (pos 0)) (Term.input 0)
+          (Term.index 0 (Term.map LoopKind.parallel (Term.input 0) (Term.variable 1)))),
+      "new,1 seq,0 set,0 loc,0 lit,0 lit,0 seq,0 for,1 new,1 seq,0 par,1 set,0 loc,0 times,1 ctr,0 loc,1 lit,0"
+          ⌢ "set,0 loc,1 lit,0 loc,0 times,1 lit,0 set,0 out,0 lit,0 loc,0 lit,0",
     )
     -- [6.13] a map used: its `new` first, the array's own regions inside
     ∷ (
@@ -306,7 +313,13 @@ clauses =
           (Term.map LoopKind.sequential (Term.join (Term.input 0)) (Term.negate (Term.variable 0))),
       "for,6 set,0 out,0 times,1 ctr,0 neg,0 in,0 plus,0 times,2 over,2 ctr,0 times,1 rest,2 ctr,0",
     )
-    -- [6.14] an array total
+    -- [6.14] array totals, one of a single number too: by next
+    ∷ (
+      plan (array 1 number ∷ []) (Term.reduce (Term.input 0) (Term.input 0) (Term.variable 0)),
+      "new,1 seq,0 par,1 set,0 loc,0 times,1 ctr,0 in,0 times,1 ctr,0 seq,0 for,1 new,1 seq,0 par,1 set,0"
+          ⌢ "loc,0 times,1 ctr,0 loc,1 times,1 ctr,0 par,1 set,0 loc,1 times,1 ctr,0 loc,0 times,1 ctr,0"
+          ⌢ "par,1 set,0 out,0 times,1 ctr,0 loc,0 times,1 ctr,0",
+    )
     ∷ (
       plan (array 2 (array 3 number) ∷ [])
           (Term.reduce (Term.index 0 (Term.input 0)) (Term.input 0) (Term.variable 1)),

@@ -1,8 +1,9 @@
 -- The writes counted, from the rows of loops and from a plan: [7.1] to [7.3]. Definitions only; assumes nothing.
+use mathlib.Core.Bool.{cond}
 use mathlib.Core.List.{List, [], _∷_}
 use Prim.Native.Nat.{ℕ, _+_, _*_}
 use lib.ListN.{getD}
-use Rattle.meaning.specs.Types.{DataType, cells, arrayLength, element, firstType, secondType, number}
+use Rattle.meaning.specs.Types.{DataType, isNumber, cells, arrayLength, element, firstType, secondType, number}
 use Rattle.meaning.specs.Terms.{Term, Plan}
 use Rattle.meaning.specs.Typing.{typeOf}
 use Rattle.meaning.specs.Loops.{Command, seq, loop, new}
@@ -18,9 +19,13 @@ commandWrites (new c b) = commandWrites b
 abbrev pub mapWrites : ℕ → ℕ → ℕ → ℕ
 mapWrites ua n wb = ua + n * wb
 
--- [7.2] `redseq`, u: uz is u of the start, and t the total's cells.
-abbrev pub reduceWrites : ℕ → ℕ → ℕ → ℕ → ℕ → ℕ
-reduceWrites ua uz t n wb = ua + uz + t + n * (wb + t)
+-- [7.2] One round of a `redseq`: wb is w of the body, z the total's type. Any total but a number is assigned too.
+abbrev pub roundWrites : DataType → ℕ → ℕ
+roundWrites z wb = cond (isNumber z) wb (wb + cells z)
+
+-- [7.2] `redseq`, u: uz is u of the start.
+abbrev pub reduceWrites : ℕ → ℕ → DataType → ℕ → ℕ → ℕ
+reduceWrites ua uz z n wb = ua + uz + cells z + n * roundWrites z wb
 
 -- [7.2] What a term costs: w where it is written, u where it is used. Above each clause stands its line of the table there.
 abbrev mutual
@@ -39,7 +44,7 @@ abbrev mutual
       mapWrites (writesOnUse I Γ a) (arrayLength (typeOf I Γ a)) (writesInto I (element (typeOf I Γ a) ∷ Γ) b)
   -- [7.2] `redseq`
   writesInto I Γ (Term.reduce z a b) =
-      reduceWrites (writesOnUse I Γ a) (writesOnUse I Γ z) (cells (typeOf I Γ z)) (arrayLength (typeOf I Γ a))
+      reduceWrites (writesOnUse I Γ a) (writesOnUse I Γ z) (typeOf I Γ z) (arrayLength (typeOf I Γ a))
       (writesInto I (typeOf I Γ z ∷ element (typeOf I Γ a) ∷ Γ) b)
       + cells (typeOf I Γ z)
   -- [7.2] `zip`, `pair`
@@ -67,7 +72,7 @@ abbrev mutual
       mapWrites (writesOnUse I Γ a) (arrayLength (typeOf I Γ a)) (writesInto I (element (typeOf I Γ a) ∷ Γ) b)
   -- [7.2] `redseq`
   writesOnUse I Γ (Term.reduce z a b) =
-      reduceWrites (writesOnUse I Γ a) (writesOnUse I Γ z) (cells (typeOf I Γ z)) (arrayLength (typeOf I Γ a))
+      reduceWrites (writesOnUse I Γ a) (writesOnUse I Γ z) (typeOf I Γ z) (arrayLength (typeOf I Γ a))
       (writesInto I (typeOf I Γ z ∷ element (typeOf I Γ a) ∷ Γ) b)
   -- [7.2] `zip`, `pair`
   writesOnUse I Γ (Term.zip a b) = writesOnUse I Γ a + writesOnUse I Γ b

@@ -1,11 +1,12 @@
 -- The translation: [6.1] to [6.16]; sections 4.1 and 4.2 and Figure 4 of the paper. Definitions only; assumes nothing.
 -- [6.2] Two tasks call each other: `writeTerm` writes a term into a place P, `useTerm` uses it in a command C. Both are given the
 -- inputs' types I, the variables' types Γ and expressions Δ (innermost first), and how many counters c and regions r are in force.
+use mathlib.Core.Bool.{cond}
 use mathlib.Core.List.{List, [], _∷_, map}
 use Prim.Native.Nat.{ℕ, suc}
 use lib.ListN.{getD}
 use lib.IntN.{ℤ}
-use Rattle.meaning.specs.Types.{DataType, cells, arrayLength, element, firstType, secondType, number, array}
+use Rattle.meaning.specs.Types.{DataType, isNumber, cells, arrayLength, element, firstType, secondType, number, array}
 use Rattle.meaning.specs.Terms.{LoopKind, Term, Plan}
 use Rattle.meaning.specs.Typing.{typeOf}
 use Rattle.meaning.specs.Loops.{Offset, Command, Loops, seq, loop, new}
@@ -38,17 +39,26 @@ writeMap kind t useArray writeBody Γ Δ c r P =
     (writeBody (element t ∷ Γ) (Expression.index A (Offset.counter c) ∷ Δ) (suc c) r′
     (Acceptor.index P (Offset.counter c))))
 
--- [6.14] One round, the total being a region of type z and A the array of type t: a `new` next, the body written into it, and next
--- assigned to the total. [14.5] A trap of the paper: the body must not write the total, which it still reads.
-abbrev pub reduceRound : DataType → DataType → Write → List DataType → List Expression → ℕ → ℕ → Expression → Command
-reduceRound t z writeBody Γ Δ c total A =
+-- [6.14] In a round, the total being a region of type z and A an array of elements of type e: the body is written into region `target`, the
+-- innermost.
+abbrev pub bodyInto : DataType → DataType → Write → List DataType → List Expression → ℕ → ℕ → Expression → ℕ → Command
+bodyInto e z writeBody Γ Δ c total A target =
+    writeBody (z ∷ e ∷ Γ) (Expression.region total z ∷ Expression.index A (Offset.counter c) ∷ Δ) (suc c) (suc target)
+    (Acceptor.region target z)
+
+-- [6.14] A round by next: a `new` next, the body written into it, and next assigned to the total.
+abbrev pub roundByNext : DataType → DataType → Write → List DataType → List Expression → ℕ → ℕ → Expression → Command
+roundByNext e z writeBody Γ Δ c total A =
     let next : ℕ = suc total in
-    let r : ℕ = suc (suc total) in
     new (cells z)
-    (seq
-    (writeBody (z ∷ element t ∷ Γ) (Expression.region total z ∷ Expression.index A (Offset.counter c) ∷ Δ) (suc c) r
-    (Acceptor.region next z))
-    (assign z (Expression.region next z) (Acceptor.region total z) (suc c) r))
+    (seq (bodyInto e z writeBody Γ Δ c total A next)
+    (assign z (Expression.region next z) (Acceptor.region total z) (suc c) (suc next)))
+
+-- [6.14] One round. A number is written into the total itself: the one `set` into it is the last, and works its value out before it
+-- writes. [14.5] A trap of the paper: an array or a pair must not be, since its body may still read the total.
+abbrev pub reduceRound : DataType → DataType → Write → List DataType → List Expression → ℕ → ℕ → Expression → Command
+reduceRound e z writeBody Γ Δ c total A =
+    cond (isNumber z) (bodyInto e z writeBody Γ Δ c total A total) (roundByNext e z writeBody Γ Δ c total A)
 
 -- [6.14] The array is used first, the start second. In a `new` total: the start is assigned to it, the rounds are done, C reads it.
 -- [6.16] Three commands are a `seq` of the first with a `seq` of the other two. [14.6] A trap of the paper, which exchanges the two:
@@ -59,7 +69,7 @@ useReduce t z useArray useStart writeBody Γ Δ c r C =
     useStart Γ Δ c r′ (λ Z total.
     new (cells z)
     (seq (assign z Z (Acceptor.region total z) c (suc total))
-    (seq (loop LoopKind.sequential (arrayLength t) (reduceRound t z writeBody Γ Δ c total A))
+    (seq (loop LoopKind.sequential (arrayLength t) (reduceRound (element t) z writeBody Γ Δ c total A))
     (C (Expression.region total z) (suc total))))))
 
 -- [6.13] A `new` of the type's cells; the map is written into it, and then C reads it.

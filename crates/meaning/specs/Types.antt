@@ -1,5 +1,6 @@
 -- Types of plans, their cells and levels: [3.1] to [3.3], [3.5]. The paper calls them data types. Definitions only; assumes
 -- nothing.
+use mathlib.Core.Bool.{Bool, true, false}
 use Prim.Native.Nat.{ℕ, suc, _+_, _*_, max}
 
 -- [3.1] A number, an array of some length, or a pair. [3.5] Types that are built differently are different.
@@ -7,6 +8,12 @@ pub data DataType : Type 0 where
   number : DataType
   array : ℕ → DataType → DataType
   pair : DataType → DataType → DataType
+
+-- Whether it is a number, and neither an array, be it of one element, nor a pair.
+abbrev pub isNumber : DataType → Bool
+isNumber number = true
+isNumber (array n t) = false
+isNumber (DataType.pair s t) = false
 
 -- [3.2] How many cells a value of the type takes.
 abbrev pub cells : DataType → ℕ

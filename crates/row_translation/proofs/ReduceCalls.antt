@@ -22,13 +22,13 @@ use Rattle.emission.specs.Table.{Table, table}
 use Rattle.emission.specs.References.{expressionAt, acceptorAt}
 use Rattle.emission.specs.Growth.{Grown}
 use Rattle.emission.specs.Laws.Growth.{grown-none, grown-more}
-use Rattle.clauses.specs.Clauses.{enteredRows, leftRows, AfterUse, ReductionEntered, ReductionLeft}
+use Rattle.clauses.specs.Clauses.{bodyRegion, enteredRows, leftRows, AfterUse, ReductionEntered, ReductionLeft}
 use Rattle.row_translation.specs.WriteAndUse.{Stands, SomeRows, CountsRows, ReadyToUse, ReadyToWrite, Room, nodesUsed, nodesWritten, Used, Written}
 use Rattle.row_translation.specs.Laws.Kinds.{ReduceTerm, reduce-term}
 use Rattle.row_translation.specs.Laws.Operands.{type-array}
 use Rattle.row_translation.specs.Laws.Calls.{regions-few, room-on, stands-reduced, stands-start}
 use Rattle.row_translation.specs.Laws.Ranges.{reduction-fits}
-use Rattle.clauses.specs.Laws.{reduction-grown}
+use Rattle.clauses.specs.Laws.{body-region-few, reduction-grown}
 use Rattle.row_translation.specs.Laws.Reductions.{reduction-body, used-reduce}
 use Rattle.clauses.specs.declared.State.{State}
 use Rattle.clauses.specs.declared.Translated.{Translated}
@@ -102,6 +102,10 @@ module _ (ks : List ℕ) (ns : List ℤ) (C Y : List ℕ) (N : List ℤ) (T : Li
           start-used : Used Y N I Γ Δ (firstOperand e) s₁ U W (table K M (s₁ .to)) (table K₁ M₁ (y .to)) y
           start-used = B I Γ Δ (firstOperand e) start-here
 
+          -- the region that the body is written into
+          abbrev pub region : ℕ
+          region = bodyRegion (typeAt Y (getD C 0 0)) (y .regions)
+
           pub enter-asks : Room (nodesUsed e) Y N T s
               → Sound Y (length Y) × (getD C 0 0 < length Y) × (x .value < y .len) × (y .value < y .len) × (y .len + 19 ≤ 4096)
               × (s .counters + 8 < 65536) × (y .regions + 2 < 65536) × (s .count + 1 < 16) × (length (s .variables) ≡ 16) × (length W ≡ 4096)
@@ -118,7 +122,7 @@ module _ (ks : List ℕ) (ns : List ℤ) (C Y : List ℕ) (N : List ℤ) (T : Li
             start-used .grown .size,
           )
 
-          module _ {X : List ℕ} {s₂ : State} (E : ReductionEntered W X (getD C 0 0) (x .value) s y s₂) (hy : length Y ≤ 65536) (hl : y .len + 3 ≤ 4096)
+          module _ {X : List ℕ} {s₂ : State} (E : ReductionEntered W X (getD C 0 0) (x .value) region s y s₂) (hy : length Y ≤ 65536) (hl : y .len + 3 ≤ 4096)
               (hr : y .regions < 65535) (hc : s .counters < 65536) (hv : s .count + 1 < 16) where
             round-here : Stands (part (1 + a + x .rows) ks) (part (1 + a + x .rows) ns) (part (1 + a + x .rows) C) Y N X s₂ I
                 (typeOf I Γ (firstOperand e) ∷ element (typeOf I Γ (secondOperand e)) ∷ Γ)
@@ -133,13 +137,23 @@ module _ (ks : List ℕ) (ns : List ℤ) (C Y : List ℕ) (N : List ℤ) (T : Li
                 let h : Grown T W (s .len) = grown-more T U W (s .len) (s₁ .len) (omega (arith, G .len, array-used .more)) (array-used .grown) (start-used .grown) in
                 let p : Grown W X (y .len)
                 = grown-more W (E .begun .between) X (y .len) (y .len + 3) (omega arith)
-                (reduction-grown W (E .begun .between) (getD C 0 0) (x .value) (s .counters) (y .regions) (y .len) (E .begun .nodes)) (E .begun .grown) in
+                (reduction-grown W (E .begun .between) (getD C 0 0) (x .value) (s .counters) (y .regions) region (y .len) (E .begun .nodes)) (E .begun .grown) in
                 let g : Grown T X (s .len) = grown-more T W X (s .len) (y .len) (omega (arith, array-used .more, G .len, start-used .more)) h p in (
                   omega (arith, E .round .len),
                   ready-write round-here
                       (room-on (nodesUsed e) (nodesWritten (thirdOperand e)) Y N T X s s₂ R g (omega (arith, E .round .len, array-used .more, G .len, start-used .more))
                       (omega (arith, E .round .len, array-used .few, G .len, start-used .few, all-rows)) (omega (arith, E .round .counters, all-rows))
-                      (omega (arith, E .round .regions, array-used .regions, G .regions, start-used .regions, regions-few (firstOperand e), regions-few (secondOperand e), all-rows))),
+                      (omega (
+                        arith,
+                        E .round .regions,
+                        body-region-few (typeAt Y (getD C 0 0)) (y .regions),
+                        array-used .regions,
+                        G .regions,
+                        start-used .regions,
+                        regions-few (firstOperand e),
+                        regions-few (secondOperand e),
+                        all-rows,
+                      ))),
                 )
 
             module _ {Z K₂ K₃ : List ℕ} {M₂ M₃ : List ℤ} {w : Translated}

@@ -7,9 +7,10 @@ use native.Mathlib.Nat.{div-add-mod'}
 use borrow.Author.Tests.{lt-ltb, le-ltb, eq-eqb, ne-eqb, eqb-true}
 use lib.Dec.{eqb}
 use Rattle.refusals.specs.declared.Refusal.the-variants.{TypeMisfit}
-use Rattle.meaning.specs.Types.{DataType, number, array}
+use Rattle.meaning.specs.Types.{DataType, number, array, isNumber}
 use Rattle.meaning.specs.Limits.{TypeWithin}
-use Rattle.typing.specs.Check.{typed, refused, isNumber, isArray, isPair, sameType, sized, fitted}
+use Rattle.meaning.specs.Laws.Typing.{number-told}
+use Rattle.typing.specs.Check.{typed, refused, isArray, isPair, sameType, sized, fitted}
 use Rattle.words.specs.Kinds.{word-neg, word-split, word-join, word-fst, word-snd, word-zip, word-pair}
 use Rattle.words.specs.Groups.{oneOf, isMap}
 use Rattle.type_rules.specs.Rules.{unaryRule, binaryRule, negateRule, splitRule, joinRule, firstRule, secondRule, indexRule, zipRule, mapRule, operationRule, reduceRule}
@@ -31,11 +32,6 @@ no-pair number f = refl
 no-pair (array n s) f = refl
 no-pair (DataType.pair r s) f = absurd (f r s refl)
 
-no-number : (t : DataType) → (t ≡ number → ⊥) → isNumber t ≡ false
-no-number number f = absurd (f refl)
-no-number (array n s) f = refl
-no-number (DataType.pair r s) f = refl
-
 -- question 7 answered "no"
 misfits : (line : ℕ) (b : Bool) (t : DataType) → b ≡ false → fitted line b t ≡ refused (TypeMisfit line)
 misfits line b t e = rw e
@@ -45,13 +41,13 @@ both-no true = refl
 both-no false = refl
 
 module _ (line : ℕ) (t : DataType) where
-  pub negate-no : (t ≡ number → ⊥) → negateRule line t ≡ refused (TypeMisfit line)
+  pub negate-no : isNumber t ≡ false → negateRule line t ≡ refused (TypeMisfit line)
   unfolding negateRule
-  negate-no f = rw (no-number t f)
+  negate-no e = rw e
 
-  pub negate-yes : t ≡ number → negateRule line t ≡ typed t
+  pub negate-yes : isNumber t ≡ true → negateRule line t ≡ typed t
   unfolding negateRule
-  negate-yes e = rw e
+  negate-yes e = rw (number-told t e)
 
   pub index-no : (k : ℕ) → ((n : ℕ) (s : DataType) → t ≡ array n s → ⊥) → indexRule k line t ≡ refused (TypeMisfit line)
   unfolding indexRule
@@ -115,17 +111,17 @@ module _ (line : ℕ) (t : DataType) where
     unfolding mapRule
     map-yes n u e = rw e
 
-    pub operation-left : (t ≡ number → ⊥) → operationRule line t s ≡ refused (TypeMisfit line)
+    pub operation-left : isNumber t ≡ false → operationRule line t s ≡ refused (TypeMisfit line)
     unfolding operationRule
-    operation-left f = rw (no-number t f)
+    operation-left e = rw e
 
-    pub operation-right : (s ≡ number → ⊥) → operationRule line t s ≡ refused (TypeMisfit line)
+    pub operation-right : isNumber s ≡ false → operationRule line t s ≡ refused (TypeMisfit line)
     unfolding operationRule
-    operation-right f = rw (no-number s f, both-no (isNumber t))
+    operation-right e = rw (e, both-no (isNumber t))
 
-    pub operation-yes : t ≡ number → s ≡ number → operationRule line t s ≡ typed t
+    pub operation-yes : isNumber t ≡ true → isNumber s ≡ true → operationRule line t s ≡ typed t
     unfolding operationRule
-    operation-yes e f = rw (e, f)
+    operation-yes e f = rw (number-told t e, number-told s f)
 
     pub zip-left : ((n : ℕ) (u : DataType) → t ≡ array n u → ⊥) → zipRule line t s ≡ refused (TypeMisfit line)
     unfolding zipRule

@@ -8,9 +8,9 @@ use lib.Dec.{eqb}
 use lib.ListN.{length}
 use Rattle.words.specs.Kinds.{word-neg, word-zip, word-pair, word-split, word-join, word-fst, word-snd}
 use Rattle.words.specs.Groups.{isMap}
-use Rattle.meaning.specs.Types.{DataType, number, array, arrayLength, element, firstType, secondType}
+use Rattle.meaning.specs.Types.{DataType, number, array, arrayLength, element, firstType, secondType, isNumber}
 use Rattle.type_table.specs.Table.{typeAt, Sound}
-use Rattle.typing.specs.Check.{Verdict, typed, refused, isNumber, isArray, isPair, sameType, zipFits, splitFits, joinFits, indexFits, sized, fitted}
+use Rattle.typing.specs.Check.{Verdict, typed, refused, isArray, isPair, sameType, zipFits, splitFits, joinFits, indexFits, sized, fitted}
 use Rattle.type_rules.specs.declared.Typing.{Typing}
 use Rattle.type_rules.specs.declared.Typing.the-variants.{Typed, Refused}
 

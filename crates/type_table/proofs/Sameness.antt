@@ -1,9 +1,10 @@
 -- When two types are the same, by their parts.
 use mathlib.Core.Path.{_≡_, refl, ap, ap₂, sym, _∙_}
-use mathlib.Core.Bool.{Bool, true, false}
+use mathlib.Core.Bool.{Bool, true, false, true≢false}
 use Prim.Native.Nat.{ℕ}
 use native.Mathlib.Omega.{arith}
-use Rattle.meaning.specs.Types.{DataType, number, array, arrayLength, element, firstType, secondType}
+use Rattle.meaning.specs.Types.{DataType, number, array, isNumber, arrayLength, element, firstType, secondType}
+use Rattle.meaning.specs.Laws.Typing.{number-told}
 
 -- a flag that answers whether Q
 abbrev Answers : Bool → Type 0 → Type 0
@@ -37,5 +38,6 @@ module _ {t u : DataType} where
       → Answers b (s ≡ w) → Answers b (t ≡ u)
   pairs-same b p q h = answer-as b (λ k. p ∙ ap₂ DataType.pair h k ∙ sym q) (λ e. ap secondType (sym p ∙ e ∙ q))
 
-  pub numbers-same : (b : Bool) → t ≡ number → Answers b (u ≡ number) → Answers b (t ≡ u)
-  numbers-same b p = answer-as b (λ q. p ∙ sym q) (λ e. sym e ∙ p)
+  pub numbers-same : (b : Bool) → t ≡ number → b ≡ isNumber u → Answers b (t ≡ u)
+  numbers-same b p h =
+      ((λ e. p ∙ sym (number-told u (sym h ∙ e))), (λ e q. true≢false (sym (ap isNumber (sym q ∙ p)) ∙ sym h ∙ e)))

@@ -3,17 +3,19 @@ use mathlib.Core.Path.{_≡_, refl, ap, sym, _∙_}
 use mathlib.Core.List.{List}
 use Prim.Native.Nat.{ℕ, zero, suc, _≤_, _<_}
 use native.Mathlib.Omega.{arith}
+use borrow.Author.Tests.{ne-eqb}
+use lib.Dec.{eqb}
 use lib.ListN.{getD}
-use Rattle.meaning.specs.Types.{DataType, number, array}
+use Rattle.meaning.specs.Types.{DataType, array, isNumber}
 use Rattle.type_table.specs.Nodes.{kindIn, leftIn, rightIn}
 use Rattle.type_table.specs.Table.{byKind, nodeType, typesOf, typeAt, Sound}
 use Rattle.type_table.specs.Laws.{type-here}
 
 -- kinds and types fit
-number-kind : (k n : ℕ) (s t : DataType) → byKind k n s t ≡ number → k ≡ 0
-number-kind zero n s t e = refl
-number-kind (suc zero) n s t e = absurd (let z : _≡_ {A = ℕ} 0 1 = cc in omega arith)
-number-kind (suc (suc k)) n s t e = absurd (let z : _≡_ {A = ℕ} 0 1 = cc in omega arith)
+number-kind : (k n : ℕ) (s t : DataType) → eqb k 0 ≡ isNumber (byKind k n s t)
+number-kind zero n s t = refl
+number-kind (suc zero) n s t = refl
+number-kind (suc (suc k)) n s t = ne-eqb (suc (suc k)) 0 (λ e. omega arith)
 
 array-kind : (k n m : ℕ) (s t u : DataType) → byKind k n s t ≡ array m u → k ≡ 1
 array-kind zero n m s t u e = absurd (let z : _≡_ {A = ℕ} 0 1 = cc in omega arith)
@@ -34,13 +36,10 @@ module _ (T : List ℕ) (i : ℕ) (S : Sound T (suc i)) where
   is : typeAt T i ≡ nodeType (typesOf T) (getD T i 0)
   is = type-here T i (omega (arith, S .room)) (S .each i (omega arith) .parts)
 
-  pub its-number : kindIn (getD T i 0) ≡ 0 → typeAt T i ≡ number
-  its-number e =
+  pub number-shown : eqb (kindIn (getD T i 0)) 0 ≡ isNumber (typeAt T i)
+  number-shown =
       let w = getD T i 0 in
-      is ∙ ap (λ (k : ℕ). byKind k (leftIn w) (typeAt T (leftIn w)) (typeAt T (rightIn w))) e
-
-  pub no-number : (kindIn (getD T i 0) ≡ 0 → ⊥) → typeAt T i ≡ number → ⊥
-  no-number f e = f (number-kind _ _ _ _ (sym is ∙ e))
+      number-kind (kindIn w) (leftIn w) (typeAt T (leftIn w)) (typeAt T (rightIn w)) ∙ sym (ap isNumber is)
 
   pub its-array : kindIn (getD T i 0) ≡ 1
       → (typeAt T i ≡ array (leftIn (getD T i 0)) (typeAt T (rightIn (getD T i 0)))) × (rightIn (getD T i 0) < i)

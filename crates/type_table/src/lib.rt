@@ -4,7 +4,7 @@ ghost use mathlib.Core.Path.{_≡_};
 ghost use mathlib.Core.Bool.{true, false};
 ghost use Prim.Native.Nat.{suc, _+_, _*_, _≤_, _<_, max};
 ghost use lib.ListN.{length};
-ghost use Rattle.meaning.specs.Types.{DataType, number, array as arrayType, cells as cellsOf, levels as levelsOf};
+ghost use Rattle.meaning.specs.Types.{DataType, number, array as arrayType, isNumber, cells as cellsOf, levels as levelsOf};
 ghost use Rattle.type_table.specs.Nodes.{nodeOf, kindIn, leftIn, rightIn};
 ghost use Rattle.type_table.specs.Table.{typeAt, Sound, Put, ArrayTold, PairTold};
 
@@ -78,8 +78,7 @@ pub fn levels(types: &[u64], place: usize) -> usize
 // Whether it is the type of numbers.
 pub fn is_number(types: &[u64], place: usize) -> bool
     requires { ⌜ Sound (now types) (suc place) ⌝ }
-    ensures yes { λ r. ⌜ (r ≡ true → typeAt (now (types .entry)) place ≡ number) ⌝ }
-    ensures not { λ r. ⌜ (r ≡ false → typeAt (now (types .entry)) place ≡ number → ⊥) ⌝ }
+    ensures { λ r. ⌜ r ≡ isNumber (typeAt (now (types .entry)) place) ⌝ }
 {
     kind_in(types[place]) == NUMBER
 }

@@ -7,7 +7,7 @@ use lib.Dec.{eqb, ltb, leb}
 use lib.ListN.{length, getD}
 use Rattle.refusals.specs.declared.Refusal.{Refusal}
 use Rattle.refusals.specs.declared.Refusal.the-variants.{TypeMisfit, TypeSize}
-use Rattle.meaning.specs.Types.{DataType, number, array, cells, levels, arrayLength, element, firstType, secondType}
+use Rattle.meaning.specs.Types.{DataType, number, array, isNumber, cells, levels, arrayLength, element, firstType, secondType}
 use Rattle.meaning.specs.Terms.{Term, Plan}
 use Rattle.meaning.specs.Rows.{typeRows, allTypeRows, termRows}
 
@@ -17,11 +17,6 @@ pub data Verdict : Type 0 where
   refused : Refusal → Verdict
 
 -- ---- what is asked about types
-
-abbrev pub isNumber : DataType → Bool
-isNumber number = true
-isNumber (array n t) = false
-isNumber (DataType.pair s t) = false
 
 abbrev pub isArray : DataType → Bool
 isArray number = false

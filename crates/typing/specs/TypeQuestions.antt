@@ -4,10 +4,10 @@ use mathlib.Core.Bool.{Bool, _&&_}
 use mathlib.Core.List.{List, [], _∷_, _++_}
 use Prim.Native.Nat.{ℕ, suc}
 use Rattle.refusals.specs.declared.Refusal.the-variants.{TypeMisfit, TypeSize}
-use Rattle.meaning.specs.Types.{DataType, number, array, element}
+use Rattle.meaning.specs.Types.{DataType, number, array, element, isNumber}
 use Rattle.meaning.specs.Terms.{Term, Plan}
 use Rattle.meaning.specs.Typing.{typeOf}
-use Rattle.typing.specs.Check.{isNumber, isArray, isPair, sameType, zipFits, splitFits, joinFits, indexFits, inLimits, behindType, behind, termLine}
+use Rattle.typing.specs.Check.{isArray, isPair, sameType, zipFits, splitFits, joinFits, indexFits, inLimits, behindType, behind, termLine}
 use Rattle.typing.specs.Questions.{Question, question}
 
 -- [10.7] the operands' types

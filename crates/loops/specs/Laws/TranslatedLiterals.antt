@@ -1,14 +1,15 @@
 -- The literals of made loops are literals of their plan: what holds of every literal of a term, and of 0, holds of every literal of
 -- its translation. Assumes nothing.
+use mathlib.Core.Bool.{Bool, true, false, cond}
 use mathlib.Core.List.{List, [], _∷_}
 use Prim.Native.Nat.{ℕ, zero, suc}
 use lib.IntN.{ℤ, pos}
 use lib.ListN.{getD}
-use Rattle.meaning.specs.Types.{DataType, number}
+use Rattle.meaning.specs.Types.{DataType, isNumber, element, number}
 use Rattle.meaning.specs.Terms.{LoopKind, Term, Plan}
 use Rattle.meaning.specs.Loops.{Offset, Command}
 use Rattle.meaning.specs.Expressions.{Expression, Acceptor}
-use Rattle.meaning.specs.Translation.{Write, Use, writeMap, useReduce, useWritten, noExpression, writeTerm, useTerm, translation}
+use Rattle.meaning.specs.Translation.{Write, Use, writeMap, bodyInto, roundByNext, useReduce, useWritten, noExpression, writeTerm, useTerm, translation}
 use Rattle.loops.specs.Laws.Literals.{TermLiterals, ExpressionLiterals, CommandLiterals, assign-literals}
 
 module _ (P : ℤ → Type 0) (none : P (pos 0)) where
@@ -40,15 +41,25 @@ module _ (P : ℤ → Type 0) (none : P (pos 0)) where
   unfolding useWritten
   written-literals t W w Γ Δ c r C g k = (w Γ Δ c (suc r) _ g, k (Expression.region r t) (suc r) tt)
 
+  module _ (e z : DataType) (W : Write) (w : Writes W) (Γ : List DataType) (Δ : List Expression) (c l : ℕ) (E : Expression) (g : Scope Δ)
+      (h : ExpressionLiterals P E) where
+    body-literals : (m : ℕ) → CommandLiterals P (bodyInto e z W Γ Δ c l E m)
+    body-literals m =
+        let elementRead : Expression = Expression.index E (Offset.counter c) in
+        w _ _ (suc c) (suc m) _ (more (Expression.region l z) (elementRead ∷ Δ) tt (more elementRead Δ h g))
+
+    round-literals : (direct : Bool) → CommandLiterals P (cond direct (bodyInto e z W Γ Δ c l E l) (roundByNext e z W Γ Δ c l E))
+    round-literals true = body-literals l
+    round-literals false = (body-literals (suc l), assign-literals P z (Expression.region (suc l) z) _ (suc c) (suc (suc l)) tt)
+
   reduce-literals : (t z : DataType) (U S : Use) (W : Write) → Uses U → Uses S → Writes W → Uses (useReduce t z U S W)
   unfolding useReduce
   reduce-literals t z U S W u v w Γ Δ c r C g k =
       u Γ Δ c r _ g (λ E s h.
-      v Γ Δ c s _ g (λ Z l i.
-      let element : Expression = Expression.index E (Offset.counter c) in
-      let body = w _ _ (suc c) (suc (suc l)) _ (more (Expression.region l z) (element ∷ Δ) tt (more element Δ h g)) in
-      let next = assign-literals P z (Expression.region (suc l) z) _ (suc c) (suc (suc l)) tt in
-      (assign-literals P z Z _ c (suc l) i, ((body, next), k (Expression.region l z) (suc l) tt))))
+      v Γ Δ c s _ g (λ Z l i. (
+        assign-literals P z Z _ c (suc l) i,
+        (round-literals (element t) z W w Γ Δ c l E g h (isNumber z), k (Expression.region l z) (suc l) tt),
+      )))
 
   module _ (I : List DataType) where
     record Keeps (e : Term) : Type 0 where

@@ -32,7 +32,7 @@ assign-wrote number a b st h k ch = set-wrote a b st h k (omega arith) ch
 assign-wrote (array n t) {W} {E} {P} {f} {g} {cs} {rs} {S} a b st h k ch =
     let c : Offset = Offset.counter (length cs) in
     let body : Command = assign t (Expression.index E c) (Acceptor.index P c) (suc (length cs)) (length rs) in
-    loop-wrote W n t g f b 0 (cells t) (k .distinct) (λ p ok. outside-none b (g p)) S (st .store) (k .apart)
+    loop-wrote W n t g f b 0 (cells t) (k .distinct) (λ p ok. outside-none b (g p)) S (st .store) (k .apart refl)
     (λ x sx. outside-none b x)
     (λ i. run (W .domain) body (ch .1 i) (environment W (i ∷ cs) rs) (roundRoom a LoopKind.parallel n body i))
     (λ i l st₁ ag ln.
@@ -52,7 +52,7 @@ assign-wrote (DataType.pair s t) {W} {E} {P} {f} {g} {cs} {rs} {S} a b st h k ch
     (assign-wrote t (secondRoom a c d) b st₁
     (holds-second
     (holds-on h (extends-refl cs) (extends-refl rs)
-    (λ x sx. H .kept x (λ p ok. k .apart x sx (first ∷ p) ok) (outside-none b x))
+    (λ x sx. H .kept x (λ p ok. k .apart refl x sx (first ∷ p) ok) (outside-none b x))
     (λ x sx. sx)))
     (into-second (into-on k (extends-refl cs) (extends-refl rs) (omega (arith, H .sameLength)) (k .apart)))
     (ch .1))

@@ -207,8 +207,8 @@ module _ {W : Setting} {cs rs : List ℕ} {S : CellSet} {a n : ℕ} {st : StateO
         → Into W cs rs₁ P t′ g S₁ (length (st₁ .store))
     into-after I clear H =
         into-on I (extends-refl cs) (H .extends) (omega (arith, H .sameLength))
-        (λ x sx.
-        ⊎-elim (λ s₀. I .apart x s₀) (λ i p ok e. not-both (subst (Inside a n) (sym e) i) (clear p ok)) (H .only x sx))
+        (λ not x sx.
+        ⊎-elim (λ s₀. I .apart not x s₀) (λ i p ok e. not-both (subst (Inside a n) (sym e) i) (clear p ok)) (H .only x sx))
 
     -- a write in the continuation is a write of the whole
     pub wrote-after : {g : Path ℕ → ℕ} {t′ : DataType} {f′ : Contents W} {b m k′ : ℕ} {st₂ : StateOf W}

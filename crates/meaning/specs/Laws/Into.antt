@@ -1,11 +1,12 @@
 -- What it is for an acceptor to have its cells somewhere, and that each way of making an acceptor keeps it.
 use mathlib.Core.Path.{_≡_, refl, sym, ap, ap₂, _∙_, subst}
 use mathlib.Core.Logic.{_≢_}
+use mathlib.Core.Bool.{false}
 use mathlib.Core.List.{List, _∷_}
 use Prim.Native.Nat.{ℕ, _+_, _*_, _≤_, _<_}
 use native.Mathlib.Nat.{le-trans}
 use native.Mathlib.Omega.{arith}
-use Rattle.meaning.specs.Types.{DataType, cells, array}
+use Rattle.meaning.specs.Types.{DataType, isNumber, cells, array}
 use Rattle.meaning.specs.Loops.{Offset, plus, times, over, rest}
 use Rattle.meaning.specs.Runs.{addressOf}
 use Rattle.meaning.specs.Paths.{Step, Path, tail, index, first, second}
@@ -29,18 +30,20 @@ abbrev pub NotAt : DataType → (Path ℕ → ℕ) → ℕ → Type 0
 NotAt t g x = (p : Path ℕ) → PathOf t p → g p ≢ x
 
 -- Acceptor P has its cells of type t at g, under all further counters and regions. They are distinct, lie in a
--- store of L cells, and are apart from the cells of S.
+-- store of L cells, and are apart from the cells of S. A number need not be apart: the one `set` into its cell is
+-- the last, and what is read of the cells of S is read by then.
 pub record Into (W : Setting) (cs rs : List ℕ) (P : Acceptor) (t : DataType) (g : Path ℕ → ℕ) (S : CellSet)
     (L : ℕ) : Type 0 where
   pub lies : (cs′ rs′ : List ℕ) → Extends cs cs′ → Extends rs rs′
       → (p : Path Offset) → PathOf t (pathUnder cs′ p) → writing W cs′ rs′ P p ≡ g (pathUnder cs′ p)
   pub distinct : (p r : Path ℕ) → PathOf t p → PathOf t r → g p ≡ g r → p ≡ r
   pub inStore : (p : Path ℕ) → PathOf t p → g p < L
-  pub apart : (x : ℕ) → S x → NotAt t g x
+  pub apart : isNumber t ≡ false → (x : ℕ) → S x → NotAt t g x
 
 pub into-on : {W : Setting} {cs rs cs′ rs′ : List ℕ} {P : Acceptor} {t : DataType} {g : Path ℕ → ℕ} {S S′ : CellSet}
     {L L′ : ℕ}
-    → Into W cs rs P t g S L → Extends cs cs′ → Extends rs rs′ → L ≤ L′ → ((x : ℕ) → S′ x → NotAt t g x)
+    → Into W cs rs P t g S L → Extends cs cs′ → Extends rs rs′ → L ≤ L′
+    → (isNumber t ≡ false → (x : ℕ) → S′ x → NotAt t g x)
     → Into W cs′ rs′ P t g S′ L′
 into-on h ec er l k = record {
   lies = λ cs″ rs″ ec′ er′ p ok. h .lies cs″ rs″ (extends-trans ec ec′) (extends-trans er er′) p ok;
@@ -59,7 +62,7 @@ module _ {W : Setting} {cs rs : List ℕ} {P : Acceptor} {S : CellSet} {L : ℕ}
         ∙ ap (λ (j : ℕ). g (index j ∷ pathUnder cs′ p)) (io cs′ ec);
     distinct = λ p r ok ok′ e. ap tail (h .distinct (index i ∷ p) (index i ∷ r) (l, ok) (l, ok′) e);
     inStore = λ p ok. h .inStore (index i ∷ p) (l, ok);
-    apart = λ x sx p ok. h .apart x sx (index i ∷ p) (l, ok);
+    apart = λ not x sx p ok. h .apart refl x sx (index i ∷ p) (l, ok);
   }
 
   pub into-first : {t₁ t₂ : DataType} {g : Path ℕ → ℕ}
@@ -68,7 +71,7 @@ module _ {W : Setting} {cs rs : List ℕ} {P : Acceptor} {S : CellSet} {L : ℕ}
     lies = λ cs′ rs′ ec er p ok. h .lies cs′ rs′ ec er (first ∷ p) ok;
     distinct = λ p r ok ok′ e. ap tail (h .distinct (first ∷ p) (first ∷ r) ok ok′ e);
     inStore = λ p ok. h .inStore (first ∷ p) ok;
-    apart = λ x sx p ok. h .apart x sx (first ∷ p) ok;
+    apart = λ not x sx p ok. h .apart refl x sx (first ∷ p) ok;
   }
 
   pub into-second : {t₁ t₂ : DataType} {g : Path ℕ → ℕ}
@@ -77,7 +80,7 @@ module _ {W : Setting} {cs rs : List ℕ} {P : Acceptor} {S : CellSet} {L : ℕ}
     lies = λ cs′ rs′ ec er p ok. h .lies cs′ rs′ ec er (second ∷ p) ok;
     distinct = λ p r ok ok′ e. ap tail (h .distinct (second ∷ p) (second ∷ r) ok ok′ e);
     inStore = λ p ok. h .inStore (second ∷ p) ok;
-    apart = λ x sx p ok. h .apart x sx (second ∷ p) ok;
+    apart = λ not x sx p ok. h .apart refl x sx (second ∷ p) ok;
   }
 
   -- the first parts, or the second parts, of an array of pairs: `part` is that part's step, s its type
@@ -106,8 +109,8 @@ module _ {W : Setting} {cs rs : List ℕ} {P : Acceptor} {S : CellSet} {L : ℕ}
         p ok;
     inStore =
         on-array n s (λ p. g (zippedPath part p) < L) (λ i p l ok. h .inStore (index i ∷ part ∷ p) (l, path p ok));
-    apart = λ x sx.
-        on-array n s (λ p. g (zippedPath part p) ≢ x) (λ i p l ok. h .apart x sx (index i ∷ part ∷ p) (l, path p ok));
+    apart = λ not x sx.
+        on-array n s (λ p. g (zippedPath part p) ≢ x) (λ i p l ok. h .apart refl x sx (index i ∷ part ∷ p) (l, path p ok));
   }
 
   pub into-zip-first : {n : ℕ} {t₁ t₂ : DataType} {g : Path ℕ → ℕ}
@@ -142,9 +145,9 @@ module _ {W : Setting} {cs rs : List ℕ} {P : Acceptor} {S : CellSet} {L : ℕ}
         p ok;
     inStore = on-array (m * n) t (λ p. g (groupPath n p) < L)
         (λ i p l ok. h .inStore (groupPath n (index i ∷ p)) (inGroups i p l ok));
-    apart = λ x sx.
+    apart = λ not x sx.
         on-array (m * n) t (λ p. g (groupPath n p) ≢ x)
-        (λ i p l ok. h .apart x sx (groupPath n (index i ∷ p)) (inGroups i p l ok));
+        (λ i p l ok. h .apart refl x sx (groupPath n (index i ∷ p)) (inGroups i p l ok));
   }
     where
       inGroups : (i : ℕ) (p : Path ℕ) → i < m * n → PathOf t p
@@ -178,9 +181,9 @@ module _ {W : Setting} {cs rs : List ℕ} {P : Acceptor} {S : CellSet} {L : ℕ}
         p ok;
     inStore = on-groups m n t (λ p. g (flatPath n p) < L)
         (λ i j p l l₂ ok. h .inStore (index (n * i + j) ∷ p) (group-below l l₂, ok));
-    apart = λ x sx.
+    apart = λ not x sx.
         on-groups m n t (λ p. g (flatPath n p) ≢ x)
-        (λ i j p l l₂ ok. h .apart x sx (index (n * i + j) ∷ p) (group-below l l₂, ok));
+        (λ i j p l l₂ ok. h .apart refl x sx (index (n * i + j) ∷ p) (group-below l l₂, ok));
   }
 
 -- a whole value of type t, from cell b on
@@ -195,13 +198,13 @@ pub whole-apart : (b : ℕ) (t : DataType) (x : ℕ) → Outside b (cells t) x �
 whole-apart b t x o p ok e = not-both (whole-inside b t p ok) (subst (Outside b (cells t)) (sym e) o)
 
 pub into-region : {W : Setting} {cs rs : List ℕ} {S : CellSet} {L : ℕ} (l b : ℕ) (t : DataType)
-    → RegionIs rs l b → b + cells t ≤ L → ((x : ℕ) → S x → Outside b (cells t) x)
+    → RegionIs rs l b → b + cells t ≤ L → (isNumber t ≡ false → (x : ℕ) → S x → Outside b (cells t) x)
     → Into W cs rs (Acceptor.region l t) t (λ p. b + cellOf t p) S L
 into-region l b t ir le apart = record {
   lies = λ cs′ rs′ ec er p ok. ap₂ _+_ (ir rs′ er) (offset-is-cell (numberUnder cs′) (number-additive cs′) t p ok);
   distinct = wholeDistinct b t;
   inStore = λ p ok. let h = cellOf-below t p ok in omega arith;
-  apart = λ x sx. whole-apart b t x (apart x sx);
+  apart = λ not x sx. whole-apart b t x (apart not x sx);
 }
 
 pub into-output : {W : Setting} {cs rs : List ℕ} {S : CellSet} {L : ℕ} (t : DataType)
@@ -212,5 +215,5 @@ into-output {W} t le apart = record {
       λ cs′ rs′ ec er p ok. ap (λ (j : ℕ). W .out + j) (offset-is-cell (numberUnder cs′) (number-additive cs′) t p ok);
   distinct = wholeDistinct (W .out) t;
   inStore = λ p ok. let h = cellOf-below t p ok in omega arith;
-  apart = λ x sx. whole-apart (W .out) t x (apart x sx);
+  apart = λ not x sx. whole-apart (W .out) t x (apart x sx);
 }

@@ -48,7 +48,7 @@ module _ {W : Setting} {Γ : List DataType} where
       (precondition-on G (extends-refl cs) (extends-push b rs) (λ x sx. refl) (λ x sx. sx) (G .free) (G .fits))
       (part-trans one body))
       (into-region (length rs) b t (innermost-region b rs) (omega (arith, region .below, G .fits))
-      (λ x sx. outside-part region (G .free x sx)))
+      (λ not x sx. outside-part region (G .free x sx)))
       (λ p ok. outside-part one (apart-outside (region-apart a (cells t) (seq w d)) (whole-inside b t p ok)))
       (ch .0) in
       K (b ∷ rs) (Added S b (cells t)) (secondRoom e w d) st₁ (Expression.region (length rs) t)
@@ -82,7 +82,7 @@ module _ {W : Setting} {Γ : List DataType} where
       let clear′ : (p : Path ℕ) → PathOf (array n tb) p → Outside a′ (room (loop kind n b)) (g p) =
       λ p ok. outside-part (H .part) (clear p ok) in
       wrote-after H (H .part)
-      (loop-wrote W n tb g f a′ (room (loop kind n b)) kb (I′ .distinct) clear′ S′ (st′ .store) (I′ .apart) (G′ .free)
+      (loop-wrote W n tb g f a′ (room (loop kind n b)) kb (I′ .distinct) clear′ S′ (st′ .store) (I′ .apart refl) (G′ .free)
       (λ i. run (W .domain) b (ch′ .1 i) (environment W (i ∷ cs) rs′) (roundRoom a′ kind n b i))
       (λ i l st₁ ag ln.
       let round : Part (roundRoom a′ kind n b i) (room b) a′ (room (loop kind n b)) = round-inside a′ kind n b i l in

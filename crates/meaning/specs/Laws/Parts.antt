@@ -54,7 +54,7 @@ module _ {W : Setting} {Γ : List DataType} where
       pair-wrote (I .distinct) clear H
       (wrote-inside two
       (writes₂ Δ env cs rs S (secondRoom a c d) st₁ (Acceptor.second P) (λ p. g (second ∷ p))
-      (precondition-second two G (λ x sx p ok. I .apart x sx (first ∷ p) ok) H)
+      (precondition-second two G (λ x sx p ok. I .apart refl x sx (first ∷ p) ok) H)
       (into-on (into-second I) (extends-refl cs) (extends-refl rs) (omega (arith, H .sameLength))
       ((into-second I) .apart))
       (λ p ok. outside-part two (clear (second ∷ p) ok)) (ch .1)))
@@ -85,7 +85,7 @@ module _ {W : Setting} {Γ : List DataType} where
       zip-wrote (I .distinct) clear (λ i p. refl) (λ i p. refl) H
       (wrote-inside two
       (writes₂ Δ env cs rs S (secondRoom a c d) st₁ (Acceptor.zipSecond P) g₂
-      (precondition-second two G (I₁ .apart) H)
+      (precondition-second two G (I₁ .apart refl) H)
       (into-on I₂ (extends-refl cs) (extends-refl rs) (omega (arith, H .sameLength)) (I₂ .apart))
       (on-array n t (λ p. Outside (secondRoom a c d) (room d) (g₂ p))
       (λ i p l ok. outside-part two (clear (index i ∷ second ∷ p) (l, ok))))

@@ -1,17 +1,19 @@
 -- The two claims of the induction by which translated loops pass, of how a term is used and of how it is written;
 -- and how uses and writes join.
 use mathlib.Core.Path.{subst}
+use mathlib.Core.Bool.{Bool, true, false, cond}
 use mathlib.Core.List.{List, [], _∷_, map}
 use Prim.Native.Nat.{ℕ, zero, suc, _+_, _≤_, _<_}
 use native.Mathlib.Nat.{le-of-suc-le-suc}
 use native.Mathlib.Omega.{arith}
 use lib.ListN.{length, getD}
-use Rattle.meaning.specs.Types.{DataType, cells, levels, arrayLength, element, number, array}
+use Rattle.meaning.specs.Types.{DataType, isNumber, cells, levels, arrayLength, element, number, array}
 use Rattle.meaning.specs.Terms.{LoopKind}
 use Rattle.meaning.specs.Loops.{Offset, Command}
 use Rattle.meaning.specs.Expressions.{Expression, Acceptor}
 use Rattle.meaning.specs.Offsets.{readAt, writeAt}
-use Rattle.meaning.specs.Translation.{assign, Write, Use, writeMap, useReduce, useWritten, noExpression}
+use Rattle.meaning.specs.Translation.{assign, Write, Use, writeMap, bodyInto, roundByNext, useReduce}
+use Rattle.meaning.specs.Translation.{useWritten, noExpression}
 use Rattle.meaning.specs.Limits.{IsCount, CommandPasses, CellsWithin, TypeWithin}
 use Rattle.meaning.specs.Laws.Typing.{IsArray}
 use Rattle.meaning.specs.Laws.Levels.{Extends, extends-refl, extends-trans, extends-push}
@@ -201,6 +203,48 @@ module _ {H : Heading} {Γ : List DataType} where
             (writes-index i (writes-on k (extends-push n ns) e) (counter-fits n ns count)),
       ))
 
+  -- One round of a reduction, the total being the innermost region: its body is written there or into next
+  module _ (writeB : Write) (e tz : DataType) (bb : ℕ) (fz : TypeWithin tz) (few : suc (suc (length Γ)) ≤ 16)
+      (writes : WritePasses H writeB (tz ∷ e ∷ Γ) tz bb) (Δ : List Expression) (n : ℕ) (ns rs : List ℕ) (A : Expression)
+      (G : Scope H ns rs Γ Δ (suc (suc bb))) (count : IsCount n) (h : ReadsPass (inputCellsOf H) ns rs A (array n e)) where
+    -- the regions: the total's, and next's
+    abbrev total : List ℕ
+    total = cells tz ∷ rs
+
+    abbrev next : List ℕ
+    next = cells tz ∷ total
+
+    body-passes : (outer : List ℕ) → Extends rs (cells tz ∷ outer) → length outer ≤ suc (length rs)
+        → ReadsPass (inputCellsOf H) (n ∷ ns) (cells tz ∷ outer) (Expression.region (length rs) tz) tz
+        → PassesUnder H (n ∷ ns) (cells tz ∷ outer)
+        (bodyInto e tz writeB Γ Δ (length ns) (length rs) A (length outer))
+    body-passes outer ext long reads =
+        let i : Offset = Offset.counter (length ns) in
+        writes (Expression.region (length rs) tz ∷ Expression.index A i ∷ Δ) (n ∷ ns) (cells tz ∷ outer)
+        (Acceptor.region (length outer) tz)
+        (scope-push
+        (scope-loop n (scope-on G ext (omega (arith, G .regionsFew))) (omega arith)
+        (reads-index i (reads-on h (extends-push n ns) ext) (counter-fits n ns count)))
+        few reads)
+        (writes-region outer tz (fz .0))
+
+    round-passes : (direct : Bool)
+        → PassesUnder H (n ∷ ns) total
+        (cond direct (bodyInto e tz writeB Γ Δ (length ns) (length rs) A (length rs))
+        (roundByNext e tz writeB Γ Δ (length ns) (length rs) A))
+    unfolding CommandPasses
+    round-passes true = body-passes rs (extends-push (cells tz) rs) (omega arith) (reads-region rs tz (fz .0))
+    round-passes false = (
+      (cells-positive tz (fz .0), cells-within tz (fz .0)),
+      omega (arith, G .regionsFew),
+      (
+        body-passes total (extends-trans (extends-push (cells tz) rs) (extends-push (cells tz) total)) (omega arith)
+            (reads-on (reads-region rs tz (fz .0)) (extends-refl (n ∷ ns)) (extends-push (cells tz) total)),
+        assign-passes H tz (n ∷ ns) next (fz .0) (omega (arith, fz .1, G .loopsFew, few)) (reads-region total tz (fz .0))
+            (writes-on (writes-region rs tz (fz .0)) (extends-refl (n ∷ ns)) (extends-push (cells tz) total)),
+      ),
+    )
+
   pub use-reduce-passes : (useA useZ : Use) (writeB : Write) (ta tz : DataType) (ba bz bb : ℕ)
       → IsArray ta → CellsWithin ta → TypeWithin tz → suc (suc (length Γ)) ≤ 16
       → UsePasses H useA Γ ta ba → UsePasses H useZ Γ tz bz → WritePasses H writeB (tz ∷ element ta ∷ Γ) tz bb
@@ -208,7 +252,6 @@ module _ {H : Heading} {Γ : List DataType} where
   unfolding useReduce CommandPasses
   use-reduce-passes useA useZ writeB ta tz ba bz bb isa fa fz few usesA usesZ writes Δ ns rs C G K =
       let n : ℕ = arrayLength ta in
-      let i : Offset = Offset.counter (length ns) in
       let count : IsCount n = length-is-count ta isa fa in
       let cellsCount : IsCount (cells tz) = (cells-positive tz (fz .0), cells-within tz (fz .0)) in
       usesA Δ ns rs _ (scope-on G (extends-refl rs) (omega (arith, G .regionsFew)))
@@ -216,33 +259,12 @@ module _ {H : Heading} {Γ : List DataType} where
       usesZ Δ ns rs₁ _ (scope-on G e₁ (omega (arith, G .regionsFew)))
       (λ rs₂ Z e₂ l₂ h₂.
       let total : List ℕ = cells tz ∷ rs₂ in
-      let next : List ℕ = cells tz ∷ total in
-      let e₄ : Extends rs₂ next = extends-trans (extends-push (cells tz) rs₂) (extends-push (cells tz) total) in
       let h : ReadsPass (inputCellsOf H) ns rs₂ A (array n (element ta)) =
       reads-on (subst (λ (t : DataType). ReadsPass (inputCellsOf H) ns rs₁ A t) isa h₁) (extends-refl ns) e₂ in
-      let readsTotal : ReadsPass (inputCellsOf H) (n ∷ ns) next (Expression.region (length rs₂) tz) tz =
-      reads-on (reads-region rs₂ tz (fz .0)) (extends-refl (n ∷ ns)) (extends-push (cells tz) total) in
-      let writesTotal : WritesPass (H .output) (n ∷ ns) next (Acceptor.region (length rs₂) tz) tz =
-      writes-on (writes-region rs₂ tz (fz .0)) (extends-refl (n ∷ ns)) (extends-push (cells tz) total) in
       let startPasses : PassesUnder H ns total
       (assign tz Z (Acceptor.region (length rs₂) tz) (length ns) (length total)) =
       assign-passes H tz ns total (fz .0) (omega (arith, fz .1, G .loopsFew, G .variablesFew))
-      (reads-on h₂ (extends-refl ns) (extends-push (cells tz) rs₂)) (writes-region rs₂ tz (fz .0)) in
-      let bodyPasses =
-      writes (Expression.region (length rs₂) tz ∷ Expression.index A i ∷ Δ) (n ∷ ns) next
-      (Acceptor.region (length total) tz)
-      (scope-push
-      (scope-loop n
-      (scope-on G (extends-trans e₁ (extends-trans e₂ e₄)) (omega (arith, G .regionsFew))) (omega arith)
-      (reads-index i (reads-on h (extends-push n ns) e₄) (counter-fits n ns count)))
-      few readsTotal)
-      (writes-region total tz (fz .0)) in
-      let nextPasses :
-      PassesUnder H (n ∷ ns) next
-      (assign tz (Expression.region (length total) tz) (Acceptor.region (length rs₂) tz) (suc (length ns))
-      (length next)) =
-      assign-passes H tz (n ∷ ns) next (fz .0) (omega (arith, fz .1, G .loopsFew, few))
-      (reads-region total tz (fz .0)) writesTotal in (
+      (reads-on h₂ (extends-refl ns) (extends-push (cells tz) rs₂)) (writes-region rs₂ tz (fz .0)) in (
         cellsCount,
         omega (arith, G .regionsFew),
         (
@@ -251,7 +273,8 @@ module _ {H : Heading} {Γ : List DataType} where
             (
               count,
               omega (arith, G .loopsFew, G .variablesFew),
-              (cellsCount, omega (arith, G .regionsFew), (bodyPasses, nextPasses)),
+              round-passes writeB (element ta) tz bb fz few writes Δ n ns rs₂ A
+                  (scope-on G (extends-trans e₁ e₂) (omega (arith, G .regionsFew))) count h (isNumber tz),
             ),
             K total (Expression.region (length rs₂) tz)
                 (extends-trans e₁ (extends-trans e₂ (extends-push (cells tz) rs₂))) (omega arith)

@@ -12,7 +12,7 @@ use Rattle.meaning.specs.Layout.{room, firstRoom, secondRoom, roundRoom,
 use Rattle.meaning.specs.Runs.{Orders, run}
 use Rattle.meaning.specs.Expressions.{Expression, Acceptor}
 use Rattle.meaning.specs.Translation.{assign, Write, Use, reduceRound, useReduce}
-use Rattle.meaning.specs.Counts.{reduceWrites}
+use Rattle.meaning.specs.Counts.{roundWrites, reduceWrites}
 use Rattle.meaning.specs.Laws.Typing.{IsArray}
 use Rattle.meaning.specs.Laws.Layout.{Inside, Outside, Part, part-trans, outside-part, apart-outside}
 use Rattle.meaning.specs.Laws.Layout.{outside-none, first-inside, second-inside, round-inside, region-inside}
@@ -37,7 +37,7 @@ module _ (W : Setting) (writeB : Write) (Γ : List DataType) (z e : DataType) (k
     (A : Expression) (n : ℕ) (fa : Contents W) (held : Holds W cs rs (st .store) S A (array n e) fa) where
   -- the commands
   abbrev round : Command
-  round = reduceRound (array n e) z writeB Γ Δ (length cs) (length rs) A
+  round = reduceRound e z writeB Γ Δ (length cs) (length rs) A
 
   abbrev rounds : Command
   rounds = loop LoopKind.sequential n round
@@ -89,7 +89,7 @@ module _ (W : Setting) (writeB : Write) (Γ : List DataType) (z e : DataType) (k
         assign-wrote z {cs = cs} (firstRoom inner (assignStart Z) (seq rounds d)) 0 st
         (holds-on hz (extends-refl cs) (extends-push b rs) (λ x sx. refl) (λ x sx. sx))
         (into-region (length rs) b z (innermost-region b rs) (omega (arith, region-part .below, G .fits))
-        (λ x sx. outside-part region-part (G .free x sx)))
+        (λ not x sx. outside-part region-part (G .free x sx)))
         ch in
         record {
           total = H .written;
@@ -100,7 +100,7 @@ module _ (W : Setting) (writeB : Write) (Γ : List DataType) (z e : DataType) (k
 
     reduce-held : (Q : StateOf W → Type 0)
         → ((b : ℕ) (S′ : CellSet) (a′ : ℕ) (st′ : StateOf W)
-        → AfterUse W cs rs S a N st (cells z + n * (kb + cells z)) (Expression.region (length rs) z) z
+        → AfterUse W cs rs S a N st (cells z + n * roundWrites z kb) (Expression.region (length rs) z) z
         (reduced W Fb env fa 0 n fz) (b ∷ rs) S′ a′ (room d) st′
         → (ch : Orders d) → Q (run (W .domain) d ch (environment W cs (b ∷ rs)) a′ st′))
         → (ch : Orders (new (cells z) (body Z d)))
@@ -113,7 +113,7 @@ module _ (W : Setting) (writeB : Write) (Γ : List DataType) (z e : DataType) (k
         let st₂ : StateOf W =
         inTurn (upFrom 0 n)
         (λ m. run (W .domain) round (ch .1 .0 .1 m) (environment W (m ∷ cs) (b ∷ rs)) (roundAt m)) st₁ in
-        let T : Totalled W z b a N st (reduced W Fb env fa 0 n fz) (cells z + n * (kb + cells z)) st₂ =
+        let T : Totalled W z b a N st (reduced W Fb env fa 0 n fz) (cells z + n * roundWrites z kb) st₂ =
         total-rounds W writeB Γ z e kb Fb writes Δ env cs rs S a N st G A n fa held b roundAt region-part
         (λ m l. part-trans (round-part m l) body-part)
         (λ m l x i. outside-part (round-part m l) (total-apart x i))
@@ -128,7 +128,7 @@ pub use-reduce : {W : Setting} {Γ : List DataType} (useA useZ : Use) (writeB : 
     (Fa Fz Fb : List (Contents W) → Contents W)
     → IsArray ta → UsesRightly W useA Γ ta ka Fa → UsesRightly W useZ Γ tz kz Fz
     → WritesRightly W writeB (tz ∷ element ta ∷ Γ) tz kb Fb
-    → UsesRightly W (useReduce ta tz useA useZ writeB) Γ tz (reduceWrites ka kz (cells tz) (arrayLength ta) kb)
+    → UsesRightly W (useReduce ta tz useA useZ writeB) Γ tz (reduceWrites ka kz tz (arrayLength ta) kb)
     (λ env. reduced W Fb env (Fa env) 0 (arrayLength ta) (Fz env))
 unfolding useReduce
 use-reduce {W} {Γ} useA useZ writeB ta tz ka kz kb Fa Fz Fb isa usesA usesZ writes Δ env cs rs S a st C G Q K ch =

@@ -1,13 +1,20 @@
 -- The relation of Figure 3, [5.2] to [5.10], by computing: a term has a type exactly when it is well typed, and then its type is
 -- `typeOf`.
 use mathlib.Core.Path.{_≡_, refl, sym, ap, ap₂, _∙_, subst}
+use mathlib.Core.Bool.{true, true≢false}
 use mathlib.Core.List.{List, _∷_}
 use Prim.Native.Nat.{ℕ, _*_, _/_, _<_}
 use native.Mathlib.Nat.{mul-div-cancel}
 use lib.ListN.{length}
-use Rattle.meaning.specs.Types.{DataType, arrayLength, element, firstType, secondType, number, array}
+use Rattle.meaning.specs.Types.{DataType, isNumber, arrayLength, element, firstType, secondType, number, array}
 use Rattle.meaning.specs.Terms.{Term}
 use Rattle.meaning.specs.Typing.{HasType, typeOf}
+
+-- what the test of a number tells
+pub number-told : (t : DataType) → isNumber t ≡ true → t ≡ number
+number-told number e = refl
+number-told (array n s) e = absurd (true≢false (sym e))
+number-told (DataType.pair r s) e = absurd (true≢false (sym e))
 
 abbrev pub IsArray : DataType → Type 0
 IsArray t = t ≡ array (arrayLength t) (element t)

@@ -62,7 +62,7 @@ module _ (I : List DataType) where
   abbrev pub reduceLoop : Term → Term → Term → List DataType → List Expression → ℕ → ℕ → Expression → Command
   reduceLoop z a b Γ Δ c r A =
       loop LoopKind.sequential (arrayLength (typeOf I Γ a))
-      (reduceRound (typeOf I Γ a) (typeOf I Γ z) (writeTerm I b) Γ Δ c r A)
+      (reduceRound (element (typeOf I Γ a)) (typeOf I Γ z) (writeTerm I b) Γ Δ c r A)
 
   -- the rows of a reduction once its array A and its start Z are used
   unfoldable pub reduceRows : Term → Term → Term → List DataType → List Expression → ℕ → ℕ → Expression → Expression

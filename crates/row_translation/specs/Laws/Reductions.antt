@@ -1,6 +1,7 @@
 -- A use of a reduction from the uses of its array and its start, the write of its body and the clauses around them. The place of
 -- its type is p, a rows are those of its start. Assumes nothing.
 use mathlib.Core.Path.{_≡_, refl, ap, ap₂, sym, _∙_}
+use mathlib.Core.Bool.{Bool, true, false, cond}
 use mathlib.Core.List.{List, _∷_, _++_}
 use Prim.Native.Nat.{ℕ, suc, _+_, _≤_, _<_}
 use native.Mathlib.Omega.{arith}
@@ -8,12 +9,12 @@ use native.Mathlib.Numerals.{add-one}
 use lib.IntN.{ℤ, pos}
 use lib.ListN.{length, getD}
 use Rattle.words.specs.Kinds.{Row, word-redseq, word-seq, word-for, word-new}
-use Rattle.meaning.specs.Types.{DataType, cells, arrayLength, element}
+use Rattle.meaning.specs.Types.{DataType, isNumber, cells, arrayLength, element}
 use Rattle.meaning.specs.Terms.{Term}
 use Rattle.meaning.specs.Typing.{typeOf}
 use Rattle.meaning.specs.Loops.{Offset}
 use Rattle.meaning.specs.Expressions.{Expression, Acceptor}
-use Rattle.meaning.specs.Translation.{assign, writeTerm}
+use Rattle.meaning.specs.Translation.{Write, assign, bodyInto, roundByNext, writeTerm}
 use Rattle.meaning.specs.Rows.{termRows, commandRows}
 use Rattle.meaning.specs.Laws.UseRows.{useRows, expressionOf, regionsOpened, reduceRows}
 use Rattle.syntax.specs.Standing.{firstOperand, secondOperand, thirdOperand}
@@ -26,50 +27,89 @@ use Rattle.emission.specs.Laws.Table.{put-append}
 use Rattle.emission.specs.Growth.{Grown}
 use Rattle.emission.specs.Laws.Growth.{grown-more}
 use Rattle.row_translation.specs.WriteAndUse.{Stands, Used, Written}
-use Rattle.clauses.specs.Clauses.{regionRows, enteredRows, leftRows, AfterUse, ReductionPushed, ReductionEntered, ReductionLeft}
+use Rattle.clauses.specs.Clauses.{regionRows, bodyRegion, enteredRows, leftRows, AfterUse, ReductionPushed, ReductionEntered, ReductionLeft}
 use Rattle.emission.specs.Laws.Readings.{reads-on, writes-on}
-use Rattle.clauses.specs.Laws.{reduction-grown, total-reads, total-writes, element-reads, next-reads, next-writes}
+use Rattle.clauses.specs.Laws.{body-region-few, reduction-grown, total-reads, total-writes, element-reads, target-reads, target-writes}
 use Rattle.row_translation.specs.Laws.Kinds.{ReduceTerm, reduce-term}
 use Rattle.row_translation.specs.Laws.Variables.{variables-two}
 use Rattle.row_translation.specs.Laws.Operands.{type-here, type-array, stands-round}
 use Rattle.clauses.specs.declared.State.{State}
 use Rattle.clauses.specs.declared.Translated.{Translated}
 
--- ---- the rows: as far as the body, those of the body, and behind it
+-- ---- the rows: as far as the body, those of the body, and behind it; `direct` says whether the total is a number
 
-around-body : (t : DataType) (n : ℕ) (Z : Expression) (c r : ℕ) (B L : List Row) (o : Table)
-    → putRows L (putRows B (enteredRows t n Z c r o))
+-- the rows B of the body and L behind it, in a round
+abbrev roundRows : Bool → DataType → List Row → List Row → List Row
+roundRows direct t B L = cond direct B ((word-new, pos (cells t)) ∷ (word-seq, pos 0) ∷ (B ++ L))
+
+put-round : (direct : Bool) (t : DataType) (B L : List Row) (o : Table)
+    → cond direct (putRows B (cond direct o (regionRows t o))) (putRows L (putRows B (cond direct o (regionRows t o))))
+    ≡ putRows (roundRows direct t B L) o
+unfolding putRows
+put-round true t B L o = refl
+put-round false t B L o = sym (put-append B L (regionRows t o))
+
+around-body : (t : DataType) (n : ℕ) (Z E : Expression) (c r : ℕ) (B : List Row) (o : Table)
+    → leftRows t E (Acceptor.region r t) c r (putRows B (enteredRows t n Z c r o))
     ≡ putRows
     ((word-new, pos (cells t))
     ∷ (word-seq, pos 0)
     ∷ (commandRows (assign t Z (Acceptor.region r t) c (r + 1))
-    ++ ((word-seq, pos 0) ∷ (word-for, pos n) ∷ (word-new, pos (cells t)) ∷ (word-seq, pos 0) ∷ (B ++ L)))) o
+    ++ ((word-seq, pos 0)
+    ∷ (word-for, pos n)
+    ∷ roundRows (isNumber t) t B (commandRows (assign t E (Acceptor.region r t) (c + 1) (r + 2)))))) o
 unfolding putRows
-around-body t n Z c r B L o =
-    sym (put-append B L (enteredRows t n Z c r o))
+around-body t n Z E c r B o =
+    put-round (isNumber t) t B (commandRows (assign t E (Acceptor.region r t) (c + 1) (r + 2))) _
     ∙ sym (put-append (commandRows (assign t Z (Acceptor.region r t) c (r + 1))) _ (regionRows t o))
+
+-- they are a round's
+round-rows : (direct : Bool) (e t : DataType) (writeB : Write) (Γ : List DataType) (Δ : List Expression) (c r : ℕ) (A : Expression)
+    → (g : ℕ) → g ≡ cond direct r (r + 1)
+    → roundRows direct t
+    (commandRows (writeB (t ∷ e ∷ Γ) (Expression.region r t ∷ Expression.index A (Offset.counter c) ∷ Δ) (c + 1) (g + 1) (Acceptor.region g t)))
+    (commandRows (assign t (Expression.region g t) (Acceptor.region r t) (c + 1) (r + 2)))
+    ≡ commandRows (cond direct (bodyInto e t writeB Γ Δ c r A r) (roundByNext e t writeB Γ Δ c r A))
+unfolding commandRows
+round-rows true e t writeB Γ Δ c r A g eg = rw (eg, add-one r, add-one c) refl
+round-rows false e t writeB Γ Δ c r A g eg =
+    let r2 : r + 2 ≡ suc (suc r) = omega arith in
+    let g1 : g ≡ suc r = eg ∙ add-one r in
+    rw (g1, r2, add-one c, add-one (suc r)) refl
 
 -- the rows of a reduction, as they are put
 reduction-rows : (I : List DataType) (z a b : Term) (Γ : List DataType) (Δ : List Expression) (c r : ℕ) (A Z : Expression) (o : Table)
     → (t : DataType) → t ≡ typeOf I Γ z → (n : ℕ) → n ≡ arrayLength (typeOf I Γ a)
-    → putRows (commandRows (assign t (Expression.region (r + 1) t) (Acceptor.region r t) (c + 1) (r + 2)))
-    (putRows (commandRows (writeTerm I b (t ∷ element (typeOf I Γ a) ∷ Γ) (Expression.region r t ∷ Expression.index A (Offset.counter c) ∷ Δ) (c + 1) (r + 2) (Acceptor.region (r + 1) t)))
+    → leftRows t (Expression.region (bodyRegion t r) t) (Acceptor.region r t) c r
+    (putRows
+    (commandRows
+    (writeTerm I b (t ∷ element (typeOf I Γ a) ∷ Γ) (Expression.region r t ∷ Expression.index A (Offset.counter c) ∷ Δ) (c + 1) (bodyRegion t r + 1)
+    (Acceptor.region (bodyRegion t r) t)))
     (enteredRows t n Z c r o))
     ≡ putRows (reduceRows I z a b Γ Δ c r A Z) o
 unfolding reduceRows commandRows
 reduction-rows I z a b Γ Δ c r A Z o t et n en =
-    let r1 : r + 1 ≡ suc r = add-one r in
-    let r2 : r + 2 ≡ suc (suc r) = omega arith in
-    let c1 : c + 1 ≡ suc c = add-one c in
-    around-body t n Z c r _ _ o
-    ∙ rw (et, en, r1, r2, c1) refl
+    around-body t n Z _ c r _ o
+    ∙ ap
+    (λ (l : List Row).
+    putRows
+    ((word-new, pos (cells t))
+    ∷ (word-seq, pos 0)
+    ∷ (commandRows (assign t Z (Acceptor.region r t) c (r + 1)) ++ ((word-seq, pos 0) ∷ (word-for, pos n) ∷ l))) o)
+    (round-rows (isNumber t) (element (typeOf I Γ a)) t (writeTerm I b) Γ Δ c r A (bodyRegion t r) refl)
+    ∙ rw (et, en, add-one r) refl
 
 module _ (Y : List ℕ) (N : List ℤ) (I Γ : List DataType) (Δ : List Expression) (s : State) (T : List ℕ) (e : Term) (ks : List ℕ) (ns : List ℤ) (C : List ℕ)
     (S : Stands ks ns C Y N T s I Γ Δ e) (k p : ℕ) (ek : k ≡ getD ks 0 0) (hk : k ≡ word-redseq) (ep : p ≡ getD C 0 0) (hy : length Y ≤ 65536)
     (U W X : List ℕ) (o : Table) (K K₁ : List ℕ) (M M₁ : List ℤ) (array : Translated) (s₁ : State) (start : Translated) (s₂ : State)
     (A : Used Y N I Γ Δ (secondOperand e) s T U o (table K M (array .to)) array) (G : AfterUse s array s₁)
     (B : Used Y N I Γ Δ (firstOperand e) s₁ U W (table K M (s₁ .to)) (table K₁ M₁ (start .to)) start)
-    (H : ReductionEntered W X p (array .value) s start s₂) (hl : start .len + 3 ≤ 4096) (hr : start .regions < 65535) (hc : s .counters < 65536) where
+    (H : ReductionEntered W X p (array .value) (bodyRegion (typeAt Y p) (start .regions)) s start s₂) (hl : start .len + 3 ≤ 4096) (hr : start .regions < 65535)
+    (hc : s .counters < 65536) where
+  -- the region that its body is written into
+  abbrev region : ℕ
+  region = bodyRegion (typeAt Y p) (start .regions)
+
   reduction : ReduceTerm I e
   reduction = reduce-term I e (sym (ek ∙ its-kind ks ns (length I) (length Γ) e (S .rows)) ∙ hk)
 
@@ -101,7 +141,7 @@ module _ (Y : List ℕ) (N : List ℤ) (I Γ : List DataType) (Δ : List Express
   nodes-put : Grown W X (start .len)
   nodes-put =
       grown-more W (H .begun .between) X (start .len) (start .len + 3) (omega arith)
-      (reduction-grown W (H .begun .between) p (array .value) (s .counters) (start .regions) (start .len) (H .begun .nodes)) (H .begun .grown)
+      (reduction-grown W (H .begun .between) p (array .value) (s .counters) (start .regions) region (start .len) (H .begun .nodes)) (H .begun .grown)
 
   inside : Grown T X (s .len)
   inside = grown-more T W X (s .len) (start .len) (omega (arith, A .more, G .len, B .more)) before nodes-put
@@ -115,13 +155,13 @@ module _ (Y : List ℕ) (N : List ℤ) (I Γ : List DataType) (Δ : List Express
   its-total : expressionAt Y N X (start .len) ≡ totalUsed
   its-total =
       reads-on (H .begun .between) X (start .len + 3) (start .len) (omega arith) (H .begun .grown) Y N
-      ∙ total-reads W (H .begun .between) p (array .value) (s .counters) (start .regions) (start .len) (H .begun .nodes) hl some-node few-types array-below hc hr Y N
+      ∙ total-reads W (H .begun .between) p (array .value) (s .counters) (start .regions) region (start .len) (H .begun .nodes) hl some-node few-types array-below hc (omega arith) Y N
       ∙ ap (Expression.region (start .regions)) its-type
 
   its-element : expressionAt Y N X (start .len + 1) ≡ Expression.index arrayUsed (Offset.counter (s .counters))
   its-element =
       reads-on (H .begun .between) X (start .len + 3) (start .len + 1) (omega arith) (H .begun .grown) Y N
-      ∙ element-reads W (H .begun .between) p (array .value) (s .counters) (start .regions) (start .len) (H .begun .nodes) hl some-node few-types array-below hc hr Y N
+      ∙ element-reads W (H .begun .between) p (array .value) (s .counters) (start .regions) region (start .len) (H .begun .nodes) hl some-node few-types array-below hc (omega arith) Y N
       ∙ ap (λ (E : Expression). Expression.index E (Offset.counter (s .counters))) its-array
 
   -- what its body is given, behind the a rows of its start
@@ -154,21 +194,22 @@ module _ (Y : List ℕ) (N : List ℤ) (I Γ : List DataType) (Δ : List Express
         let tot : ℕ = start .len in
         let eg₁ : s₁ .regions ≡ s .regions + regionsOpened f = G .regions ∙ A .regions in
         let eg : g ≡ s .regions + regionsOpened f + regionsOpened z = B .regions ∙ ap (λ (i : ℕ). i + regionsOpened z) eg₁ in
-        let N₀ : ReductionPushed W (H .begun .between) p (array .value) c g tot = H .begun .nodes in
+        let N₀ : ReductionPushed W (H .begun .between) p (array .value) c g region tot = H .begun .nodes in
+        let few : region < 65536 = omega (arith, body-region-few (typeAt Y p) g) in
         let hs : tot + 3 ≤ s₂ .len = omega (arith, H .round .len) in
         let kept : Grown (H .begun .between) Z (tot + 3) = grown-more (H .begun .between) X Z (tot + 3) (s₂ .len) hs (H .begun .grown) (D .grown) in
         let eT : acceptorAt Y Z tot ≡ Acceptor.region g t
         = writes-on (H .begun .between) Z (tot + 3) tot (omega arith) kept Y
-        ∙ total-writes W (H .begun .between) p (array .value) c g tot N₀ hl some-node few-types array-below hc hr Y
+        ∙ total-writes W (H .begun .between) p (array .value) c g region tot N₀ hl some-node few-types array-below hc (omega arith) Y
         ∙ ap (Acceptor.region g) its-type in
-        let eN : expressionAt Y N Z (tot + 2) ≡ Expression.region (g + 1) t
+        let eN : expressionAt Y N Z (tot + 2) ≡ Expression.region (bodyRegion t g) t
         = reads-on (H .begun .between) Z (tot + 3) (tot + 2) (omega arith) kept Y N
-        ∙ next-reads W (H .begun .between) p (array .value) c g tot N₀ hl some-node few-types array-below hc hr Y N
-        ∙ ap (Expression.region (g + 1)) its-type in
-        let eP : acceptorAt Y X (tot + 2) ≡ Acceptor.region (g + 1) t
+        ∙ target-reads W (H .begun .between) p (array .value) c g region tot N₀ hl some-node few-types array-below hc (omega arith) Y few N
+        ∙ ap (λ (u : DataType). Expression.region (bodyRegion u g) u) its-type in
+        let eP : acceptorAt Y X (tot + 2) ≡ Acceptor.region (bodyRegion t g) t
         = writes-on (H .begun .between) X (tot + 3) (tot + 2) (omega arith) (H .begun .grown) Y
-        ∙ next-writes W (H .begun .between) p (array .value) c g tot N₀ hl some-node few-types array-below hc hr Y
-        ∙ ap (Acceptor.region (g + 1)) its-type in
+        ∙ target-writes W (H .begun .between) p (array .value) c g region tot N₀ hl some-node few-types array-below hc (omega arith) Y few
+        ∙ ap (λ (u : DataType). Acceptor.region (bodyRegion u g) u) its-type in
         let eV : expressionAt Y N Q tot ≡ totalUsed
         = reads-on Z Q (body .len) tot (omega (arith, D .more, hs)) (L .grown) Y N
         ∙ reads-on X Z (s₂ .len) tot (omega (arith, hs)) (D .grown) Y N
@@ -183,15 +224,18 @@ module _ (Y : List ℕ) (N : List ℤ) (I Γ : List DataType) (Δ : List Express
         = q₁
         ∙ ap₂ (λ (u : DataType) (E : Expression). enteredRows u n E c g (table K₁ M₁ (start .to))) its-type its-start
         ∙ ap (enteredRows t n startUsed c g) o₁ in
-        let o₃ : table K₃ M₃ (body .to) ≡ putRows (commandRows (writeTerm I b Γ′ Δ′ (c + 1) (g + 2) (Acceptor.region (g + 1) t))) (enteredRows t n startUsed c g (putRows y (putRows x o)))
+        let o₃ : table K₃ M₃ (body .to)
+        ≡ putRows (commandRows (writeTerm I b Γ′ Δ′ (c + 1) (bodyRegion t g + 1) (Acceptor.region (bodyRegion t g) t)))
+        (enteredRows t n startUsed c g (putRows y (putRows x o)))
         = D .rows
-        ∙ ap₂ (λ (i j : ℕ). putRows (commandRows (writeTerm I b Γ′ Δ′ i j (acceptorAt Y X (tot + 2)))) (table K₂ M₂ (s₂ .to))) (H .round .counters) (H .round .regions)
-        ∙ ap₂ (λ (P : Acceptor) (u : Table). putRows (commandRows (writeTerm I b Γ′ Δ′ (c + 1) (g + 2) P)) u) eP o₂ in
+        ∙ ap₂ (λ (i j : ℕ). putRows (commandRows (writeTerm I b Γ′ Δ′ i j (acceptorAt Y X (tot + 2)))) (table K₂ M₂ (s₂ .to))) (H .round .counters)
+        (H .round .regions ∙ ap (λ (u : DataType). bodyRegion u g + 1) its-type)
+        ∙ ap₂ (λ (P : Acceptor) (u : Table). putRows (commandRows (writeTerm I b Γ′ Δ′ (c + 1) (bodyRegion t g + 1) P)) u) eP o₂ in
         let o₄ : table K₄ M₄ (r .to) ≡ putRows (reduceRows I z f b Γ Δ c g arrayUsed startUsed) (putRows y (putRows x o))
         = q₂
         ∙ ap (λ (u : DataType). leftRows u (expressionAt Y N Z (tot + 2)) (acceptorAt Y Z tot) c g (table K₃ M₃ (body .to))) its-type
         ∙ ap₂ (λ (E : Expression) (P : Acceptor). leftRows t E P c g (table K₃ M₃ (body .to))) eN eT
-        ∙ ap (leftRows t (Expression.region (g + 1) t) (Acceptor.region g t) c g) o₃
+        ∙ ap (leftRows t (Expression.region (bodyRegion t g) t) (Acceptor.region g t) c g) o₃
         ∙ reduction-rows I z f b Γ Δ c g arrayUsed startUsed (putRows y (putRows x o)) t refl n
         (en ∙ ap arrayLength (type-array ks ns C Y N T s I Γ Δ e S (reduction .count) a ea (reduction .opens) .1)) in
         record {

@@ -5,10 +5,11 @@ use mathlib.Core.Logic.{_↔_}
 use Prim.Native.Nat.{ℕ, _*_, _/_, _≤_, _<_}
 use native.Mathlib.Nat.{mul-div-cancel}
 use lib.Dec.{T, eqb, ltb, leb, eqb→eq, eqb-refl, ltb→lt, lt→ltb, leb→le, le→leb}
+use lib.Ieee.Bits.{is-true}
 use lib.Ieee.Fits.{and-i, and-l, and-r}
-use Rattle.meaning.specs.Types.{DataType, number, array, cells, levels, arrayLength, element}
-use Rattle.meaning.specs.Laws.Typing.{IsArray, IsPair}
-use Rattle.typing.specs.Check.{isNumber, isArray, isPair, sameType, zipFits, splitFits, joinFits, indexFits, inLimits}
+use Rattle.meaning.specs.Types.{DataType, number, array, cells, levels, arrayLength, element, isNumber}
+use Rattle.meaning.specs.Laws.Typing.{IsArray, IsPair, number-told}
+use Rattle.typing.specs.Check.{isArray, isPair, sameType, zipFits, splitFits, joinFits, indexFits, inLimits}
 
 -- a test answers "yes" exactly when a fact holds
 pub record Tells (test : Bool) (fact : Type 0) : Type 0 where
@@ -34,12 +35,10 @@ within-tells m n = record { holds = leb→le m n; passes = le→leb m n }
 -- ---- types
 
 pub number-tells : (t : DataType) → Tells (isNumber t) (t ≡ number)
-number-tells t = record { holds = is t; passes = λ e. subst (λ (s : DataType). T (isNumber s)) (sym e) tt }
-  where
-    is : (s : DataType) → T (isNumber s) → s ≡ number
-    is number h = refl
-    is (array n s) h = absurd h
-    is (DataType.pair r s) h = absurd h
+number-tells t = record {
+  holds = λ h. number-told t (is-true (isNumber t) h);
+  passes = λ e. subst (λ (s : DataType). T (isNumber s)) (sym e) tt;
+}
 
 pub array-tells : (t : DataType) → Tells (isArray t) (IsArray t)
 array-tells t = record { holds = is t; passes = λ e. subst (λ (s : DataType). T (isArray s)) (sym e) tt }

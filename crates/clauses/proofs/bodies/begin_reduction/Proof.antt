@@ -17,11 +17,11 @@ put-assign-requires c κs =
           (arith, l, entry .pre .4),
       omega (arith, l, entry .pre .5),
       c .before .before .before .before .before .before .before .before .push-reduction .ensures
-          .next .grown .size,
+          .target .grown .size,
     )
 
-put-region-requires-2 : tie.Need-put-region-requires-2
-put-region-requires-2 c κs =
+put-next-region-requires : tie.Need-put-next-region-requires
+put-next-region-requires c κs =
     let entry = c .before .before .before .before .before .before .before .before .before .before .before
     .before .before .before .before .before .before .before .before .before in
     (entry .pre .0, entry .pre .1)
@@ -38,17 +38,17 @@ returns c =
       reduction-put
           (entry .args .types .now) (entry .args .plan .now) (entry .args .references .now) _ (entry .args .place)
           (entry .args .array) (entry .args .start .value) (entry .args .counters) (entry .args .start .regions)
-          (entry .args .start .len) (entry .args .rounds) (at-push-reduction .ensures) (omega (arith, entry .pre .4))
+          (entry .args .region) (entry .args .start .len) (entry .args .rounds) (at-push-reduction .ensures) (omega (arith, entry .pre .4))
           (omega (arith, entry .pre .0 .few, entry .pre .1)) (entry .pre .2) (entry .pre .3)
           (omega (arith, entry .pre .5)) (omega (arith, entry .pre .6)) _ _ _ _ _ _
           (c .before .before .before .before .before .before .before .before .before .before .before
           .before .before .before .before .put-region .ensures) (at-put-assign .ensures .0)
           (c .before .before .before .before .before .before .put-count .ensures)
-          (c .before .before .before .put-count2 .ensures) (c .put-region2 .ensures),
+          (c .before .before .before .put-count2 .ensures) (c .put-next-region .ensures),
     )
 
 pub begin-reduction-spec : {M : Type 1} → statement M
 begin-reduction-spec =
     tie.close
     (tie.spec (λ c κs. search needs) (λ c κs. search needs) (λ c. search needs) (λ c. search needs) put-assign-requires
-    (λ c κs. search needs) (λ c κs. search needs) put-region-requires-2 returns)
+    (λ c κs. search needs) (λ c κs. search needs) put-next-region-requires returns)

@@ -1,4 +1,5 @@
 -- `negate` meets its contract: its operand is a number.
+use mathlib.Core.Path.{sym, _∙_}
 use native.Mathlib.Omega.{arith}
 use borrow.Author.Needs.{needs}
 use Rattle.type_rules.proofs.RuleLaws.{negate-no, negate-yes}
@@ -15,11 +16,11 @@ returns c =
     let entry = c .before .before .before in
     found-type (entry .args .types .now) (entry .args .len) (entry .args .len) (entry .args .rows) _
     (entry .args .place) (entry .pre .0 .sound) (entry .pre .1) (omega arith) (negate-yes (entry .args .line) _
-    (c .before .is-number .ensures .0 (c .if1 .taken)))
+    (sym (c .before .is-number .ensures) ∙ c .if1 .taken))
 
 returns-2 : tie.Need-returns-2
 returns-2 c = found-no _ _ _ _ _ _ (c .misfit .ensures) (negate-no (c .before .before .before .before .args .line) _
-    (c .before .before .is-number .ensures .1 (c .before .if1 .left)))
+    (sym (c .before .before .is-number .ensures) ∙ c .before .if1 .left))
 
 pub negate-spec : {M : Type 1} → statement M
 negate-spec = tie.close (tie.spec is-number-requires returns (λ c κs. search needs) returns-2)
