@@ -6,7 +6,6 @@ ghost use Rattle.meaning.specs.Types.{isNumber};
 ghost use Rattle.type_table.specs.Table.{typeAt, Sound};
 ghost use Rattle.emission.specs.Table.{table};
 ghost use Rattle.emission.specs.References.{expressionAt, acceptorAt};
-ghost use Rattle.emission.specs.Growth.{Grown};
 ghost use Rattle.clauses.specs.Clauses.{mapLoop, mapRows, bodyRegion, nextRows, enteredRows, leftRows, MapEntered, ReductionPushed, ReductionBegun, InRound, ReductionEntered, ReductionLeft};
 use crate::State;
 use crate::Translated;
@@ -252,49 +251,8 @@ pub fn enter_reduction(
     in_round(state, start, region, to)
 }
 
-// [6.14] The rows by which next, node `total + 2`, is assigned to the total, node `total`: none for a number. Nodes from `len` on are
-// free.
-fn put_next_assign(
-    types: &[u64],
-    plan: &[i32],
-    references: &mut [u64; 4096],
-    outkinds: &mut [u8; 4096],
-    outnumbers: &mut [i32; 4096],
-    place: usize,
-    total: usize,
-    counters: u16,
-    regions: u16,
-    len: usize,
-    to: usize,
-) -> usize
-    requires { ⌜ Sound (now types) (length (now types)) × (place < length (now types)) × (total + 2 < len) × (len + 16 ≤ 4096)
-        × (counters + 9 < 65536) × (regions + 2 < 65536) × (length (now references) ≡ 4096) ⌝ }
-    ensures rows { λ r. ⌜ table (now (outkinds .exit)) (now (outnumbers .exit)) r
-        ≡ leftRows (typeAt (now (types .entry)) place) (expressionAt (now (types .entry)) (now (plan .entry))
-        (now (references .entry)) (total + 2)) (acceptorAt (now (types .entry)) (now (references .entry)) total)
-        counters regions (table (now (outkinds .entry)) (now (outnumbers .entry)) to) ⌝ }
-    ensures grown { λ _. ⌜ Grown (now (references .entry)) (now (references .exit)) len ⌝ }
-{
-    if total_is_number(types, place) {
-        return to;
-    }
-    put_assign(
-        types,
-        plan,
-        references,
-        outkinds,
-        outnumbers,
-        place,
-        total + 2,
-        total,
-        counters + 1,
-        regions + 2,
-        len,
-        to,
-    )
-}
-
-// [6.14] Out of it: the total, node `total`, is what is read of the reduction.
+// [6.14] Out of it: next, node `total + 2`, is assigned to the total, node `total`, unless that is a number, which stands there already. The
+// total is what is read of the reduction.
 pub fn leave_reduction(
     types: &[u64],
     plan: &[i32],
@@ -316,16 +274,26 @@ pub fn leave_reduction(
         (now (references .entry)) (total + 2)) (acceptorAt (now (types .entry)) (now (references .entry)) total)
         counters regions (table (now (outkinds .entry)) (now (outnumbers .entry)) (body .to)) ⌝ }
 {
-    let to = put_next_assign(
+    if total_is_number(types, place) {
+        return Translated {
+            rows: rows + body.rows,
+            value: total,
+            regions: regions + 1,
+            len: body.len,
+            to: body.to,
+        };
+    }
+    let to = put_assign(
         types,
         plan,
         references,
         outkinds,
         outnumbers,
         place,
+        total + 2,
         total,
-        counters,
-        regions,
+        counters + 1,
+        regions + 2,
         body.len,
         body.to,
     );
