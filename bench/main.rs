@@ -1,5 +1,7 @@
 // The run of the static library beside a plain interpreter in Rust, on the loops of five plans of five to ten million writes: nanoseconds for
 // each write, the least of several turns. Then the check of the longest plan, in the built-in words and in German: microseconds for each check.
+// Last the longest loops, read into a table, and the longest texts, read and refused, with words that stand early and late in the table of
+// words: microseconds for each.
 use std::time::Instant;
 
 mod interpreter;
@@ -9,12 +11,22 @@ extern "C" {
     fn vazhdumir_check_plan(plan: *const u8, plan_len: usize) -> u64;
     fn vazhdumir_check_plan_in(words: *const u8, words_len: usize, plan: *const u8, plan_len: usize) -> u64;
     fn vazhdumir_translate(plan: *const u8, plan_len: usize, loops: *mut u8, loops_len: usize) -> u64;
+    fn vazhdumir_read_loops(
+        loops: *const u8,
+        loops_len: usize,
+        kinds: *mut u8,
+        kinds_len: usize,
+        numbers: *mut i32,
+        numbers_len: usize,
+    ) -> u64;
     fn vazhdumir_need(loops: *const u8, loops_len: usize) -> u64;
     fn vazhdumir_run(loops: *const u8, loops_len: usize, order: u32, store: *mut u8, store_len: usize) -> u64;
 }
 
 const TURNS: usize = 5;
 const CHECKS: usize = 10_000;
+const READS: usize = 1_000;
+const ROWS: usize = 4096;
 
 const GERMAN: &str = include_str!("../examples/german.words");
 
@@ -73,6 +85,47 @@ fn checks(begin: Instant) {
     println!("check of a plan of {} lines: {built_in:.1} microseconds, in German words {worded:.1}", plain.lines().count());
 }
 
+// The longest loops that are accepted in the built-in words: one `set` of a sum of the longest numbers. An `add` and a
+// `lit` have 22 bytes together, and no other two rows that may be repeated have more.
+fn longest_loops() -> String {
+    let sums = (ROWS - 6) / 2;
+    let value = format!("{}{}", "add,0\n".repeat(sums), "lit,-2147483648\n".repeat(sums + 1));
+    format!("loops,0\ncells,4096\nset,0\nout,0\nlit,4095\n{value}")
+}
+
+// Loops of as many rows: one `set`, whose offset is made of words that stand last in the table. It is 0, whatever they do to it.
+fn last_words() -> String {
+    let offset: String = ["times,4096\n", "over,4096\n", "rest,4096\n"].into_iter().cycle().take(ROWS - 6).collect();
+    format!("loops,0\ncells,4096\nset,0\nout,0\n{offset}lit,0\nlit,-2147483648\n")
+}
+
+// The microseconds in which a text is read into a table, or refused once it has been read: the least of several turns.
+fn read(begin: Instant, loops: &str, answer: u64) -> f64 {
+    let (mut kinds, mut numbers) = (vec![0u8; ROWS], vec![0i32; ROWS]);
+    let (k, n) = (kinds.as_mut_ptr(), numbers.as_mut_ptr());
+    let turn = || {
+        let before = clock(begin);
+        (0..READS).for_each(|_| assert_eq!(unsafe { vazhdumir_read_loops(loops.as_ptr(), loops.len(), k, ROWS, n, ROWS) }, answer));
+        (clock(begin) - before) / (1000 * READS) as f64
+    };
+    (0..TURNS).map(|_| turn()).fold(f64::MAX, f64::min)
+}
+
+// A text of 65,536 bytes passes questions 1 to 3, for which it is read, and is refused by 4 on its first line.
+fn reads(begin: Instant) {
+    let (put, refused) = (ROWS as u64, 4 << 56 | 1);
+    let texts = [
+        ("longest loops", longest_loops(), put),
+        ("loops of the last words", last_words(), put),
+        ("longest text, of `lit`", "lit,-2147483648\n".repeat(ROWS), refused),
+        ("longest text, of `rest`", "rest,2147483647\n".repeat(ROWS), refused),
+    ];
+    println!("{:24} {:>6} {:>6} {:>13}", "reading", "lines", "bytes", "microseconds");
+    for (name, text, answer) in texts {
+        println!("{name:24} {:>6} {:>6} {:>13.1}", text.lines().count(), text.len(), read(begin, &text, answer));
+    }
+}
+
 fn main() {
     let begin = Instant::now();
     println!("{:22} {:>10} {:>8} {:>8} {:>6}", "plan", "writes", "ours", "plain", "ratio");
@@ -97,4 +150,5 @@ fn main() {
         println!("{name:22} {writes:>10} {ours:>8.1} {beside:>8.1} {:>6.2}", ours / beside);
     }
     checks(begin);
+    reads(begin);
 }

@@ -77,6 +77,11 @@ enum vazhdumir_kind {
 static inline unsigned vazhdumir_refusal(uint64_t answer) { return (unsigned)(answer >> 56); }
 static inline uint64_t vazhdumir_value(uint64_t answer) { return answer & 0x00ffffffffffffffu; }
 
+/* The two halves of the value of a search [17.4], of an answer that is no refusal: how many rows were compared, and whether the word is listed
+ * (1 or 0). */
+static inline unsigned vazhdumir_compared(uint64_t answer) { return (unsigned)(answer & 0xffffu); }
+static inline unsigned vazhdumir_listed(uint64_t answer) { return (unsigned)(answer >> 16 & 1u); }
+
 /* Checks a plan's text: questions 1 to 8. Value: 0. */
 uint64_t vazhdumir_check_plan(const uint8_t *plan, size_t plan_len);
 
@@ -103,8 +108,14 @@ uint64_t vazhdumir_run(const uint8_t *loops, size_t loops_len, uint32_t order, u
 uint64_t vazhdumir_run_rows(const uint8_t *kinds, size_t kinds_len, const int32_t *numbers, size_t numbers_len, uint32_t order,
                             uint8_t *store, size_t store_len);
 
+/* Searches the table of words for the word with these bytes, from the first row on and no further than the word [17.1]. It asks no question.
+ * Value: how many rows were compared (`vazhdumir_compared`), and 65,536 more where the word is listed (`vazhdumir_listed`) [17.4]. A listed
+ * word's kind is one less than the rows compared; a word that is not listed was compared with all 38 [17.2]. */
+uint64_t vazhdumir_look_up(const uint8_t *word, size_t word_len);
+
 /* The same entries for texts in the words of a words text [16.7]: questions 16 and 17, then those of the entry without `_in`. Values and
- * lent slices are as there; the bytes of loops are counted in the own words, and 65,536 are still enough [16.9]. */
+ * lent slices are as there; the bytes of loops are counted in the own words, and 65,536 are still enough [16.9]. The search goes down the own
+ * words, in the order of their lines. */
 uint64_t vazhdumir_check_plan_in(const uint8_t *words, size_t words_len, const uint8_t *plan, size_t plan_len);
 
 uint64_t vazhdumir_translate_in(const uint8_t *words, size_t words_len, const uint8_t *plan, size_t plan_len, uint8_t *loops,
@@ -119,6 +130,8 @@ uint64_t vazhdumir_need_in(const uint8_t *words, size_t words_len, const uint8_t
 
 uint64_t vazhdumir_run_in(const uint8_t *words, size_t words_len, const uint8_t *loops, size_t loops_len, uint32_t order, uint8_t *store,
                           size_t store_len);
+
+uint64_t vazhdumir_look_up_in(const uint8_t *words, size_t words_len, const uint8_t *word, size_t word_len);
 
 #ifdef __cplusplus
 }

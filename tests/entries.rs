@@ -24,6 +24,7 @@ extern "C" {
         store: *mut u8,
         store_len: usize,
     ) -> u64;
+    fn vazhdumir_look_up(word: *const u8, word_len: usize) -> u64;
     fn vazhdumir_check_plan_in(words: *const u8, words_len: usize, plan: *const u8, plan_len: usize) -> u64;
     fn vazhdumir_translate_in(
         words: *const u8,
@@ -54,9 +55,10 @@ extern "C" {
         store: *mut u8,
         store_len: usize,
     ) -> u64;
+    fn vazhdumir_look_up_in(words: *const u8, words_len: usize, word: *const u8, word_len: usize) -> u64;
 }
 
-// [12.2] The refusal, or the value.
+// [12.2] The refusal, or the value; no two answers are said alike.
 fn said(answer: u64) -> String {
     match answer >> 56 {
         0 => answer.to_string(),
@@ -143,4 +145,11 @@ pub fn run_in(words: Option<&[u8]>, loops: &[u8], order: u32, store: &mut [u8]) 
 
 pub fn run_rows(kinds: &[u8], numbers: &[i32], order: u32, store: &mut [u8]) -> String {
     said(unsafe { vazhdumir_run_rows(at(kinds), kinds.len(), at(numbers), numbers.len(), order, at_mut(store), store.len()) })
+}
+
+pub fn look_up_in(words: Option<&[u8]>, word: &[u8]) -> String {
+    said(match words {
+        None => unsafe { vazhdumir_look_up(at(word), word.len()) },
+        Some(words) => unsafe { vazhdumir_look_up_in(at(words), words.len(), at(word), word.len()) },
+    })
 }

@@ -16,6 +16,8 @@
 //   run        vazhdumir_run, and vazhdumir_read_loops with vazhdumir_run_rows
 //   fill       the runner, of loops that copy the input cells to the output
 //   runner     the runner
+//   look up    vazhdumir_look_up, and vazhdumir_look_up_in with the built-in words for themselves; where words are given, the latter
+//              with these
 // Of a words text, the check asks every entry that takes one, and both programs, with a plan and loops in those words. Where words are
 // given beside a plan or loops, the entries that take them answer ([16.7]), and the programs with that `words.txt` ([16.8]).
 use std::collections::BTreeMap;
@@ -53,6 +55,13 @@ impl Example {
 
     fn text(&self, name: &str) -> Vec<u8> {
         text(self.given(name).unwrap())
+    }
+
+    // The word to be searched for: no byte 10 ends it.
+    fn word(&self) -> Vec<u8> {
+        let mut bytes = line(self.given("word").unwrap());
+        bytes.pop();
+        bytes
     }
 
     // The words text, if one is given.
@@ -271,6 +280,7 @@ fn check_words(words: &[u8]) -> String {
         entries::read_loops_in(words, &loops, &mut [0; 6], &mut [0; 6]),
         entries::need_in(words, &loops),
         entries::run_in(words, &loops, 0, &mut [0; 4]),
+        entries::look_up_in(words, b"plan"),
     ];
     alike(answers.map(accepted).to_vec())
 }
@@ -281,12 +291,28 @@ fn check_loops(words: Option<&[u8]>, loops: &[u8]) -> String {
     alike(vec![accepted(entries::check_loops_in(words, loops)), accepted(entries::need_in(words, loops)), read])
 }
 
+// [17.4] What the number told of a search means: the kind is one less than the rows compared.
+fn searched(answer: String) -> String {
+    match answer.parse::<i64>() {
+        Err(_) => answer,
+        Ok(number) if number >= 65536 => format!("row {}, compared {}", number - 65536 - 1, number - 65536),
+        Ok(number) => format!("none, compared {number}"),
+    }
+}
+
+// A word, searched for among the own words, or by both entries among the built-in ones.
+fn look_up(words: Option<&[u8]>, word: &[u8]) -> String {
+    let by = |words: Option<&[u8]>| searched(entries::look_up_in(words, word));
+    if words.is_some() { by(words) } else { alike(vec![by(None), by(words_text("").as_deref())]) }
+}
+
 fn library(example: &Example) -> Option<String> {
     let either = |answer: Result<String, String>| answer.unwrap_or_else(|refusal| refusal);
     let words = example.words();
     let words = words.as_deref();
     Some(match example.question() {
         ("words", "check") => check_words(words.unwrap()),
+        ("word", "look up") => look_up(words, &example.word()),
         ("plan", "check") => accepted(entries::check_plan_in(words, &example.text("plan"))),
         ("plan", "read") => Some(entries::check_plan_in(words, &example.text("plan"))).filter(|answer| refused(answer))?,
         ("plan", "translate") => on_one_line(&either(translate(words, example))),
@@ -389,14 +415,18 @@ fn second(example: &Example) -> String {
     let words = words.as_deref();
     let reply = |question: &[&str]| {
         let question: Vec<String> = question.iter().map(|word| word.to_string()).collect();
-        let text = if of == "words" { Vec::new() } else { example.text(of) };
+        let text = match of {
+            "words" => Vec::new(),
+            "word" => example.word(),
+            _ => example.text(of),
+        };
         on_one_line(reference::reply_in(words, &question, &text).trim_start_matches("ok "))
     };
     match asked {
         "check" => reply(&[of]),
         "read" => reply(&["read", &given("lent rows")]),
         "translate" if example.given("lent rows").is_some() => reply(&["tr", &given("lent rows"), &given("lent bytes")]),
-        "translate" | "count" | "need" => reply(&[asked]),
+        "translate" | "count" | "need" | "look up" => reply(&[asked]),
         "command" => command(&reply(&["translate"])),
         "value" => reply(&["value", &given("inputs")]),
         "run" => ran(example, |loops, order, store| reference::run_text_in(words, loops, order, store)),

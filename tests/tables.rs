@@ -203,6 +203,9 @@ fn null_texts(words: Option<&[u8]>, tally: &mut Tally) {
             same("read_loops", found, reference::read_loops_in(words, loops, &mut vec![0; k], &mut vec![0; n]));
         }
     }
+    for word in [&b""[..], b"rest"] {
+        same("look_up", entries::look_up_in(words, word), reference::look_up_in(words, word));
+    }
 }
 
 fn null_runs(words: Option<&[u8]>, order: u32, tally: &mut Tally) {

@@ -1,7 +1,8 @@
-// Random words texts, whole and damaged in every way, beside the second implementation: each is put to the six entries for C that take
+// Random words texts, whole and damaged in every way, beside the second implementation: each is put to the seven entries for C that take
 // one ([16.7]), with plans and loops in its words, whole and damaged. What is lent lies inside a longer slice; all of it, margins
 // included, is compared with what the second implementation leaves there, which on a refusal is what was lent ([10.17]). The plain
-// entries are asked of the same texts, and answer in the built-in words.
+// entries are asked of the same texts, and answer in the built-in words. Each word of the built-in words, of German ones and of every
+// random words text is searched for, as it is and changed ([17.1]).
 //
 //   words COUNT
 use std::collections::BTreeMap;
@@ -232,7 +233,7 @@ fn words_text(numbers: &mut Numbers) -> Worded {
     Worded { memory: [&bytes[..], behind].concat(), bytes: bytes.len(), what, answer, own }
 }
 
-// ---- the six entries
+// ---- the seven entries
 
 // How often each answer was given: by the number of the refusal, or 0.
 struct Tally(BTreeMap<u32, u64>);
@@ -250,12 +251,16 @@ impl Tally {
         *self.0.entry(number).or_default() += 1;
     }
 
-    fn counts(&self, due: &[u32]) -> String {
+    fn refused(&self, due: &[u32]) -> String {
         for number in due {
             assert!(self.0.contains_key(number), "no refusal {number} among {:?}", self.0);
         }
         let refused: Vec<String> = self.0.iter().filter(|(n, _)| **n > 0).map(|(n, count)| format!("{count} by {n}")).collect();
-        format!("{} done, refused {}", self.0.get(&0).unwrap_or(&0), refused.join(", "))
+        format!("refused {}", refused.join(", "))
+    }
+
+    fn counts(&self, due: &[u32]) -> String {
+        format!("{} done, {}", self.0.get(&0).unwrap_or(&0), self.refused(due))
     }
 
     // The check and the translation of a plan, into a text of so many bytes.
@@ -285,6 +290,13 @@ impl Tally {
         let answer = entries::run_in(words, loops, order, &mut found[MARGIN..MARGIN + bytes]);
         let other = reference::run_text_in(words, loops, order, &mut wanted[MARGIN..MARGIN + bytes]);
         self.same("run", of, (answer, found), (other, wanted));
+    }
+
+    // The search for a word; what is told of it is compared as a whole number, and handed on.
+    fn look_up(&mut self, what: &str, words: Option<&[u8]>, word: &[u8]) -> String {
+        let answer = entries::look_up_in(words, word);
+        self.same("look_up", (what, words, word), (answer.clone(), ()), (reference::look_up_in(words, word), ()));
+        answer
     }
 }
 
@@ -343,13 +355,139 @@ fn longest(words: &mut Tally) {
     }
 }
 
-fn random(count: u64, words: &mut Tally, plain: &mut Tally) -> (u64, BTreeMap<&'static str, u64>) {
+// ---- the search for a word
+
+// What is searched for: its name, how the search is to end for some word, and how it is made from the word of a kind.
+type Change = (&'static str, &'static [&'static str], fn(&[u8], usize) -> Vec<u8>);
+
+const CHANGES: [Change; 27] = [
+    ("the word", &["hit"], |word, _| word.to_vec()),
+    ("the built-in word", &["hit", "miss"], |_, kind| reference::WORDS[kind].into()),
+    ("its last letter gone", &["hit", "miss"], |word, _| word[..word.len() - 1].to_vec()),
+    ("its first letter gone", &["hit", "miss"], |word, _| word[1..].to_vec()),
+    ("its last letter twice", &["hit", "miss"], |word, _| [word, &word[word.len() - 1..]].concat()),
+    ("one letter more", &["miss"], |word, _| [word, b"q"].concat()),
+    ("a letter in front", &["miss"], |word, _| [b"q", word].concat()),
+    ("another last letter", &["miss"], |word, _| [&word[..word.len() - 1], b"q"].concat()),
+    ("a blank behind", &["miss"], |word, _| [word, b" "].concat()),
+    ("a blank in front", &["miss"], |word, _| [b" ", word].concat()),
+    ("a comma behind", &["miss"], |word, _| [word, b","].concat()),
+    ("a whole line", &["miss"], |word, _| [word, b",0\n"].concat()),
+    ("in capitals", &["miss"], |word, _| word.to_ascii_uppercase()),
+    ("the first letter a capital", &["miss"], |word, _| [&[word[0] - 32], &word[1..]].concat()),
+    ("nothing", &["miss"], |_, _| Vec::new()),
+    ("a byte 0 behind", &["miss"], |word, _| [word, b"\0"].concat()),
+    ("a byte 255 behind", &["miss"], |word, _| [word, b"\xff"].concat()),
+    ("a byte 0 for the last letter", &["miss"], |word, _| [&word[..word.len() - 1], b"\0"].concat()),
+    ("a byte 255 for the last letter", &["miss"], |word, _| [&word[..word.len() - 1], b"\xff"].concat()),
+    ("8 bytes with blanks", &["hit", "miss"], |word, _| longer(word, 8, b" ")),
+    ("9 bytes with blanks", &["miss"], |word, _| longer(word, 9, b" ")),
+    ("19 bytes with blanks", &["miss"], |word, _| longer(word, 19, b" ")),
+    ("1000 bytes with blanks", &["miss"], |word, _| longer(word, 1000, b" ")),
+    ("8 bytes of its letters", &["hit", "miss"], |word, _| longer(word, 8, word)),
+    ("9 bytes of its letters", &["miss"], |word, _| longer(word, 9, word)),
+    ("19 bytes of its letters", &["miss"], |word, _| longer(word, 19, word)),
+    ("1000 bytes of its letters", &["miss"], |word, _| longer(word, 1000, word)),
+];
+
+// A word and behind it the same bytes over and over, so many in all.
+fn longer(word: &[u8], count: usize, bytes: &[u8]) -> Vec<u8> {
+    word.iter().chain(bytes.iter().cycle()).take(count).copied().collect()
+}
+
+// Searches, and how often each change of a word ended in a hit, in a miss and in a refusal.
+struct Searches {
+    tally: Tally,
+    ended: BTreeMap<(&'static str, &'static str), u64>,
+}
+
+impl Searches {
+    // Searches for a word, changed. What is lent lies in front of the rest of the word, if it is its beginning: if more were read, it would
+    // be found. [17.2] A hit tells one of 38 places, and a miss all 38 rows.
+    fn one(&mut self, what: &str, words: Option<&[u8]>, own: &Own, kind: usize, change: &Change) -> String {
+        let changed = change.2(&own[kind], kind);
+        let behind = own[kind].strip_prefix(&changed[..]).unwrap_or(b"");
+        let answer = self.tally.look_up(what, words, &[&changed[..], behind].concat()[..changed.len()]);
+        let ended = match answer.parse::<u64>() {
+            Ok(65537..=65574) => "hit",
+            Ok(38) => "miss",
+            Ok(number) => panic!("{what}, {}: no search tells {number}", change.0),
+            Err(_) => "refused",
+        };
+        *self.ended.entry((change.0, ended)).or_default() += 1;
+        answer
+    }
+
+    // [17.2], [17.4] A word as it is, under accepted words: found at its place, counted from 1.
+    fn placed(&mut self, what: &str, words: Option<&[u8]>, own: &Own, kind: usize) {
+        let answer = self.one(what, words, own, kind, &CHANGES[0]);
+        assert_eq!(answer, (65536 + kind + 1).to_string(), "{what}: {} is row {kind}", String::from_utf8_lossy(&own[kind]));
+    }
+
+    // Every word under accepted words, as it is and with every change.
+    fn every(&mut self, what: &str, words: Option<&[u8]>, own: &Own) {
+        for kind in 0..38 {
+            self.placed(what, words, own, kind);
+            for change in &CHANGES[1..] {
+                self.one(what, words, own, kind, change);
+            }
+        }
+    }
+
+    // The built-in words by both entries, German words, the longest ones, and words that begin one another.
+    fn known(&mut self) {
+        let mut numbers = Numbers::new(17);
+        self.every("the built-in words", None, &wording::built_in());
+        let german = wording::own(include_bytes!("../examples/german.words"));
+        let long = distinct(&mut numbers, |kind, _| most(kind));
+        for (what, own) in [("the built-in words as a text", wording::built_in()), ("German words", german), ("long words", long)] {
+            self.every(what, Some(&wording::text(&own)), &own);
+        }
+        for _ in 0..10 {
+            let own = beginnings(&mut numbers);
+            self.every("words that begin one another", Some(&wording::text(&own)), &own);
+        }
+    }
+
+    // Under a words text: each word, if it is accepted; some changed ones, which the plain entry is asked as well.
+    fn under(&mut self, worded: &Worded, numbers: &mut Numbers) {
+        let (words, accepted) = (Some(worded.text()), worded.answer == "no,1,0");
+        for kind in (0..38).filter(|_| accepted) {
+            self.placed(worded.what, words, &worded.own, kind);
+        }
+        for _ in 0..10 {
+            let (kind, change) = (numbers.below(38) as usize, numbers.one_of(&CHANGES));
+            let answer = self.one(worded.what, words, &worded.own, kind, change);
+            assert!(accepted || answer == worded.answer, "{}: {answer}", worded.what);
+            self.one("plain", None, &worded.own, kind, change);
+        }
+    }
+
+    // How the searches ended; each change has to have ended as is said of it, and in a refusal.
+    fn counts(&self) -> String {
+        let due = CHANGES.iter().flat_map(|change| change.1.iter().chain(&["refused"]).map(|ended| (change.0, *ended)));
+        let missing: Vec<_> = due.filter(|due| !self.ended.contains_key(due)).collect();
+        assert!(missing.is_empty(), "not searched: {missing:?}");
+        let all = |how: &str| self.ended.iter().filter(|(key, _)| key.1 == how).map(|(_, count)| count).sum::<u64>();
+        format!(
+            "{} words searched for, as they are or changed in {} ways, answered alike, the number told as a whole: {} hits, {} misses, {}",
+            self.tally.0.values().sum::<u64>(),
+            CHANGES.len() - 1,
+            all("hit"),
+            all("miss"),
+            self.tally.refused(&[16, 17])
+        )
+    }
+}
+
+fn random(count: u64, words: &mut Tally, plain: &mut Tally, searches: &mut Searches) -> (u64, BTreeMap<&'static str, u64>) {
     let mut done = BTreeMap::new();
     for seed in 0..count {
         let mut numbers = Numbers::new(seed ^ 0x3333);
         let worded = words_text(&mut numbers);
         *done.entry(worded.what).or_default() += 1;
         assert_eq!(entries::check_plan_in(Some(worded.text()), &[]), worded.answer, "{}", worded.what);
+        searches.under(&worded, &mut Numbers::new(seed ^ 0x1717));
         let plan = plans::plan(seed);
         if worded.answer == "no,1,0" {
             same_rows(&worded, &plan);
@@ -374,8 +512,10 @@ fn random(count: u64, words: &mut Tally, plain: &mut Tally) -> (u64, BTreeMap<&'
 
 fn main() {
     let (mut words, mut plain) = (Tally(BTreeMap::new()), Tally(BTreeMap::new()));
-    let (count, done) = random(std::env::args().nth(1).unwrap().parse().unwrap(), &mut words, &mut plain);
+    let mut searches = Searches { tally: Tally(BTreeMap::new()), ended: BTreeMap::new() };
+    let (count, done) = random(std::env::args().nth(1).unwrap().parse().unwrap(), &mut words, &mut plain, &mut searches);
     longest(&mut words);
+    searches.known();
     let ways = LINE_DAMAGES.iter().map(|way| way.0).chain(TEXT_DAMAGES.iter().map(|way| way.0)).chain(["a word twice", "nothing done"]);
     let missing: Vec<&str> = ways.filter(|way| !done.contains_key(way)).collect();
     assert!(missing.is_empty(), "not tried: {missing:?}");
@@ -391,4 +531,5 @@ fn main() {
         plain.0.values().sum::<u64>(),
         plain.counts(&[1, 2, 4, 5, 7, 9, 12, 13, 14])
     );
+    println!("{}", searches.counts());
 }

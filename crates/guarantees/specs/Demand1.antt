@@ -1,4 +1,4 @@
--- Demand 1, [10.16], [10.17] and [10.22]: every entry answers every input, each refusal exactly on its condition, and a refusal leaves
+-- Demand 1, [10.16], [10.17], [10.22] and part 17: every entry answers every input, each refusal exactly on its condition, and a refusal leaves
 -- everything lent as it was.
 --
 -- Each field begins with the contract of one public entry, which is proved of its code for every input and has no `requires`. It rests on
@@ -6,16 +6,22 @@
 --   Answers    the first "no" is told and what is lent is kept; or the value is told, and what is lent is left as said
 --   Questions  which questions an entry asks, in order; with `planQuestions` of `typing`, `madeQuestions` of `translate`
 --   Runs       the run in which every `par` takes the order named
+--   words      wordAt: the word of a row; Search: what a search answers
 --   meaning    Plan, Loops and their rows; translation, commandWrites, need; store: cells and bytes as a store; values: valueOf
 use mathlib.Core.Bool.{false}
 use mathlib.Core.Path.{_≡_}
 use mathlib.Core.List.{List, [], _++_, map}
-use Prim.Native.Nat.{ℕ}
+use Prim.Native.Nat.{ℕ, _+_, _/_, _%_, _<_}
 use lib.IntN.{ℤ}
 use lib.ListN.{length, drop}
 use Rattle.refusals.specs.declared.Refusal.{Refusal}
 use Rattle.refusals.specs.declared.Answer.{Answer}
+use Rattle.words.specs.Contracts.{LooksUp}
 use Rattle.words.specs.Kinds.{Row, rowsOf}
+use Rattle.words.specs.Words.{wordAt}
+use Rattle.words.specs.declared.Found.{Found}
+use Rattle.words.specs.declared.Found.the-variants.{At, NotListed}
+use Rattle.words.specs.declared.Search.{Search}
 use Rattle.lines.specs.Lent.{textRows}
 use Rattle.lines.specs.Printing.{textOf}
 use Rattle.texts.specs.Texts.{linesOf}
@@ -43,7 +49,7 @@ use Rattle.programs.specs.Printed.{refusalText}
 use Rattle.programs.specs.Runner.{withValues, outputCells, finishedText}
 use Rattle.programs.specs.Contracts.{PrintsLoops, PrintsRun, SaysValuesRead}
 use Rattle.vazhdumir.specs.Contracts.{ChecksPlanForC, TranslatesForC, ChecksLoopsForC, TellsNeedForC}
-use Rattle.vazhdumir.specs.Contracts.{ReadsLoopsForC, RunsTextForC, RunsRowsForC}
+use Rattle.vazhdumir.specs.Contracts.{ReadsLoopsForC, RunsTextForC, RunsRowsForC, LooksUpForC}
 use Rattle.guarantees.specs.Told.{Told, refusal, toldAnswer, toldWrites, toldNeed}
 use Rattle.guarantees.specs.Told.{toldAccepted, ToldToC}
 use Rattle.guarantees.specs.Answers.{Answers, AnswersOf}
@@ -99,9 +105,25 @@ ShowsRun v s s′ text L =
     let end = runInOrder 0 L (withValues v (allCells (L .inputs)) s) in
     (s′ ≡ end .store) × (text ≡ finishedText (outputCells L (end .store)) (end .writes))
 
+-- ---- what the search for a word tells
+
+-- [17.1], [17.2] Where the table has the word in row k: that row, and k + 1 rows compared. Where no row has it: that it is not listed, and all
+-- rows compared. One or the other is the case for every word.
+pub record SearchTells (ws : List (List ℕ)) (l : List ℕ) (s : Search) : Type 0 where
+  pub listed : (k : ℕ) → k < length ws → wordAt ws k ≡ l → (s .found ≡ At k) × (s .compared ≡ k + 1)
+  pub not-listed : ((k : ℕ) → k < length ws → wordAt ws k ≡ l → ⊥) → (s .found ≡ NotListed) × (s .compared ≡ length ws)
+
+-- [17.4] to C: the lower 16 bits are the rows compared, the others 1 where the word is listed, and else 0
+abbrev pub listedBit : Found → ℕ
+listedBit (At k) = 1
+listedBit NotListed = 0
+
+abbrev pub HalvesOf : Search → ℕ → Type 0
+HalvesOf s r = (r % 65536 ≡ s .compared) × (r / 65536 ≡ listedBit (s .found))
+
 -- ---- the entries
 
--- ws is the table of words that texts are read and printed with.
+-- ws is the table of words that texts are read and printed with, and that words are searched for in.
 pub record Demand1 (ws : List (List ℕ)) : Type 0 where
   -- `plans::check_text`, `plans::read_text`
   pub check-plan : (t : List ℕ) (r : Answer) → ChecksPlan ws t r
@@ -153,6 +175,8 @@ pub record Demand1 (ws : List (List ℕ)) : Type 0 where
       (toldAnswer r)
   -- [11.5] `programs::reads_values`: where it says no, loops that walk well have no inputs, so that the values play no part
   pub values-unread : (t : List ℕ) → SaysValuesRead t false → AllYes (loopsDoor ws t) → (L : Loops) → textRows ws t ≡ loopsRows L → L .inputs ≡ []
+  -- [17.3] `words::look_up`, which asks no question
+  pub look-up : (l : List ℕ) (s : Search) → LooksUp ws l s → SearchTells ws l s
   -- [12.1] to [12.4] The entries for C tell what the library's entries tell: a value below 2^56, or a number and a line. Their stores are
   -- bytes [9.11].
   pub check-plan-c : (t : List ℕ) (r : ℕ) → ChecksPlanForC ws t r → ToldToC (ChecksPlan ws t) toldAccepted r
@@ -165,3 +189,4 @@ pub record Demand1 (ws : List (List ℕ)) : Type 0 where
       → ToldToC (λ a. RunsText ws t order [] b a [] b′ × KeepsFrame [] b [] b′) toldAnswer r
   pub run-rows-c : (k : List ℕ) (n : List ℤ) (order : ℕ) (b b′ : List ℕ) (r : ℕ) → RunsRowsForC k n order b r b′
       → ToldToC (λ a. RunsRows k n order [] b a [] b′ × KeepsFrame [] b [] b′) toldAnswer r
+  pub look-up-c : (l : List ℕ) (r : ℕ) → LooksUpForC ws l r → (s : Search) × LooksUp ws l s × HalvesOf s r

@@ -13,4 +13,5 @@ pub mod Made
 pub mod PrintedRuns
 pub mod Delivered
 pub mod Lengths
+pub mod Searches
 pub mod Twins

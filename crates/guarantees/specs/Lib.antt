@@ -1,5 +1,5 @@
--- The three demands over the public entries, their twins, and the cards: demand 1 is [10.16], [10.17] and [10.22], demand 2 [10.21], part 6,
--- [1.9], [16.9] and [9.9], demand 3 [9.8]; the twins are [16.1] to [16.8]; the cards are [15.1] and [15.2].
+-- The three demands over the public entries, their twins, and the cards: demand 1 is [10.16], [10.17], [10.22] and [17.1] to [17.4], demand 2
+-- [10.21], part 6, [1.9], [16.9] and [9.9], demand 3 [9.8]; the twins are [16.1] to [16.8] and [17.3]; the cards are [15.1] and [15.2].
 -- Numbers in brackets, here and in every file, are those of the rules in docs/REQUIREMENTS.md.
 
 -- The demands, and the definitions that the crates of the entries lack

@@ -44,6 +44,7 @@ use Rattle.guarantees.specs.Laws.LoopsEntries as entries
 use Rattle.guarantees.specs.Laws.Filling as values
 use Rattle.guarantees.specs.Laws.Codes as codes
 use Rattle.guarantees.specs.Laws.Programs as programs
+use Rattle.guarantees.specs.Laws.Searches as searches
 use Rattle.guarantees.specs.Laws.ValuesUnread.{values-unread}
 use Rattle.guarantees.specs.Laws.Told.{no-value}
 use Rattle.guarantees.specs.Laws.Made.{accepted-exactly, accepted-plan, made-text, made-table, text-passes, rows-pass, translated-yes, plan-same}
@@ -71,6 +72,7 @@ module _ (ws : List (List ℕ)) (good : Good ws) where
     print-loops = programs.print-loops ws good;
     print-run = programs.print-run ws good;
     values-unread = values-unread ws;
+    look-up = searches.look-up ws good;
     check-plan-c = codes.check-plan-c ws good;
     translate-c = codes.translate-c ws good;
     check-loops-c = codes.check-loops-c ws good;
@@ -78,6 +80,7 @@ module _ (ws : List (List ℕ)) (good : Good ws) where
     read-loops-c = codes.read-loops-c ws good;
     run-text-c = codes.run-text-c ws good;
     run-rows-c = codes.run-rows-c ws good;
+    look-up-c = searches.look-up-c ws good;
   }
 
   -- ---- demand 2

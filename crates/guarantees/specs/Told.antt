@@ -8,6 +8,8 @@ use Rattle.refusals.specs.declared.Refusal.{Refusal}
 use Rattle.refusals.specs.Refusals.{refusalNumber, refusalLine}
 use Rattle.refusals.specs.declared.Answer.{Answer}
 use Rattle.refusals.specs.declared.Answer.the-variants as answer
+use Rattle.own_words.specs.declared.Searched.{Searched}
+use Rattle.own_words.specs.declared.Searched.the-variants as searched
 use Rattle.loops.specs.declared.Checked.{Checked}
 use Rattle.loops.specs.Check.{writesOf, needOf}
 
@@ -30,6 +32,11 @@ toldWrites c = toldAnswer (writesOf c)
 
 abbrev pub toldNeed : Checked → Told
 toldNeed c = toldAnswer (needOf c)
+
+-- a search tells how many rows were compared; where the word stands is told besides
+abbrev pub toldCompared : Searched → Told
+toldCompared (searched.Told s) = Told.value (s .compared)
+toldCompared (searched.Refused q) = refusal q
 
 -- [12.3] to C of a plan that is accepted: 0
 abbrev pub toldAccepted : Answer → Told

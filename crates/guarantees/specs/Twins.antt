@@ -1,7 +1,7 @@
--- Own words, [16.1] to [16.8]: every entry that reads or prints a plan or loops as text has a twin that is given a words text w. A twin
--- answers every input. Where 16 or 17 is answered "no" it tells that, and what is lent is as it was; those of the programs print its line
--- instead [16.8], and the runner's asks for its room before [11.9]. Else it does what its entry does with the own words of w. Those are a good
--- table of words, so that the three demands hold for them.
+-- Own words, [16.1] to [16.8], and the search among them, [17.3]: every entry that reads or prints a plan or loops as text, and the search for a
+-- word, has a twin that is given a words text w. A twin answers every input. Where 16 or 17 is answered "no" it tells that, and what is lent
+-- is as it was; those of the programs print its line instead [16.8], and the runner's asks for its room before [11.9]. Else it does what its
+-- entry does with the own words of w. Those are a good table of words, so that the three demands hold for them.
 --
 -- Each field from `check-plan` on begins with the contract of one twin, which is proved of its code for every input and has no `requires`. It
 -- rests on
@@ -19,7 +19,12 @@ use Rattle.refusals.specs.declared.Refusal.{Refusal}
 use Rattle.refusals.specs.declared.Refusal.the-variants.{WordsForm}
 use Rattle.refusals.specs.declared.Answer.{Answer}
 use Rattle.words.specs.Good.{Good}
+use Rattle.words.specs.Contracts.{LooksUp}
+use Rattle.words.specs.declared.Search.{Search}
 use Rattle.own_words.specs.OwnWords.{ownWords}
+use Rattle.own_words.specs.Contracts.{LooksUpIn}
+use Rattle.own_words.specs.declared.Searched.{Searched}
+use Rattle.own_words.specs.declared.Searched.the-variants as searched
 use Rattle.typing.specs.Questions.{AllYes, FirstNo}
 use Rattle.plans.specs.Contracts.{ChecksPlan, ChecksPlanIn, ReadsPlan, ReadsPlanIn}
 use Rattle.loops.specs.declared.Checked.{Checked}
@@ -29,8 +34,8 @@ use Rattle.run.specs.Contracts.{KeepsFrame, RunsText, RunsTextIn}
 use Rattle.programs.specs.Printed.{refusalText}
 use Rattle.programs.specs.Contracts.{PrintsLoops, PrintsLoopsIn, PrintsRun, PrintsRunIn}
 use Rattle.vazhdumir.specs.Contracts.{ChecksPlanForC, ChecksPlanForCIn, TranslatesForC, TranslatesForCIn, ChecksLoopsForC, ChecksLoopsForCIn}
-use Rattle.vazhdumir.specs.Contracts.{TellsNeedForC, TellsNeedForCIn, ReadsLoopsForC, ReadsLoopsForCIn, RunsTextForC, RunsTextForCIn}
-use Rattle.guarantees.specs.Told.{Told, refusal, toldAnswer, toldWrites, toldNeed, toldCode}
+use Rattle.vazhdumir.specs.Contracts.{TellsNeedForC, TellsNeedForCIn, ReadsLoopsForC, ReadsLoopsForCIn, RunsTextForC, RunsTextForCIn, LooksUpForC, LooksUpForCIn}
+use Rattle.guarantees.specs.Told.{Told, refusal, toldAnswer, toldWrites, toldNeed, toldCompared, toldCode}
 use Rattle.guarantees.specs.Answers.{Answers}
 use Rattle.guarantees.specs.Questions.{wordsQuestions, textRoom, outputRoom}
 use Rattle.guarantees.specs.Demand1.{TableKept, TextLeft}
@@ -87,6 +92,9 @@ pub record Twins (w : List ℕ) : Type 0 where
       → Twin w (PrintsLine u u′ (toldAnswer r)) (λ ws. PrintsLoops ws t u r u′)
   pub print-run : (t v : List ℕ) (s s′ : List ℤ) (u u′ : List ℕ) (r : Answer) → PrintsRunIn w t v s u r s′ u′
       → Twin w (ShowsLine s s′ u u′ (toldAnswer r)) (λ ws. PrintsRun ws t v s u r s′ u′)
+  -- [17.3] `own_words::look_up_in`
+  pub look-up : (l : List ℕ) (r : Searched) → LooksUpIn w l r
+      → Twin w (Tells (toldCompared r) (Unit {0})) (λ ws. (s : Search) × (r ≡ searched.Told s) × LooksUp ws l s)
   -- [12.1], [12.2] those for C
   pub check-plan-c : (t : List ℕ) (r : ℕ) → ChecksPlanForCIn w t r → Twin w (Tells (toldCode r) (Unit {0})) (λ ws. ChecksPlanForC ws t r)
   pub translate-c : (t u u′ : List ℕ) (r : ℕ) → TranslatesForCIn w t u r u′
@@ -97,3 +105,4 @@ pub record Twins (w : List ℕ) : Type 0 where
       → Twin w (Tells (toldCode r) (TableKept k k′ n n′)) (λ ws. ReadsLoopsForC ws t k n r k′ n′)
   pub run-text-c : (t : List ℕ) (order : ℕ) (b b′ : List ℕ) (r : ℕ) → RunsTextForCIn w t order b r b′
       → Twin w (Tells (toldCode r) (b′ ≡ b)) (λ ws. RunsTextForC ws t order b r b′)
+  pub look-up-c : (l : List ℕ) (r : ℕ) → LooksUpForCIn w l r → Twin w (Tells (toldCode r) (Unit {0})) (λ ws. LooksUpForC ws l r)

@@ -45,23 +45,23 @@ fn head_of(table: &Table, heads: Heads, bytes: &[u8]) -> Found
     ensures { λ r. ⌜ r ≡ headOf (wordsIn (now (table .entry))) heads (now (bytes .entry)) ⌝ }
 {
     match heads {
-        Heads::Words => words::look_up(table, bytes),
+        Heads::Words => words::find(table, bytes).found,
         Heads::Cells => cell_of(numerals::read(bytes)),
     }
 }
 
-// [1.2] What a line is.
+// [1.2] What a line is. [17.2] Nothing is searched for where it has no comma.
 fn line_of(table: &Table, heads: Heads, line: &[u8]) -> Line
     ensures { λ r. ⌜ r ≡ lineOf (headOf (wordsIn (now (table .entry))) heads) (now (line .entry)) ⌝ }
 {
     let comma = texts::field_length(line);
+    if line.len() == comma {
+        return Line::NoRow;
+    }
     let head = head_of(table, heads, &line[..comma]);
     let Found::At(kind) = head else {
         return Line::NoRow;
     };
-    if line.len() == comma {
-        return Line::NoRow;
-    }
     let behind = comma + 1;
     let value = numerals::read(&line[behind..]);
     let Numeral::Is(number) = value else {

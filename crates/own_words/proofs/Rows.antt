@@ -2,51 +2,29 @@
 use mathlib.Core.Path.{_≡_, refl, sym, ap, _∙_, subst}
 use mathlib.Core.Bool.{Bool, true, false, not, cond}
 use mathlib.Core.List.{List, [], _∷_}
-use Prim.Native.Nat.{ℕ, zero, suc, _+_, _-_, _≤_, _<_, min, suc-le-suc}
-use native.Mathlib.Nat.{min-eq-left, min-le-right}
+use Prim.Native.Nat.{ℕ, suc, _+_, _-_, _≤_, _<_, min, suc-le-suc}
+use native.Mathlib.Nat.{min-eq-left}
 use native.Mathlib.Omega.{arith}
-use borrow.Author.Tests.{lt-ltb, eqb-true, eqb-false}
+use borrow.Author.Tests.{eqb-true, eqb-false}
 use lib.Dec.{T, eqb, not-T}
 use lib.Ieee.Fits.{and-i}
-use lib.ListN.{length, getD, take, set, length-take}
+use lib.ListN.{length, getD, take, set}
 use lib.Seq.{length-take-le, getD-take, getD-set-same, getD-set-other, ext-getD}
 use Rattle.words.specs.Good.{absent, distinct}
-use Rattle.words.specs.Laws.{own-place, same-equal, same-refl}
-use Rattle.words.specs.Tables.{lettersIn, wordIn, wordsIn, noWord}
+use Rattle.words.specs.Laws.{own-place, same-equal, same-refl, first-take}
+use Rattle.words.specs.Tables.{firstOf, lettersIn, wordIn, wordsIn}
 use Rattle.words.specs.Words.{words, wordAt, sameLetters, lookFrom, lookUp}
 use Rattle.words.specs.declared.Found.{Found}
 use Rattle.words.specs.declared.Found.the-variants.{At}
-use Rattle.words.proofs.Rows.{word-of-row}
+use Rattle.words.proofs.Rows.{word-in-row}
 use Rattle.own_words.proofs.Letters.{getD-within}
 
 -- ---- the word of a row
 
-take-as-many : (n : ℕ) (l : List ℕ) → take (length (take n l)) l ≡ take n l
-take-as-many zero l = refl
-take-as-many (suc n) [] = refl
-take-as-many (suc n) (b ∷ bs) = ap (λ (t : List ℕ). b ∷ t) (take-as-many n bs)
-
-pub word-in-row : (rows : List (List ℕ)) (k : ℕ) → k < length words → wordAt (wordsIn rows) k ≡ wordIn (getD rows k [])
-word-in-row rows k h =
-    word-of-row rows k
-    ∙ ap (λ (b : Bool). wordIn (cond b (getD rows k []) noWord)) (lt-ltb k (length words) h)
-
--- as many letters of a row as its word has: no more than the row has, and looking them up is looking its word up
-module _ (rows : List (List ℕ)) (k n : ℕ) (h : k < length words) (count : n ≡ length (wordAt (wordsIn rows) k)) where
-  letters : n ≡ length (wordIn (getD rows k []))
-  letters = count ∙ ap (λ (w : List ℕ). length w) (word-in-row rows k h)
-
-  pub own-within : n ≤ length (getD rows k [])
-  own-within =
-      let row = getD rows k [] in
-      omega (arith, letters, length-take (lettersIn row) row, min-le-right (lettersIn row) (length row))
-
-  pub own-found : {found : Found} → found ≡ lookUp (wordsIn rows) (take n (getD rows k [])) → found ≡ lookUp (wordsIn rows) (wordAt (wordsIn rows) k)
-  own-found look =
-      look
-      ∙ ap (lookUp (wordsIn rows)) (ap (λ (m : ℕ). take m (getD rows k [])) letters
-      ∙ take-as-many (lettersIn (getD rows k [])) (getD rows k [])
-      ∙ sym (word-in-row rows k h))
+-- looking up the word of a table's row is looking up the table's word there
+pub own-found : (rows : List (List ℕ)) (k : ℕ) {found : Found} → k < length words → found ≡ lookUp (wordsIn rows) (wordIn (getD rows k []))
+    → found ≡ lookUp (wordsIn rows) (wordAt (wordsIn rows) k)
+own-found rows k h look = look ∙ ap (lookUp (wordsIn rows)) (sym (word-in-row rows k h))
 
 -- one letter more put into a row
 pub put-next : (row letters : List ℕ) (i v : ℕ) → i < length row → v ≡ getD letters i 32
@@ -62,7 +40,8 @@ pub row-word : (row letters : List ℕ) → length row ≡ 19 → getD row 8 0 �
     → ((j : ℕ) → j < 8 → getD row j 0 ≡ getD letters j 32) → wordIn row ≡ letters
 row-word row letters long count short put =
     let n : lettersIn row ≡ length letters = ap (λ (b : ℕ). min (b - 48) 8) count ∙ eight in
-    ap (λ (m : ℕ). take m row) n
+    ap (λ (m : ℕ). firstOf 0 m row) n
+    ∙ first-take 0 (length letters) row (omega arith)
     ∙ ext-getD 0 (take (length letters) row) letters (length-take-le (length letters) row (omega arith))
     (λ j h. let g : j < length letters = omega (arith, h, length-take-le (length letters) row (omega arith)) in
     getD-take (length letters) row j 0 g ∙ put j (omega arith) ∙ getD-within letters j 32 0 g)

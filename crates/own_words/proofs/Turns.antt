@@ -16,7 +16,7 @@ use Rattle.texts.specs.Texts.{linesOf, placeOf, afterFirst, afterComma}
 use Rattle.texts.specs.Laws.{lines-from, lines-done}
 use Rattle.own_words.specs.OwnWords.{isOwnLine, areOwnLines}
 use Rattle.own_words.specs.Laws.{OwnLine, own-line, lines-count}
-use Rattle.own_words.proofs.Rows.{word-in-row}
+use Rattle.words.proofs.Rows.{word-in-row}
 
 -- So many kinds have their lines: the own words of these stand in the table, and the answer is that of the lines from `at` on.
 pub record ReadTo (text : List ℕ) (own : List (List ℕ)) (at kind : ℕ) : Type 0 where

@@ -9,9 +9,10 @@ use lib.Dec.{T, eqb, leb, leb→le, le→leb, eqb→eq}
 use lib.Ieee.Fits.{and-i, and-l, and-r}
 use lib.ListN.{length, getD, length-append}
 use Rattle.words.specs.Kinds.{word-lit}
-use Rattle.words.specs.Words.{words, table, sameLetters, wordAt}
+use Rattle.words.specs.Words.{words, table, sameLetters, wordAt, compared}
 use Rattle.words.specs.Good.{lowerCase, distinct, wellFormed, Good}
-use Rattle.words.specs.Laws.{same-equal}
+use Rattle.words.specs.Laws.{same-equal, compared-few}
+use Rattle.words.specs.declared.Search.{Search}
 use Rattle.words.specs.Tables.{wordsIn}
 use Rattle.texts.specs.Texts.{linesOf, beforeComma, afterComma}
 use Rattle.texts.specs.Laws.{together, Closed, place-split, lines-together, last-closed}
@@ -22,7 +23,9 @@ use Rattle.refusals.specs.declared.Refusal.{Refusal}
 use Rattle.refusals.specs.declared.Refusal.the-variants.{WordsForm, WordTwice}
 use Rattle.own_words.specs.OwnWords.{mostLetters, isOwnWord, isOwnLine, areOwnLines, isWordsText, ownWords, askWords}
 use Rattle.own_words.specs.Under.{byAnswer, Under}
-use Rattle.own_words.specs.Contracts.{ReadsWords}
+use Rattle.own_words.specs.Contracts.{ReadsWords, LooksUpIn}
+use Rattle.own_words.specs.declared.Searched.{Searched}
+use Rattle.own_words.specs.declared.Searched.the-variants as searched
 
 -- ---- what an entry promises, by the answer to its words text
 
@@ -196,6 +199,21 @@ accepted-good t n e =
       formed = lines-formed 0 words (linesOf t) ls;
       literal = lines-most 0 words (linesOf t) word-lit ls;
     }
+
+-- [17.2] a search among its own words compares no more rows than there are words
+pub searched-few : (w l : List ℕ) {r : Searched} {s : Search} → LooksUpIn w l r → r ≡ searched.Told s → s .compared ≤ length words
+searched-few w l {r} {s} looks e = go (askWords w) refl
+  where
+    go : (a : Answer) → askWords w ≡ a → s .compared ≤ length words
+    go (Told n) asked =
+        let t = accepted-under asked looks in
+        let told : searched.Told s ≡ searched.Told (t .0) = sym e ∙ t .1 in
+        let same : s ≡ t .0 = cc in
+        let n : s .compared ≡ compared (ownWords w) l = ap (λ (x : Search). x .compared) same ∙ t .2 .1 in
+        omega (arith, n, compared-few (ownWords w) l, accepted-good w _ asked .count)
+    go (Refused q) asked =
+        let no : searched.Told s ≡ searched.Refused q = sym e ∙ refused-under asked looks in
+        absurd (let z : _≡_ {A = ℕ} 0 1 = cc in omega arith)
 
 -- the text is the built-in words with its own words
 text-closed : (t : List ℕ) → T (isWordsText t) → Closed t

@@ -1,4 +1,4 @@
-// Reads a words text into a table of words: [16.1], [16.2], [16.4] to [16.6].
+// Reads a words text into a table of words: [16.1], [16.2], [16.4] to [16.6]; and searches its own words: [17.3].
 ghost use mathlib.Core.Path.{_≡_};
 ghost use mathlib.Core.Bool.{true};
 ghost use mathlib.Core.List.{map};
@@ -9,13 +9,20 @@ ghost use Rattle.words.specs.Tables.{wordIn, wordsIn};
 ghost use Rattle.words.specs.Words.{words, wordAt};
 ghost use Rattle.texts.specs.Texts.{linesOf, afterComma, placeOf};
 ghost use Rattle.own_words.specs.OwnWords.{mostLetters, isOwnWord, isOwnLine, areOwnLines};
-ghost use Rattle.own_words.specs.Contracts.{ReadsWords};
+ghost use Rattle.own_words.specs.Contracts.{ReadsWords, LooksUpIn};
 use refusals::Answer;
 use refusals::Refusal;
 use words::Found;
+use words::Search;
 use words::Table;
 use words::kinds::WORD_COUNT;
 use words::kinds::WORD_LIT;
+
+// How a search under a words text ended, or the "no" to that text.
+pub enum Searched {
+    Told(Search),
+    Refused(Refusal),
+}
 
 // [16.2] How many letters the own word of this kind may have.
 fn most_letters(kind: usize) -> usize
@@ -63,7 +70,7 @@ fn is_own_line(built_in: &Table, kind: usize, line: &[u8]) -> bool
     ensures { λ r. ⌜ r ≡ isOwnLine kind (wordAt words kind) (now (line .entry)) ⌝ }
 {
     let comma = texts::field_length(line);
-    let found = words::look_up(built_in, &line[..comma]);
+    let found = words::find(built_in, &line[..comma]).found;
     let Found::At(front) = found else {
         return false;
     };
@@ -155,9 +162,7 @@ fn are_distinct(table: &Table) -> bool
 {
     let mut kind = 0;
     while kind < WORD_COUNT {
-        let row = table[kind];
-        let count = words::length(table, kind as u8);
-        let found = words::look_up(table, &row[..count]);
+        let found = words::find_row(table, table[kind]);
         let Found::At(place) = found else {
             return false;
         };
@@ -187,4 +192,15 @@ pub fn read(text: &[u8], table: &mut Table) -> Answer
         return Answer::Refused(Refusal::WordTwice);
     }
     Answer::Told(WORD_COUNT)
+}
+
+// [17.3] The search for a word among the own words of a words text.
+pub fn look_up_in(words: &[u8], word: &[u8]) -> Searched
+    ensures { λ r. ⌜ LooksUpIn (now (words .entry)) (now (word .entry)) r ⌝ }
+{
+    let mut table = words::built_in();
+    match read(words, &mut table) {
+        Answer::Told(_) => Searched::Told(words::find(&table, word)),
+        Answer::Refused(refusal) => Searched::Refused(refusal),
+    }
 }

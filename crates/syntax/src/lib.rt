@@ -10,6 +10,7 @@ ghost use Prim.Native.Nat.{_+_, _≤_, _<_};
 ghost use lib.ListN.{length};
 ghost use Rattle.refusals.specs.declared.Answer.the-variants.{Told};
 ghost use Rattle.words.specs.Kinds.{rowsOf};
+ghost use Rattle.words.specs.Packed.{packedTable};
 ghost use Rattle.words.specs.declared.Sort.the-variants.{Plan as PlanSort, Loops as LoopsSort};
 ghost use Rattle.syntax.specs.Names.{Bounded};
 ghost use Rattle.syntax.specs.Walk.{askRow, walkFrom, resume, passed, firstUnlisted, listedFrom, walkTable};
@@ -19,16 +20,17 @@ use refusals::Answer;
 use refusals::Refusal;
 use words::Operands;
 use words::Sort;
+use words::Table;
 use words::groups::is_listed;
 
 // [10.18] Questions 4, 5 and 6, in this order, put to a row: how many operands it has, or the first "no".
-fn ask(due: Due, kind: u8, number: usize, line: usize) -> Answer
-    requires { ⌜ (number ≤ 2147483648) × Bounded (due .names) ⌝ }
+fn ask(built_in: &Table, due: Due, kind: u8, number: usize, line: usize) -> Answer
+    requires { ⌜ (number ≤ 2147483648) × Bounded (due .names) × (now built_in ≡ packedTable) ⌝ }
     ensures { λ r. ⌜ r ≡ askRow due kind number line ⌝ }
 {
     let sort = due.sort;
     let names = due.names;
-    let listed = words::operand_count(kind, sort);
+    let listed = words::operand_count(built_in, kind, sort);
     let Operands::Count(count) = listed else {
         return Answer::Refused(Refusal::RowDue(line));
     };
@@ -42,8 +44,9 @@ fn ask(due: Due, kind: u8, number: usize, line: usize) -> Answer
 }
 
 // The row that is due and its operands: how many rows they are, or the first "no". `before` rows stand before them.
-fn walk(kinds: &[u8], numbers: &[i32], before: usize, due: Due) -> Answer
-    requires { ⌜ (length (now kinds) ≡ length (now numbers)) × (before + length (now kinds) < 18446744073709551615) × Bounded (due .names) ⌝ }
+fn walk(built_in: &Table, kinds: &[u8], numbers: &[i32], before: usize, due: Due) -> Answer
+    requires { ⌜ (length (now kinds) ≡ length (now numbers)) × (before + length (now kinds) < 18446744073709551615) × Bounded (due .names)
+        × (now built_in ≡ packedTable) ⌝ }
     ensures bounds { λ r. ⌜ passed r ≤ length (now (kinds .entry)) ⌝ }
     ensures result { λ r. ⌜ ((ds : List Due) → walkFrom before (due ∷ ds) (rowsOf (now (kinds .entry)) (now (numbers .entry)))
         ≡ resume r before ds (rowsOf (now (kinds .entry)) (now (numbers .entry)))) ⌝ }
@@ -54,7 +57,7 @@ fn walk(kinds: &[u8], numbers: &[i32], before: usize, due: Due) -> Answer
     }
     let kind = kinds[0];
     let number = ranges::natural(numbers[0]);
-    let asked = ask(due, kind, number, line);
+    let asked = ask(built_in, due, kind, number, line);
     let Answer::Told(count) = asked else {
         return asked;
     };
@@ -62,7 +65,13 @@ fn walk(kinds: &[u8], numbers: &[i32], before: usize, due: Due) -> Answer
     let mut left = count;
     while 0 < left {
         let next = operands::operand(due, kind, number, left == 1);
-        let walked = walk(&kinds[rows..], &numbers[rows..], before + rows, next);
+        let walked = walk(
+            built_in,
+            &kinds[rows..],
+            &numbers[rows..],
+            before + rows,
+            next,
+        );
         let Answer::Told(more) = walked else {
             return walked;
         };
@@ -104,12 +113,19 @@ pub fn listed_rows(kinds: &[u8], numbers: &[i32]) -> Answer
 fn walk_table(kinds: &[u8], numbers: &[i32], sort: Sort) -> Answer
     ensures { λ r. ⌜ r ≡ walkTable sort (rowsOf (now (kinds .entry)) (now (numbers .entry))) ⌝ }
 {
+    let built_in = words::built_in();
     let listed = listed_rows(kinds, numbers);
     let Answer::Told(rows) = listed else {
         return listed;
     };
     let names = names::in_force(0, 0, 0, 0);
-    let walked = walk(&kinds[..rows], &numbers[..rows], 0, Due { sort, names });
+    let walked = walk(
+        &built_in,
+        &kinds[..rows],
+        &numbers[..rows],
+        0,
+        Due { sort, names },
+    );
     let Answer::Told(end) = walked else {
         return walked;
     };

@@ -1,4 +1,4 @@
--- What an entry tells C, as one number of 64 bits: [12.2] and [12.3]. Definitions only; assumes nothing.
+-- What an entry tells C, as one number of 64 bits: [12.2], [12.3], [17.4]. Definitions only; assumes nothing.
 use mathlib.Core.Path.{_≡_}
 use mathlib.Core.List.{List}
 use Prim.Native.Nat.{ℕ, _+_, _*_, min}
@@ -8,6 +8,11 @@ use Rattle.refusals.specs.declared.Refusal.{Refusal}
 use Rattle.refusals.specs.Refusals.{refusalNumber, refusalLine}
 use Rattle.refusals.specs.declared.Answer.{Answer}
 use Rattle.refusals.specs.declared.Answer.the-variants.{Told, Refused}
+use Rattle.words.specs.declared.Found.{Found}
+use Rattle.words.specs.declared.Found.the-variants.{At, NotListed}
+use Rattle.words.specs.declared.Search.{Search}
+use Rattle.own_words.specs.declared.Searched.{Searched}
+use Rattle.own_words.specs.declared.Searched.the-variants as searched
 use Rattle.loops.specs.Contracts.{ReadsLoops}
 use Rattle.translate.specs.Entry.{makeText, rowsMade, TextInto}
 use Rattle.store.specs.Cells.{cellsOf, leftOver}
@@ -26,6 +31,18 @@ answerCode (Refused q) = refusalCode q
 abbrev pub acceptedCode : Answer → ℕ
 acceptedCode (Told n) = 0
 acceptedCode (Refused q) = refusalCode q
+
+-- [17.4] Of a search: the rows compared, n of them, and 2^16 more where the word is listed
+abbrev pub comparedCode : Found → ℕ → ℕ
+comparedCode (At k) n = 65536 + n
+comparedCode NotListed n = n
+
+abbrev pub searchCode : Search → ℕ
+searchCode s = comparedCode (s .found) (s .compared)
+
+abbrev pub searchedCode : Searched → ℕ
+searchedCode (searched.Told s) = searchCode s
+searchedCode (searched.Refused q) = refusalCode q
 
 -- What is promised of the answer r and of the two slices, as lent and as left.
 pub record ReadCoded (ws : List (List ℕ)) (t kinds : List ℕ) (numbers : List ℤ) (r : ℕ) (kinds′ : List ℕ) (numbers′ : List ℤ) : Type 0 where

@@ -5,12 +5,13 @@ use mathlib.Core.List.{List}
 use Prim.Native.Nat.{ℕ}
 use lib.IntN.{ℤ}
 use Rattle.words.specs.Kinds.{rowsOf}
+use Rattle.words.specs.Words.{lookUp, compared}
 use Rattle.store.specs.Cells.{cellsOf}
 use Rattle.typing.specs.Entry.{checkPlanText}
 use Rattle.loops.specs.Check.{checkLoopsText, writesOf, needOf}
 use Rattle.run.specs.Run.{runText, runTable}
 use Rattle.own_words.specs.Under.{Under}
-use Rattle.vazhdumir.specs.Codes.{refusalCode, answerCode, acceptedCode, ReadCoded, TextCoded, RunCoded}
+use Rattle.vazhdumir.specs.Codes.{refusalCode, answerCode, acceptedCode, comparedCode, ReadCoded, TextCoded, RunCoded}
 
 -- `vazhdumir_check_plan`: the text and the number told
 abbrev pub ChecksPlanForC : List (List ℕ) → List ℕ → ℕ → Type 0
@@ -39,6 +40,10 @@ RunsTextForC ws t order bytes r bytes′ = RunCoded (runText ws t order (cellsOf
 abbrev pub RunsRowsForC : List ℕ → List ℤ → ℕ → List ℕ → ℕ → List ℕ → Type 0
 RunsRowsForC kinds numbers order bytes r bytes′ = RunCoded (runTable (rowsOf kinds numbers) order (cellsOf bytes)) bytes r bytes′
 
+-- `vazhdumir_look_up`: the word and the number told
+abbrev pub LooksUpForC : List (List ℕ) → List ℕ → ℕ → Type 0
+LooksUpForC ws l r = r ≡ comparedCode (lookUp ws l) (compared ws l)
+
 -- [16.6], [16.7] The twins, which are given a words text w: the same with its own words, or its refusal, and what is lent is as it was
 abbrev pub ChecksPlanForCIn : List ℕ → List ℕ → ℕ → Type 0
 ChecksPlanForCIn w t r = Under w (λ ws. ChecksPlanForC ws t r) (λ q. r ≡ refusalCode q)
@@ -58,3 +63,6 @@ ReadsLoopsForCIn w t kinds numbers r kinds′ numbers′ =
 
 abbrev pub RunsTextForCIn : List ℕ → List ℕ → ℕ → List ℕ → ℕ → List ℕ → Type 0
 RunsTextForCIn w t order bytes r bytes′ = Under w (λ ws. RunsTextForC ws t order bytes r bytes′) (λ q. (r ≡ refusalCode q) × (bytes′ ≡ bytes))
+
+abbrev pub LooksUpForCIn : List ℕ → List ℕ → ℕ → Type 0
+LooksUpForCIn w l r = Under w (λ ws. LooksUpForC ws l r) (λ q. r ≡ refusalCode q)

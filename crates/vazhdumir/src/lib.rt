@@ -1,19 +1,29 @@
 // The entries for firmware written in C: [12.1]. Each answers as [12.2] and [12.3] say; slices and stores come as [12.4] says, and
 // nothing is allocated or kept ([12.5]).
+ghost use Prim.Native.Nat.{_≤_};
+ghost use lib.ListN.{length};
 ghost use Rattle.words.specs.Words.{words};
+ghost use Rattle.words.specs.declared.Search.{Search};
+ghost use Rattle.own_words.specs.declared.Searched.the-variants.{Told};
 ghost use mathlib.Core.Path.{_≡_};
 ghost use Rattle.loops.specs.Check.{writesOf};
-ghost use Rattle.vazhdumir.specs.Codes.{refusalCode, answerCode, acceptedCode};
+ghost use Rattle.vazhdumir.specs.Codes.{refusalCode, answerCode, acceptedCode, searchCode, searchedCode};
 ghost use Rattle.vazhdumir.specs.Contracts.{ChecksPlanForC, TranslatesForC, ChecksLoopsForC, TellsNeedForC};
-ghost use Rattle.vazhdumir.specs.Contracts.{ReadsLoopsForC, RunsTextForC, RunsRowsForC};
+ghost use Rattle.vazhdumir.specs.Contracts.{ReadsLoopsForC, RunsTextForC, RunsRowsForC, LooksUpForC};
 ghost use Rattle.vazhdumir.specs.Contracts.{ChecksPlanForCIn, TranslatesForCIn, ChecksLoopsForCIn, TellsNeedForCIn};
-ghost use Rattle.vazhdumir.specs.Contracts.{ReadsLoopsForCIn, RunsTextForCIn};
+ghost use Rattle.vazhdumir.specs.Contracts.{ReadsLoopsForCIn, RunsTextForCIn, LooksUpForCIn};
 use loops::Checked;
+use own_words::Searched;
 use refusals::Answer;
 use refusals::Refusal;
+use words::Found;
+use words::Search;
 
 // [12.2] The greatest line that an answer holds.
 const MOST_LINE: usize = 72057594037927935;
+
+// [17.4] The bit of a word that is listed.
+const LISTED: u64 = 65536;
 
 fn refusal_code(refusal: Refusal) -> u64
     ensures { λ r. ⌜ r ≡ refusalCode refusal ⌝ }
@@ -50,6 +60,28 @@ fn checked_code(checked: Checked) -> u64
     match checked {
         Checked::Passes { writes, need: _ } => writes as u64,
         Checked::Refused(refusal) => refusal_code(refusal),
+    }
+}
+
+fn search_code(search: Search) -> u64
+    requires { ⌜ search .compared ≤ length words ⌝ }
+    ensures { λ r. ⌜ r ≡ searchCode search ⌝ }
+{
+    let found = search.found;
+    let compared = search.compared as u64;
+    match found {
+        Found::At(_) => LISTED + compared,
+        Found::NotListed => compared,
+    }
+}
+
+fn searched_code(searched: Searched) -> u64
+    requires { ⌜ ((s : Search) → searched ≡ Told s → s .compared ≤ length words) ⌝ }
+    ensures { λ r. ⌜ r ≡ searchedCode searched ⌝ }
+{
+    match searched {
+        Searched::Told(search) => search_code(search),
+        Searched::Refused(refusal) => refusal_code(refusal),
     }
 }
 
@@ -116,6 +148,14 @@ pub extern "C" fn vazhdumir_run_rows(
     code(run::run_rows(kinds, numbers, order, &mut none, bytes))
 }
 
+// Searches the built-in words for one: how many rows were compared, and 2^16 more where it is listed.
+#[no_mangle]
+pub extern "C" fn vazhdumir_look_up(word: &[u8]) -> u64
+    ensures { λ r. ⌜ LooksUpForC words (now (word .entry)) r ⌝ }
+{
+    search_code(words::look_up(word))
+}
+
 // [16.7] The twins: each takes a words text, and then what its entry takes.
 #[no_mangle]
 pub extern "C" fn vazhdumir_check_plan_in(words: &[u8], text: &[u8]) -> u64
@@ -163,4 +203,11 @@ pub extern "C" fn vazhdumir_run_in(words: &[u8], text: &[u8], order: u32, bytes:
 {
     let mut none = [0i32; 0];
     code(run::run_text_in(words, text, order, &mut none, bytes))
+}
+
+#[no_mangle]
+pub extern "C" fn vazhdumir_look_up_in(words: &[u8], word: &[u8]) -> u64
+    ensures { λ r. ⌜ LooksUpForCIn (now (words .entry)) (now (word .entry)) r ⌝ }
+{
+    searched_code(own_words::look_up_in(words, word))
 }

@@ -7,12 +7,12 @@ use native.Mathlib.Nat.{le-of-suc-le-suc, not-suc-le-zero}
 use native.Mathlib.Omega.{arith}
 use borrow.Author.Tests.{ltb-true, ltb-false}
 use lib.Dec.{ltb}
-use lib.ListN.{length, getD, take, length-append, List·getD-map, List·getD-eq-default, List·getD-append}
-use lib.Seq.{getD-take, getD-append-add, length-take-le}
+use lib.ListN.{length, getD, take, length-append, List·getD-eq-default}
+use lib.Seq.{getD-append-add, length-take-le}
 use Rattle.words.specs.Laws.{table-length}
 use Rattle.words.specs.Packed.{packed, packedTable, columnFor, sorts}
 use Rattle.words.specs.Tables.{noWord, rowIn}
-use Rattle.words.specs.Words.{Entry, entry, table, words, wordAt, entryAt, bytes, columnOf, operandsAs, operandsOf}
+use Rattle.words.specs.Words.{Entry, entry, table, words, entryAt, bytes, columnOf, operandsAs, operandsOf}
 use Rattle.words.specs.declared.Sort.{Sort}
 use Rattle.words.specs.declared.Sort.the-variants.{Plan, DataType, Term, Loops, Cells, Command, Place, Value, Offset}
 use Rattle.words.specs.declared.Operands.{Operands}
@@ -28,13 +28,17 @@ getD-mapped f [] k d e h = absurd (not-suc-le-zero h)
 getD-mapped f (x ∷ l) zero d e h = refl
 getD-mapped f (x ∷ l) (suc k) d e h = getD-mapped f l k d e (le-of-suc-le-suc h)
 
-pub packed-row : (k : ℕ) → rowIn packedTable k ≡ packed (entryAt k)
+packed-row : (k : ℕ) → rowIn packedTable k ≡ packed (entryAt k)
 unfolding packedTable packed
 packed-row k = go (ltb k (length words)) refl
   where
     go : (b : Bool) → ltb k (length words) ≡ b → cond b (getD packedTable k []) noWord ≡ packed (entryAt k)
     go true e = getD-mapped packed table k [] (entry "" []) (omega (arith, ltb-true k (length words) e, table-length))
     go false e = past-table k (ltb-false k (length words) e)
+
+-- so the row of a kind is its entry
+pub entry-row : {rows : List (List ℕ)} (k : ℕ) {row : List ℕ} → rows ≡ packedTable → row ≡ rowIn rows k → row ≡ packed (entryAt k)
+entry-row k built-in is = is ∙ ap (λ (t : List (List ℕ)). rowIn t k) built-in ∙ packed-row k
 
 -- ---- the columns of a packed entry
 

@@ -12,16 +12,16 @@ use native.Mathlib.Omega.{arith}
 use lib.Dec.{T, T-not, eqb, leb, eqb→eq, eqb-refl, leb→le}
 use lib.Ieee.Fits.{and-i, and-l, and-r}
 use borrow.Author.Tests.{ltb-false, eqb-true}
-use lib.ListN.{length, getD, drop, drop-of-length-le, List·getD-eq-default}
+use lib.ListN.{length, getD, take, drop, length-map, drop-of-length-le, List·getD-eq-default}
 use lib.Seq.{drop-cons}
 use Rattle.words.specs.Kinds.{Row, rowsOf, word-plan, word-num, word-arr, word-two, word-in, word-var, word-lit, word-neg, word-add}
 use Rattle.words.specs.Kinds.{word-sub, word-mul, word-div, word-min, word-max, word-mappar, word-mapseq, word-redseq, word-zip}
 use Rattle.words.specs.Kinds.{word-pair, word-split, word-join, word-fst, word-snd, word-idx, word-loops, word-cells, word-set}
 use Rattle.words.specs.Kinds.{word-seq, word-for, word-par, word-new, word-out, word-loc, word-ctr, word-plus, word-times, word-over}
 use Rattle.words.specs.Kinds.{word-rest}
-use Rattle.words.specs.Tables.{wordsUpTo, wordsIn}
+use Rattle.words.specs.Tables.{firstOf, wordIn, wordsIn}
 use Rattle.words.specs.Good.{absent, distinct, lowerCase, wellFormed, Good}
-use Rattle.words.specs.Words.{Entry, bytes, entry, table, words, wordAt, sameLetters, lookFrom, lookUp, operandsAs, operandsOf}
+use Rattle.words.specs.Words.{Entry, bytes, entry, table, words, wordAt, sameLetters, lookFrom, lookUp, compared, operandsAs, operandsOf}
 use Rattle.words.specs.Groups.{oneOf, isListed}
 use Rattle.words.specs.declared.Sort.{Sort}
 use Rattle.words.specs.declared.Operands.the-variants.{Count}
@@ -92,6 +92,14 @@ found-word ws l k e =
     let q : k ≡ r .0 = omega (arith, r .1) in
     (omega (arith, r .2), ap (λ (i : ℕ). getD ws i []) q ∙ r .3)
 
+-- a word that no row has is not found
+pub missed-word : (ws : List (List ℕ)) (l : List ℕ) → ((k : ℕ) → k < length ws → wordAt ws k ≡ l → ⊥) → lookUp ws l ≡ NotListed
+missed-word ws l none = go (lookUp ws l) refl
+  where
+    go : (f : Found) → lookUp ws l ≡ f → f ≡ NotListed
+    go (At k) e = let there = found-word ws l k e in absurd (none k (there .0) (there .1))
+    go NotListed e = refl
+
 -- a word of a table with distinct words is found at its own place
 absent-at : (l : List ℕ) (ws : List (List ℕ)) (i : ℕ) → T (absent l ws) → i < length ws → l ≡ getD ws i [] → ⊥
 unfolding absent
@@ -126,6 +134,37 @@ own-from j (w ∷ ws) (suc i) t h =
 pub own-place : (ws : List (List ℕ)) (k : ℕ) → T (distinct ws) → k < length ws → lookUp ws (wordAt ws k) ≡ At k
 own-place ws k t h = own-from 0 ws k t h ∙ ap At (omega arith)
 
+-- ---- how many rows a search compares
+
+-- the place found, counted from 1; or all the rows, j before these and n
+abbrev rowsPassed : Found → ℕ → ℕ → ℕ
+rowsPassed (At k) j n = k + 1
+rowsPassed NotListed j n = j + n
+
+compared-from : (j : ℕ) (ws : List (List ℕ)) (l : List ℕ) → j + compared ws l ≡ rowsPassed (lookFrom j ws l) j (length ws)
+unfolding compared lookFrom
+compared-from j [] l = refl
+compared-from j (w ∷ ws) l = go (sameLetters l w) (lookFrom (suc j) ws l) (compared-from (suc j) ws l)
+  where
+    go : (b : Bool) (f : Found) → suc j + compared ws l ≡ rowsPassed f (suc j) (length ws)
+        → j + suc (cond b 0 (compared ws l)) ≡ rowsPassed (cond b (At j) f) j (suc (length ws))
+    go true f e = omega arith
+    go false (At k) e = omega (arith, e)
+    go false NotListed e = omega (arith, e)
+
+pub compared-found : (ws : List (List ℕ)) (l : List ℕ) (k : ℕ) → lookUp ws l ≡ At k → compared ws l ≡ k + 1
+compared-found ws l k e = omega (arith, compared-from 0 ws l ∙ ap (λ (f : Found). rowsPassed f 0 (length ws)) e)
+
+pub compared-missed : (ws : List (List ℕ)) (l : List ℕ) → lookUp ws l ≡ NotListed → compared ws l ≡ length ws
+compared-missed ws l e = omega (arith, compared-from 0 ws l ∙ ap (λ (f : Found). rowsPassed f 0 (length ws)) e)
+
+pub compared-few : (ws : List (List ℕ)) (l : List ℕ) → compared ws l ≤ length ws
+compared-few ws l = go (lookUp ws l) refl
+  where
+    go : (f : Found) → lookUp ws l ≡ f → compared ws l ≤ length ws
+    go (At k) e = omega (arith, compared-found ws l k e, found-word ws l k e .0)
+    go NotListed e = omega (arith, compared-missed ws l e)
+
 -- ---- the words of a well-formed table
 
 pub word-formed : (ws : List (List ℕ)) (k : ℕ) → T (wellFormed ws) → T (lowerCase (wordAt ws k)) × (length (wordAt ws k) ≤ 8)
@@ -138,6 +177,33 @@ word-formed (w ∷ ws) zero t =
 word-formed (w ∷ ws) (suc k) t =
     word-formed ws k (and-r (lowerCase w && leb 1 (length w) && leb (length w) 8) (wellFormed ws) t)
 
+-- ---- the first n of a list, whatever its length
+
+pub first-count : {A : Type 0} (d : A) (n : ℕ) (l : List A) → length (firstOf d n l) ≡ n
+unfolding firstOf
+first-count d zero l = refl
+first-count d (suc n) [] = ap suc (first-count d n [])
+first-count d (suc n) (x ∷ l) = ap suc (first-count d n l)
+
+pub first-at : {A : Type 0} (d : A) (n : ℕ) (l : List A) (i : ℕ) → i < n → getD (firstOf d n l) i d ≡ getD l i d
+unfolding firstOf
+first-at d zero l i h = absurd (not-suc-le-zero h)
+first-at d (suc n) [] zero h = refl
+first-at d (suc n) [] (suc i) h = first-at d n [] i (le-of-suc-le-suc h)
+first-at d (suc n) (x ∷ l) zero h = refl
+first-at d (suc n) (x ∷ l) (suc i) h = first-at d n l i (le-of-suc-le-suc h)
+
+pub first-take : {A : Type 0} (d : A) (n : ℕ) (l : List A) → n ≤ length l → firstOf d n l ≡ take n l
+unfolding firstOf
+first-take d zero l h = refl
+first-take d (suc n) [] h = absurd (not-suc-le-zero h)
+first-take d (suc n) (x ∷ l) h = ap (_∷_ x) (first-take d n l (le-of-suc-le-suc h))
+
+-- so the words of a table's rows are as many as there are words
+pub words-in-count : (rows : List (List ℕ)) → length (wordsIn rows) ≡ length words
+unfolding wordsIn
+words-in-count rows = length-map (firstOf [] (length words) rows) wordIn ∙ first-count [] (length words) rows
+
 -- ---- the built-in table: a test that is computed
 
 pub words-count : length words ≡ 38
@@ -147,17 +213,6 @@ words-count = refl
 pub table-length : length table ≡ length words
 unfolding words table
 table-length = refl
-
--- the words of a table's rows are as many
-up-to-count : (n : ℕ) (rows : List (List ℕ)) → length (wordsUpTo n rows) ≡ n
-unfolding wordsUpTo
-up-to-count zero rows = refl
-up-to-count (suc n) [] = ap suc (up-to-count n [])
-up-to-count (suc n) (r ∷ rows) = ap suc (up-to-count n rows)
-
-pub words-in-count : (rows : List (List ℕ)) → length (wordsIn rows) ≡ length words
-unfolding wordsIn
-words-in-count rows = up-to-count (length words) rows
 
 -- a kind that makes rows of some sort is a word's
 pub word-listed : (k : ℕ) (s : Sort) (m : ℕ) → operandsOf k s ≡ Count m → isListed k ≡ true

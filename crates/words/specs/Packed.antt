@@ -1,5 +1,5 @@
--- An entry of the table of words as the code's table holds it, in bytes: letters and blanks, their count, and a column for
--- each sort. What private functions of the code answer; no public contract rests on it. Assumes nothing.
+-- An entry of the table of words as the code's table holds it, in bytes: letters and blanks, their count, and a column for each sort. What the
+-- code's built-in table is, and what is asked of the table that a row's operands are looked for in; no contract of an entry rests on it. Assumes nothing.
 use mathlib.Core.List.{List, [], _∷_, _++_, map}
 use Prim.Native.Nat.{ℕ, _+_}
 use lib.ListN.{length, take}

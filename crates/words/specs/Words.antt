@@ -1,4 +1,4 @@
--- The table of words: [2.1] to [2.3]; and looking a word up in it: [1.3]. Definitions only; assumes nothing.
+-- The table of words: [2.1] to [2.3]; and looking a word up in it: [1.3], [17.1]. Definitions only; assumes nothing.
 use mathlib.Core.Bool.{Bool, true, false, cond, _&&_}
 use mathlib.Core.List.{List, [], _∷_, map}
 use Prim.Native.Nat.{ℕ, suc}
@@ -91,6 +91,11 @@ lookFrom k (w ∷ ws) l = cond (sameLetters l w) (At k) (lookFrom (suc k) ws l)
 
 abbrev pub lookUp : List (List ℕ) → List ℕ → Found
 lookUp ws l = lookFrom 0 ws l
+
+-- [17.1] how many rows of a table are compared with a word, one after the other, up to the first that has it
+unfoldable pub compared : List (List ℕ) → List ℕ → ℕ
+compared [] l = 0
+compared (w ∷ ws) l = suc (cond (sameLetters l w) 0 (compared ws l))
 
 -- [2.1] the sorts, in that order
 abbrev pub columnOf : Sort → ℕ

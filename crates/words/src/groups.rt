@@ -5,6 +5,7 @@ ghost use Rattle.words.specs.declared.Sort.the-variants.{Term};
 ghost use Rattle.words.specs.Groups.{oneOf, isListed, counted, isLeaf, hasOneOperand, isMap, isOperation, isLoop};
 use crate::Operands;
 use crate::Sort;
+use crate::built_in;
 use crate::kinds::*;
 use crate::operand_count;
 
@@ -33,7 +34,8 @@ pub fn is_listed(kind: u8) -> bool
 fn has_operands(kind: u8, number: usize) -> bool
     ensures { λ r. ⌜ r ≡ counted number (operandsOf kind Term) ⌝ }
 {
-    let operands = operand_count(kind, Sort::Term);
+    let table = built_in();
+    let operands = operand_count(&table, kind, Sort::Term);
     let Operands::Count(count) = operands else {
         return false;
     };

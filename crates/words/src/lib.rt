@@ -1,14 +1,15 @@
-// The words of plans and loops: the built-in table, other tables of the same form, and looking a word up in one: [2.1] to [2.3], [1.3].
+// The words of plans and loops: the built-in table, other tables of the same form, and the search for a word in one: [2.1] to [2.3], [1.3], [17.1].
 pub mod groups;
 pub mod kinds;
 
 ghost use mathlib.Core.Path.{_≡_};
-ghost use Prim.Native.Nat.{ℕ, _-_, _≤_, _<_};
+ghost use Prim.Native.Nat.{_-_, _≤_, _<_};
 ghost use lib.ListN.{length, getD};
 ghost use Rattle.words.specs.Kinds.{rowsOf};
-ghost use Rattle.words.specs.Packed.{packed};
-ghost use Rattle.words.specs.Tables.{rowIn, lettersIn, wordIn, wordsIn};
-ghost use Rattle.words.specs.Words.{words, wordAt, entryAt, sameLetters, lookUp, columnOf, operandsOf};
+ghost use Rattle.words.specs.Packed.{packedTable};
+ghost use Rattle.words.specs.Contracts.{LooksUp};
+ghost use Rattle.words.specs.Tables.{lettersBy, rowIn, wordIn, wordsIn};
+ghost use Rattle.words.specs.Words.{words, wordAt, sameLetters, lookUp, columnOf, operandsOf};
 use crate::kinds::WORD_COUNT;
 
 // [2.1] The sorts of rows.
@@ -28,6 +29,12 @@ pub enum Sort {
 pub enum Found {
     At(usize),
     NotListed,
+}
+
+// What a search down a table answers: where the word stands, and how many rows were compared with it.
+pub struct Search {
+    pub found: Found,
+    pub compared: usize,
 }
 
 // How many operands a row has; or its word makes no row of the sort asked for.
@@ -109,14 +116,6 @@ fn row_in(table: &Table, place: usize) -> [u8; 19]
     table[place]
 }
 
-// The built-in table's row of this kind.
-fn word_at(kind: u8) -> [u8; 19]
-    ensures { λ r. ⌜ r ≡ packed (entryAt kind) ⌝ }
-{
-    let table = WORDS;
-    row_in(&table, kind as usize)
-}
-
 // The number that a digit stands for.
 fn digit(byte: u8) -> usize
     requires { ⌜ 48 ≤ byte ⌝ }
@@ -125,11 +124,12 @@ fn digit(byte: u8) -> usize
     (byte - b'0') as usize
 }
 
-// The operands of a row of this kind, as a row of this sort.
-pub fn operand_count(kind: u8, sort: Sort) -> Operands
+// The operands of a row of this kind, as a row of this sort, by the built-in table.
+pub fn operand_count(built_in: &Table, kind: u8, sort: Sort) -> Operands
+    requires { ⌜ now built_in ≡ packedTable ⌝ }
     ensures { λ r. ⌜ r ≡ operandsOf kind sort ⌝ }
 {
-    let word = word_at(kind);
+    let word = row_in(built_in, kind as usize);
     let count = word[10 + column(sort)];
     if count == b'-' {
         return Operands::NotOfSort;
@@ -139,23 +139,23 @@ pub fn operand_count(kind: u8, sort: Sort) -> Operands
 
 // [2.2] The built-in table.
 pub fn built_in() -> Table
-    ensures { λ r. ⌜ wordsIn r ≡ words ⌝ }
+    ensures words_in { λ r. ⌜ wordsIn r ≡ words ⌝ }
+    ensures packed { λ r. ⌜ r ≡ packedTable ⌝ }
 {
     WORDS
 }
 
-// How many letters a row's word has.
-fn letter_count(row: [u8; 19]) -> usize
-    ensures { λ r. ⌜ (r ≡ lettersIn row) × (r ≤ 8) ⌝ }
+// How many letters a row's word has, by the byte behind them.
+fn letter_count(byte: u8) -> usize
+    ensures { λ r. ⌜ (r ≡ lettersBy byte) × (r ≤ 8) ⌝ }
 {
-    let count = row[8];
-    if count < b'0' {
+    if byte < b'0' {
         return 0;
     }
-    if b'8' < count {
+    if b'8' < byte {
         return 8;
     }
-    digit(count)
+    digit(byte)
 }
 
 // How many letters the word of this kind has.
@@ -163,7 +163,7 @@ pub fn length(table: &Table, kind: u8) -> usize
     ensures { λ r. ⌜ (r ≡ length (wordAt (wordsIn (now (table .entry))) kind)) × (r ≤ 8) ⌝ }
 {
     let row = row_in(table, kind as usize);
-    letter_count(row)
+    letter_count(row[8])
 }
 
 // Letter i of the word of this kind; 0 past its end.
@@ -171,43 +171,65 @@ pub fn letter(table: &Table, kind: u8, i: usize) -> u8
     ensures { λ r. ⌜ r ≡ getD (wordAt (wordsIn (now (table .entry))) kind) i 0 ⌝ }
 {
     let row = row_in(table, kind as usize);
-    if letter_count(row) <= i {
+    if letter_count(row[8]) <= i {
         return 0;
     }
     row[i]
 }
 
-// Whether these are the letters of a row's word.
-fn same(letters: &[u8], row: [u8; 19]) -> bool
-    ensures { λ r. ⌜ r ≡ sameLetters (now (letters .entry)) (wordIn row) ⌝ }
+// Whether these are the letters of a row's word: the row is left at the first letter that differs.
+fn same(letters: &[u8], row: &[u8; 19]) -> bool
+    ensures { λ r. ⌜ r ≡ sameLetters (now (letters .entry)) (wordIn (now (row .entry))) ⌝ }
 {
-    let n = letter_count(row);
-    if letters.len() != n {
-        return false;
-    }
     let mut i = 0;
-    while i < n {
+    while i < letters.len() {
+        if 8 <= i {
+            return false;
+        }
         if letters[i] != row[i] {
             return false;
         }
         i += 1;
     }
-    true
+    letter_count(row[8]) == i
 }
 
-// [1.3] Where a table has the word with these letters.
-pub fn look_up(table: &Table, letters: &[u8]) -> Found
-    ensures { λ r. ⌜ r ≡ lookUp (wordsIn (now (table .entry))) (now (letters .entry)) ⌝ }
+// [1.3], [17.1] Goes down a table to the word with these letters, and ends there.
+pub fn find(table: &Table, letters: &[u8]) -> Search
+    ensures { λ r. ⌜ LooksUp (wordsIn (now (table .entry))) (now (letters .entry)) r ⌝ }
 {
-    let mut kind = 0;
-    while kind < WORD_COUNT {
-        let row = row_in(table, kind);
-        if same(letters, row) {
-            return Found::At(kind);
+    let mut compared = 0;
+    while compared < WORD_COUNT {
+        let place = compared;
+        let hit = same(letters, &table[place]);
+        compared += 1;
+        if hit {
+            return Search {
+                found: Found::At(place),
+                compared,
+            };
         }
-        kind += 1;
     }
-    Found::NotListed
+    Search {
+        found: Found::NotListed,
+        compared,
+    }
+}
+
+// Where a table has the word of a row.
+pub fn find_row(table: &Table, row: [u8; 19]) -> Found
+    ensures { λ r. ⌜ r ≡ lookUp (wordsIn (now (table .entry))) (wordIn row) ⌝ }
+{
+    let count = letter_count(row[8]);
+    find(table, &row[..count]).found
+}
+
+// [17.3] The search for a word in the built-in table.
+pub fn look_up(word: &[u8]) -> Search
+    ensures { λ r. ⌜ LooksUp words (now (word .entry)) r ⌝ }
+{
+    let table = built_in();
+    find(&table, word)
 }
 
 // [1.8] How many rows a lent table has: as many as the shorter of its slices.

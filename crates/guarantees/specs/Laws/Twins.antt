@@ -18,7 +18,7 @@ use Rattle.own_words.specs.Laws.{accepted-under, refused-under, under-both, acc
 use Rattle.typing.specs.Questions.{Question, question, ask, AllYes, FirstNo}
 use Rattle.typing.specs.Laws.Questions.{all-asked, first-asked}
 use Rattle.vazhdumir.specs.Codes.{refusalCode}
-use Rattle.guarantees.specs.Told.{Told, refusal, toldAnswer, toldWrites, toldNeed, toldCode}
+use Rattle.guarantees.specs.Told.{Told, refusal, toldAnswer, toldWrites, toldNeed, toldCompared, toldCode}
 use Rattle.guarantees.specs.Questions.{wordsQuestions}
 use Rattle.guarantees.specs.Twins.{Twin, Twins}
 use Rattle.guarantees.specs.Laws.Codes.{refusal-code}
@@ -94,10 +94,12 @@ module _ (w : List ℕ) where
     run-text = λ t order c c′ b b′ r frame I. twin (λ q e x. (ap toldAnswer (x .0), (x .1, x .2))) (under-both I (λ ws x. (frame, x)) (λ q x. x));
     print-loops = λ t u u′ r I. twin (λ q e x. put-answers x) I;
     print-run = λ t v s s′ u u′ r I. twin (λ q e x. shown-answers x _ (λ left. left)) I;
+    look-up = λ l r I. twin (λ q e x. (ap toldCompared x, tt)) I;
     check-plan-c = λ t r I. twin (λ q e x. (code r q e x, tt)) I;
     translate-c = λ t u u′ r I. twin (λ q e x. (code r q e (x .0), x .1)) I;
     check-loops-c = λ t r I. twin (λ q e x. (code r q e x, tt)) I;
     need-loops-c = λ t r I. twin (λ q e x. (code r q e x, tt)) I;
     read-loops-c = λ t k k′ n n′ r I. twin (λ q e x. (code r q e (x .0), (x .1, x .2))) I;
     run-text-c = λ t order b b′ r I. twin (λ q e x. (code r q e (x .0), x .1)) I;
+    look-up-c = λ l r I. twin (λ q e x. (code r q e x, tt)) I;
   }

@@ -10,7 +10,7 @@ use Rattle.loops.proofs.need_text.Tie as tie
 returns : tie.Need-returns
 returns c =
     let a = c .before .before .before .before .args in
-    subst (λ (ws : List (List ℕ)). TellsNeed ws (a .text .now) (c .need-with .result)) (c .before .before .built-in .ensures) (c .need-with .ensures)
+    subst (λ (ws : List (List ℕ)). TellsNeed ws (a .text .now) (c .need-with .result)) (c .before .before .built-in .ensures .0) (c .need-with .ensures)
 
 pub need-text-spec : {M : Type 1} → statement M
 need-text-spec = tie.close (tie.spec (λ c κs. search needs) (λ c κs. search needs) returns)

@@ -12,7 +12,7 @@ returns c =
     let a = c .before .before .before .before .before .before .before .before .before .before .args in
     let read-with = c .before .before .before .read-with in
     subst (λ (ws : List (List ℕ)). ReadsLoops ws (a .text .now) (a .kinds .now) (a .numbers .now) (read-with .result) (read-with .last .1 .1 .0) (read-with .last .1 .1 .1 .0))
-    (c .before .before .before .before .before .before .before .built-in .ensures)
+    (c .before .before .before .before .before .before .before .built-in .ensures .0)
     (read-with .ensures)
 
 pub read-text-spec : {M : Type 1} → statement M

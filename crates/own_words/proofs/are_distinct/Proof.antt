@@ -1,18 +1,16 @@
 -- `are_distinct` meets its contract. The loop's invariant: each word passed is found at its own place.
 use mathlib.Core.Path.{_≡_, sym, ap, _∙_}
-use mathlib.Core.List.{[]}
 use Prim.Native.Nat.{ℕ, _-_, _≤_, _<_}
 use native.Mathlib.Nat.{not-suc-le-zero}
 use native.Mathlib.Omega.{arith}
-use lib.ListN.{length, getD}
-use lib.Seq.{length-take-le}
+use lib.ListN.{length}
 use borrow.Author.Count.{below-more}
 use borrow.Author.Needs.{needs}
 use Rattle.words.specs.Tables.{wordsIn}
 use Rattle.words.specs.Words.{words, wordAt, lookUp}
 use Rattle.words.specs.Laws.{words-count, words-in-count}
 use Rattle.words.specs.declared.Found.the-variants.{At}
-use Rattle.own_words.proofs.Rows.{own-within, own-found, all-distinct, not-distinct}
+use Rattle.own_words.proofs.Rows.{own-found, all-distinct, not-distinct}
 use Rattle.own_words.proofs.are_distinct.Statement.{statement}
 use Rattle.own_words.proofs.are_distinct.Tie as tie
 
@@ -26,47 +24,30 @@ abbrev μ-loop : tie.MeasureT-loop
 loop-holds : tie.Need-loop-holds Inv-loop μ-loop
 loop-holds c = (omega arith, (λ i h. absurd (not-suc-le-zero h)))
 
-array-share-prefix-row : tie.Need-array-share-prefix-row Inv-loop μ-loop
-array-share-prefix-row c =
-    own-within (c .before .before .before .before .args .table .now) (c .before .before .before .loop .kind) (c .length .result)
-    (omega (arith, words-count, c .before .before .loop-test .taken)) (c .length .ensures .0)
-
-slice-aggregate-look-up : tie.Need-slice-aggregate-look-up Inv-loop μ-loop
-slice-aggregate-look-up c =
-    let table = c .before .before .before .before .before .args .table .now in
-    let kind = c .before .before .before .before .loop .kind in
-    let length = c .before .length in
-    sym (length-take-le (length .result) (getD table kind [])
-    (own-within table kind (length .result) (omega (arith, words-count, c .before .before .before .loop-test .taken)) (length .ensures .0)))
-
 returns : tie.Need-returns Inv-loop μ-loop
 returns c =
-    let table = c .before .before .before .before .before .before .before .before .args .table .now in
-    let kind = c .before .before .before .before .before .before .before .loop .kind in
-    let here : kind < length words = omega (arith, words-count, c .before .before .before .before .before .before .loop-test .taken) in
-    let count = c .before .before .before .before .length in
-    let found = own-found table kind (count .result) here (count .ensures .0) (c .before .before .look-up .ensures) in
+    let table = c .before .before .before .before .before .before .args .table .now in
+    let kind = c .before .before .before .before .before .loop .kind in
+    let here : kind < length words = omega (arith, words-count, c .before .before .before .before .loop-test .taken) in
+    let found = own-found table kind here (c .before .before .find-row .ensures) in
     let none = c .enum-told .given .1 in
     not-distinct (wordsIn table) kind (omega (arith, words-in-count table)) (λ e. let z : _≡_ {A = ℕ} 0 1 = cc in omega arith)
 
 returns-2 : tie.Need-returns-2 Inv-loop μ-loop
 returns-2 c =
-    let table = c .before .before .before .before .before .before .before .before .before .before .args .table .now in
-    let kind = c .before .before .before .before .before .before .before .before .before .loop .kind in
-    let here : kind < length words = omega (arith, words-count, c .before .before .before .before .before .before .before .before .loop-test .taken) in
-    let count = c .before .before .before .before .before .before .length in
-    let found = own-found table kind (count .result) here (count .ensures .0) (c .before .before .before .before .look-up .ensures) in
+    let table = c .before .before .before .before .before .before .before .before .args .table .now in
+    let kind = c .before .before .before .before .before .before .before .loop .kind in
+    let here : kind < length words = omega (arith, words-count, c .before .before .before .before .before .before .loop-test .taken) in
+    let found = own-found table kind here (c .before .before .before .before .find-row .ensures) in
     let place = c .before .before .found .given .1 in
     not-distinct (wordsIn table) kind (omega (arith, words-in-count table)) (λ e. c .if1 .taken cc)
 
 loop-again : tie.Need-loop-again Inv-loop μ-loop
 loop-again c =
-    let table = c .before .before .before .before .before .before .before .before .before .before .args .table .now in
-    let turn = c .before .before .before .before .before .before .before .before .before .loop in
-    let test = c .before .before .before .before .before .before .before .before .loop-test .taken in
-    let count = c .before .before .before .before .before .before .length in
-    let found = own-found table (turn .kind) (count .result) (omega (arith, words-count, test)) (count .ensures .0)
-    (c .before .before .before .before .look-up .ensures) in (
+    let table = c .before .before .before .before .before .before .before .before .args .table .now in
+    let turn = c .before .before .before .before .before .before .before .loop in
+    let test = c .before .before .before .before .before .before .loop-test .taken in
+    let found = own-found table (turn .kind) (omega (arith, words-count, test)) (c .before .before .before .before .find-row .ensures) in (
       omega (arith, words-count, test),
       below-more _ _ (turn .inv .1) (sym found ∙ c .before .before .found .given .1 ∙ ap At (c .if1 .left)),
     )
@@ -79,6 +60,5 @@ returns-3 c =
 pub are-distinct-spec : {M : Type 1} → statement M
 are-distinct-spec =
     tie.close
-    (tie.spec Inv-loop μ-loop loop-holds (λ c. search needs) (λ c. search needs) (λ c. search needs) (λ c κs. search needs) array-share-prefix-row
-    slice-aggregate-look-up (λ c κs. search needs) (λ c. search needs) (λ c. search needs) returns returns-2 (λ c. search needs)
-    (λ c. omega (arith, words-count)) loop-again returns-3)
+    (tie.spec Inv-loop μ-loop loop-holds (λ c. search needs) (λ c. search needs) (λ c κs. search needs) (λ c. search needs) (λ c. search needs)
+    returns returns-2 (λ c. search needs) (λ c. omega (arith, words-count)) loop-again returns-3)

@@ -35,7 +35,7 @@ returns c =
 
 is-own-line-requires : tie.Need-is-own-line-requires Inv-loop μ-loop
 is-own-line-requires c κs = (
-  c .before .before .before .before .before .before .built-in .ensures,
+  c .before .before .before .before .before .before .built-in .ensures .0,
   omega (arith, words-count, c .before .before .before .before .loop-test .taken),
 )
 

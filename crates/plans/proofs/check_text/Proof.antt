@@ -10,7 +10,7 @@ use Rattle.plans.proofs.check_text.Tie as tie
 returns : tie.Need-returns
 returns c =
     let a = c .before .before .before .before .args in
-    subst (λ (ws : List (List ℕ)). ChecksPlan ws (a .text .now) (c .check-with .result)) (c .before .before .built-in .ensures) (c .check-with .ensures)
+    subst (λ (ws : List (List ℕ)). ChecksPlan ws (a .text .now) (c .check-with .result)) (c .before .before .built-in .ensures .0) (c .check-with .ensures)
 
 pub check-text-spec : {M : Type 1} → statement M
 check-text-spec = tie.close (tie.spec (λ c κs. search needs) (λ c κs. search needs) returns)

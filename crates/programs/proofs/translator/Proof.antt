@@ -12,7 +12,7 @@ returns c =
     let a = c .before .before .before .before .before .before .before .before .args in
     let translator-with = c .before .before .translator-with in
     subst (λ (ws : List (List ℕ)). PrintsLoops ws (a .plan .now) (a .lent .now) (translator-with .result) (translator-with .last .1 .1 .0))
-    (c .before .before .before .before .before .built-in .ensures) (translator-with .ensures)
+    (c .before .before .before .before .before .built-in .ensures .0) (translator-with .ensures)
 
 pub translator-spec : {M : Type 1} → statement M
 translator-spec = tie.close (tie.spec (λ c κs. search needs) (λ c κs. search needs) (λ c. search needs) returns)

@@ -13,7 +13,7 @@ returns c =
     let run-with = c .before .before .before .run-with in (
       run-with .ensures .0,
       subst (λ (ws : List (List ℕ)). RunsText ws (a .text .now) (a .order) (a .cells .now) (a .bytes .now) (run-with .result) (run-with .last .1 .1 .1 .0) (run-with .last .1 .1 .1 .1 .0))
-          (c .before .before .before .before .before .before .before .built-in .ensures) (run-with .ensures .1),
+          (c .before .before .before .before .before .before .before .built-in .ensures .0) (run-with .ensures .1),
     )
 
 pub run-text-spec : {M : Type 1} → statement M

@@ -25,22 +25,22 @@ use Rattle.syntax.proofs.operands.operand.Reads as operand-reads
 use Rattle.syntax.proofs.+walk.{statement}
 use Rattle.syntax.proofs.+walk.Tie.{close}
 
-abbrev μ-walk : Measures 2 walk-kinds.ps ℕ
-μ-walk κs a = length (a .0 .now)
+abbrev μ-walk : Measures 3 walk-kinds.ps ℕ
+μ-walk κs a = length (a .1 .0 .now)
 
-abbrev walk-at : ℕ → In 2 walk-kinds.ps
-walk-at t = and 2 walk-kinds.ps (is 2 walk-kinds.ps μ-walk t) walk.Pre
+abbrev walk-at : ℕ → In 3 walk-kinds.ps
+walk-at t = and 3 walk-kinds.ps (is 3 walk-kinds.ps μ-walk t) walk.Pre
 
-abbrev walk-below : ℕ → In 2 walk-kinds.ps
-walk-below t = and 2 walk-kinds.ps (falls 2 walk-kinds.ps _<_ μ-walk t) walk.Pre
+abbrev walk-below : ℕ → In 3 walk-kinds.ps
+walk-below t = and 3 walk-kinds.ps (falls 3 walk-kinds.ps _<_ μ-walk t) walk.Pre
 
 abbrev walk-Inv-loop : walk-lts.InvT-loop
-walk-Inv-loop kinds numbers before due line kind number operands rows₀ left₀ rows left =
+walk-Inv-loop built-in kinds numbers before due line kind number operands rows₀ left₀ rows left =
     (1 ≤ rows) × (rows ≤ length kinds) × ((ds : List Due) → walkFrom before (due ∷ ds) (rowsOf kinds numbers) ≡
     walkFrom (before + rows) (operandsDue due kind number left ++ ds) (drop rows (rowsOf kinds numbers)))
 
 abbrev walk-μ-loop : walk-lts.MeasureT-loop
-walk-μ-loop kinds numbers before due line kind number operands rows₀ left₀ rows left = left
+walk-μ-loop built-in kinds numbers before due line kind number operands rows₀ left₀ rows left = left
 
 -- what the callees of `walk` ask, and what they promise
 abbrev walk-calls : ℕ → walk-lts.Claims
@@ -109,6 +109,7 @@ walk-walk-requires t c κs =
             (entry .pre .1 .2) (sym
             (c .before .before .before .before .before .before .before .before .ask .ensures) ∙
             c .before .before .before .before .before .before .asked .given .1)),
+        entry .pre .1 .3,
       ),
     )
 

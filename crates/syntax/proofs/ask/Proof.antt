@@ -37,8 +37,8 @@ returns-3 c =
     (c .before .before .before .if1 .left)) (ap namesFit (sym (c .before .before .opened .ensures)) ∙ flag-not _
     _ (c .before .names-fit .ensures) (c .if2 .taken))
 
-add-t16 : tie.Need-add-t16
-add-t16 c =
+add-t17 : tie.Need-add-t17
+add-t17 c =
     let entry = c .before .before .before .before .before .before .before .before .before .before .before in
     omega (
       arith,
@@ -68,4 +68,4 @@ pub ask-spec : {M : Type 1} → statement M
 ask-spec =
     tie.close
     (tie.spec (λ c κs. search needs) (λ c. search needs) (λ c. search needs) returns (λ c κs. search needs) returns-2
-    (λ c κs. search needs) (λ c κs. search needs) returns-3 (λ c κs. search needs) add-t16 returns-4)
+    (λ c κs. search needs) (λ c κs. search needs) returns-3 (λ c κs. search needs) add-t17 returns-4)

@@ -12,7 +12,7 @@ returns c =
     let a = c .before .before .before .before .before .before .before .before .before .before .args in
     let rows-with = c .before .before .before .rows-with in
     subst (λ (ws : List (List ℕ)). TranslatesRows ws (a .text .now) (a .kinds .now) (a .numbers .now) (rows-with .result) (rows-with .last .1 .1 .0) (rows-with .last .1 .1 .1 .0))
-    (c .before .before .before .before .before .before .before .built-in .ensures)
+    (c .before .before .before .before .before .before .before .built-in .ensures .0)
     (rows-with .ensures)
 
 pub translate-rows-spec : {M : Type 1} → statement M

@@ -11,7 +11,7 @@ returns : tie.Need-returns
 returns c =
     let a = c .before .before .before .before .before .before .before .before .args in
     let text-with = c .before .before .text-with in
-    subst (λ (ws : List (List ℕ)). TranslatesText ws (a .text .now) (a .lent .now) (text-with .result) (text-with .last .1 .1 .0)) (c .before .before .before .before .before .built-in .ensures)
+    subst (λ (ws : List (List ℕ)). TranslatesText ws (a .text .now) (a .lent .now) (text-with .result) (text-with .last .1 .1 .0)) (c .before .before .before .before .before .built-in .ensures .0)
     (text-with .ensures)
 
 pub translate-text-spec : {M : Type 1} → statement M

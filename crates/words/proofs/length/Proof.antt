@@ -1,9 +1,8 @@
 -- `words::length` meets its contract.
-use mathlib.Core.Path.{_≡_, sym, ap, _∙_}
+use mathlib.Core.Path.{sym, ap, _∙_}
 use mathlib.Core.List.{List}
-use Prim.Native.Nat.{ℕ, _≤_}
+use Prim.Native.Nat.{ℕ}
 use lib.ListN.{length}
-use native.Mathlib.Omega.{arith}
 use borrow.Author.Needs.{needs}
 use Rattle.words.specs.Tables.{wordIn}
 use Rattle.words.proofs.Rows.{word-of-row, row-letters}
@@ -12,13 +11,12 @@ use Rattle.words.proofs.length.Tie as tie
 
 returns : tie.Need-returns
 returns c =
-    let row = c .before .row-in in
-    let long : length (row .result) ≡ 19 = search needs in (
+    let row = c .before .row-in in (
       c .letter-count .ensures .0
-          ∙ sym (row-letters (row .result) (omega (arith, long)))
+          ∙ sym (row-letters (row .result))
           ∙ ap (λ (l : List ℕ). length l) (sym (word-of-row _ _ ∙ ap wordIn (sym (row .ensures)))),
       c .letter-count .ensures .1,
     )
 
 pub length-spec : {M : Type 1} → statement M
-length-spec = tie.close (tie.spec (λ c κs. search needs) (λ c κs. search needs) returns)
+length-spec = tie.close (tie.spec (λ c κs. search needs) (λ c. search needs) (λ c κs. search needs) returns)

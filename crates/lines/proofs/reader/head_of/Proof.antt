@@ -10,7 +10,7 @@ use Rattle.lines.proofs.reader.head_of.Tie as tie
 returns : tie.Need-returns
 returns c =
     let a = c .before .before .before .before .args in
-    c .look-up .ensures
+    c .find .ensures .0
     ∙ ap (λ (h : Heads). headOf (wordsIn (a .table .now)) h (a .bytes .now))
     (sym (c .before .enum-told .given .1))
 
