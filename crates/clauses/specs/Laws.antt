@@ -1,5 +1,5 @@
--- What the three nodes of a reduction stand for: its total, the element at a counter and where its body is written. A reader need not
--- believe any of it. Assumes nothing.
+-- What the three nodes of a reduction stand for: its total, the element at a counter and where its body is written; and which region that is
+-- at most. A reader need not believe any of it. Assumes nothing.
 use mathlib.Core.Path.{_≡_, ap, _∙_}
 use mathlib.Core.List.{List}
 use Prim.Native.Nat.{ℕ, _+_, _≤_, _<_}

@@ -1,5 +1,5 @@
--- Types of plans, their cells and levels: [3.1] to [3.3], [3.5]. The paper calls them data types. Definitions only; assumes
--- nothing.
+-- Types of plans, their cells and levels: [3.1] to [3.3], [3.5]; and which of them is a number. The paper calls them data types. Definitions
+-- only; assumes nothing.
 use mathlib.Core.Bool.{Bool, true, false}
 use Prim.Native.Nat.{ℕ, suc, _+_, _*_, max}
 

@@ -1,4 +1,5 @@
--- Laws of the table of words and of rows. Those of looking up hold for every table whose words are distinct. Assumes nothing.
+-- Laws of the table of words, of looking a word up, and of rows. That a word is found at its own place holds for every table whose words are
+-- distinct; the others of looking up, and of how many rows are compared, hold for every table. Assumes nothing.
 use mathlib.Core.Path.{_≡_, refl, sym, ap, ap₂, _∙_, subst}
 use mathlib.Core.Bool.{Bool, true, false, not, cond, _&&_}
 use mathlib.Core.List.{List, [], _∷_, map}
