@@ -13,7 +13,7 @@ use Rattle.syntax.specs.declared.names.Names.{Names}
 use Rattle.words.specs.Groups.{oneOf, isMap, isLoop}
 use Rattle.syntax.specs.Ranges.{sizes, inRange}
 use Rattle.syntax.specs.Names.{names, openedBy}
-use Rattle.words.specs.Laws.{All}
+use Rattle.words.specs.Laws.{All, not-one}
 
 -- ---- tests that are the results of calls
 
@@ -30,11 +30,6 @@ at-one P k [] h p = absurd h
 at-one P k (w ∷ []) h p = subst P (sym h) (p .0)
 at-one P k (w ∷ v ∷ ws) (inl e) p = subst P (sym e) (p .0)
 at-one P k (w ∷ v ∷ ws) (inr h) p = at-one P k (v ∷ ws) h (p .1)
-
-pub not-one : (k : ℕ) (ws : List ℕ) → All ws (λ w. k ≡ w → ⊥) → oneOf k ws ≡ false
-unfolding oneOf
-not-one k [] p = refl
-not-one k (w ∷ ws) p = simp (ne-eqb k w (p .0)) (not-one k ws (p .1))
 
 -- ---- `in_range`
 

@@ -7,7 +7,6 @@ ghost use Rattle.words.specs.Groups.{oneOf};
 ghost use Rattle.syntax.specs.Ranges.{asNatural, sizes, isOffset, literalInRange, inRange};
 use crate::names::Names;
 use words::Sort;
-use words::groups::one_of;
 use words::kinds::*;
 
 // A row's number as a natural number: a negative one, which only a literal may have, lies beyond every limit.
@@ -40,18 +39,18 @@ fn is_offset(sort: Sort) -> bool
 fn is_size(kind: u8) -> bool
     ensures { λ r. ⌜ r ≡ oneOf kind sizes ⌝ }
 {
-    let sizes = [
-        WORD_ARR,
-        WORD_SPLIT,
-        WORD_FOR,
-        WORD_PAR,
-        WORD_NEW,
-        WORD_CELLS,
-        WORD_TIMES,
-        WORD_OVER,
-        WORD_REST,
-    ];
-    one_of(kind, &sizes)
+    match kind {
+        WORD_ARR
+        | WORD_SPLIT
+        | WORD_FOR
+        | WORD_PAR
+        | WORD_NEW
+        | WORD_CELLS
+        | WORD_TIMES
+        | WORD_OVER
+        | WORD_REST => true,
+        _ => false,
+    }
 }
 
 fn between(least: usize, number: usize, most: usize) -> bool

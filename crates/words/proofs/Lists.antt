@@ -1,29 +1,97 @@
--- Looking for a kind in a list, place by place. Assumes nothing.
-use mathlib.Core.Path.{_≡_, sym, _∙_}
-use mathlib.Core.Bool.{true, false}
-use mathlib.Core.List.{List}
-use Prim.Native.Nat.{ℕ, _+_, _≤_, _<_}
-use native.Mathlib.Numerals.{add-one}
+-- The kinds of the words that have so many operands as a term: they are those whose column in the table says so. Assumes nothing.
+use mathlib.Core.Path.{_≡_, refl, sym, ap, _∙_}
+use mathlib.Core.Bool.{Bool, true, false, cond}
+use mathlib.Core.List.{List, [], _∷_}
+use Prim.Native.Nat.{ℕ, zero, suc, _+_, _≤_, _<_}
+use native.Mathlib.Nat.{zero-add}
+use native.Mathlib.Omega.{arith}
 use borrow.Author.Tests.{eq-eqb, ne-eqb}
-use lib.ListN.{length, getD, drop, drop-of-length-le}
-use lib.Seq.{drop-cons}
-use Rattle.words.specs.Groups.{oneOf}
+use lib.Dec.{eqb}
+use lib.ListN.{getD}
+use Rattle.words.specs.Groups.{oneOf, counted, isLeaf, hasOneOperand, operations}
+use Rattle.words.specs.Kinds.{word-in, word-var, word-lit, word-neg, word-split, word-join, word-fst, word-snd, word-idx}
+use Rattle.words.specs.Laws.{All, not-one, is-one}
+use Rattle.words.specs.Words.{Entry, entry, table, operandsAs, operandsOf}
+use Rattle.words.specs.declared.Sort.the-variants.{Term}
 
-module _ (k : ℕ) (ws : List ℕ) (i : ℕ) (inv : oneOf k ws ≡ oneOf k (drop i ws)) where
-  pub one-here : i < length ws → k ≡ getD ws i 0 → true ≡ oneOf k ws
-  unfolding oneOf
-  one-here h e =
-      let q : oneOf k (drop i ws) ≡ true = rw (drop-cons ws i 0) (simp (eq-eqb k (getD ws i 0) e)) in
-      sym (inv ∙ q)
+-- the kinds, counted from j, of the entries that have n operands as a term
+unfoldable kindsWith : ℕ → ℕ → List Entry → List ℕ
+kindsWith n j [] = []
+kindsWith n j (e ∷ es) = cond (counted n (operandsAs Term (e .uses))) (j ∷ kindsWith n (suc j) es) (kindsWith n (suc j) es)
 
-  pub one-next : i < length ws → (k ≡ getD ws i 0 → ⊥) → oneOf k ws ≡ oneOf k (drop (i + 1) ws)
-  unfolding oneOf
-  one-next h e =
-      let q : oneOf k (drop i ws) ≡ oneOf k (drop (i + 1) ws) = rw (add-one, drop-cons ws i 0) (simp (ne-eqb k (getD ws i 0) e)) in
-      inv ∙ q
+-- none of them is below j
+none-below : (n j k : ℕ) (es : List Entry) → k < j → oneOf k (kindsWith n j es) ≡ false
+unfolding kindsWith oneOf
+none-below n j k [] h = refl
+none-below n j k (e ∷ es) h = go (counted n (operandsAs Term (e .uses))) (none-below n (suc j) k es (omega arith))
+  where
+    go : (b : Bool) → oneOf k (kindsWith n (suc j) es) ≡ false
+        → oneOf k (cond b (j ∷ kindsWith n (suc j) es) (kindsWith n (suc j) es)) ≡ false
+    go true later = simp (ne-eqb k j (λ e. omega arith)) later
+    go false later = later
 
-  pub one-end : length ws ≤ i → false ≡ oneOf k ws
-  unfolding oneOf
-  one-end h =
-      let q : oneOf k (drop i ws) ≡ false = rw (drop-of-length-le ws h) in
-      sym (inv ∙ q)
+counted-from : (n j k : ℕ) (es : List Entry) → oneOf (j + k) (kindsWith n j es) ≡ counted n (operandsAs Term (getD es k (entry "" []) .uses))
+unfolding kindsWith oneOf
+counted-from n j k [] = refl
+counted-from n j zero (e ∷ es) = go (counted n (operandsAs Term (e .uses)))
+  where
+    go : (b : Bool) → oneOf (j + zero) (cond b (j ∷ kindsWith n (suc j) es) (kindsWith n (suc j) es)) ≡ b
+    go true = simp (eq-eqb (j + zero) j (omega arith))
+    go false = none-below n (suc j) (j + zero) es (omega arith)
+counted-from n j (suc k) (e ∷ es) =
+    go (counted n (operandsAs Term (e .uses)))
+    (ap (λ (m : ℕ). oneOf m (kindsWith n (suc j) es)) (omega arith) ∙ counted-from n (suc j) k es)
+  where
+    go : (b : Bool) → oneOf (j + suc k) (kindsWith n (suc j) es) ≡ counted n (operandsAs Term (getD es k (entry "" []) .uses))
+        → oneOf (j + suc k) (cond b (j ∷ kindsWith n (suc j) es) (kindsWith n (suc j) es))
+        ≡ counted n (operandsAs Term (getD es k (entry "" []) .uses))
+    go true later = simp (ne-eqb (j + suc k) j (λ e. omega arith)) later
+    go false later = later
+
+counted-in : (n k : ℕ) → oneOf k (kindsWith n 0 table) ≡ counted n (operandsOf k Term)
+unfolding operandsOf
+counted-in n k = ap (λ (m : ℕ). oneOf m (kindsWith n 0 table)) (sym (zero-add k)) ∙ counted-from n 0 k table
+
+-- [2.2] the leaves, and the words of one operand
+abbrev leaves : List ℕ
+leaves = word-in ∷ word-var ∷ word-lit ∷ []
+
+abbrev ones : List ℕ
+ones = word-neg ∷ word-split ∷ word-join ∷ word-fst ∷ word-snd ∷ word-idx ∷ []
+
+pub no-leaf : (k : ℕ) → All leaves (λ w. k ≡ w → ⊥) → false ≡ isLeaf k
+unfolding kindsWith table
+no-leaf k p = sym (not-one k leaves p) ∙ counted-in 0 k
+
+pub leaf : (k : ℕ) → (All leaves (λ w. k ≡ w → ⊥) → ⊥) → true ≡ isLeaf k
+unfolding kindsWith table
+leaf k p = sym (is-one k leaves p) ∙ counted-in 0 k
+
+pub not-one-operand : (k : ℕ) → All ones (λ w. k ≡ w → ⊥) → false ≡ hasOneOperand k
+unfolding kindsWith table
+not-one-operand k p = sym (not-one k ones p) ∙ counted-in 1 k
+
+-- ---- words that follow one another
+
+unfoldable following : ℕ → ℕ → List ℕ
+following zero w = []
+following (suc n) w = w ∷ following n (suc w)
+
+is-following : (n w k : ℕ) → w ≤ k → k < w + n → oneOf k (following n w) ≡ true
+unfolding following oneOf
+is-following zero w k l h = absurd (omega arith)
+is-following (suc n) w k l h = go (eqb k w) refl (λ d. is-following n (suc w) k (omega arith) (omega arith))
+  where
+    go : (b : Bool) → eqb k w ≡ b → ((k ≡ w → ⊥) → oneOf k (following n (suc w)) ≡ true) → cond b true (oneOf k (following n (suc w))) ≡ true
+    go true e later = refl
+    go false e later = later (λ x. absurd (let y : true ≡ false = sym (eq-eqb k w x) ∙ e in let z : _≡_ {A = ℕ} 0 1 = cc in omega arith))
+
+pub operation : (k : ℕ) → 8 ≤ k → k < 14 → oneOf k operations ≡ true
+unfolding following
+operation k l h = is-following 6 8 k l h
+
+pub one-operand : (k : ℕ) → 19 ≤ k → k < 24 → true ≡ hasOneOperand k
+unfolding kindsWith table following oneOf
+one-operand k l h =
+    let q : oneOf k ones ≡ true = simp (ne-eqb k word-neg (λ e. omega arith)) (is-following 5 19 k l h) in
+    sym q ∙ counted-in 1 k

@@ -12,7 +12,7 @@ use native.Mathlib.Numerals.{add-one}
 use native.Mathlib.Omega.{arith}
 use lib.Dec.{T, T-not, eqb, leb, eqb→eq, eqb-refl, leb→le}
 use lib.Ieee.Fits.{and-i, and-l, and-r}
-use borrow.Author.Tests.{ltb-false, eqb-true}
+use borrow.Author.Tests.{ltb-false, eqb-true, eq-eqb, ne-eqb}
 use lib.ListN.{length, getD, take, drop, length-map, drop-of-length-le, List·getD-eq-default}
 use lib.Seq.{drop-cons}
 use Rattle.words.specs.Kinds.{Row, rowsOf, word-plan, word-num, word-arr, word-two, word-in, word-var, word-lit, word-neg, word-add}
@@ -245,6 +245,23 @@ at-member P k (w ∷ ws) h f = go (eqb k w) refl h (λ q. at-member P k ws q (f 
     go : (b : Bool) → eqb k w ≡ b → cond b true (oneOf k ws) ≡ true → (oneOf k ws ≡ true → P k) → P k
     go true e q later = subst P (sym (eqb-true k w e)) (f .0)
     go false e q later = later q
+
+pub not-one : (k : ℕ) (ws : List ℕ) → All ws (λ w. k ≡ w → ⊥) → oneOf k ws ≡ false
+unfolding oneOf
+not-one k [] p = refl
+not-one k (w ∷ ws) p = simp (ne-eqb k w (p .0)) (not-one k ws (p .1))
+
+pub is-one : (k : ℕ) (ws : List ℕ) → (All ws (λ w. k ≡ w → ⊥) → ⊥) → oneOf k ws ≡ true
+unfolding oneOf
+is-one k [] p = absurd (p tt)
+is-one k (w ∷ ws) p = go (eqb k w) refl (λ q. is-one k ws q)
+  where
+    go : (b : Bool) → eqb k w ≡ b → ((All ws (λ v. k ≡ v → ⊥) → ⊥) → oneOf k ws ≡ true) → cond b true (oneOf k ws) ≡ true
+    go true e later = refl
+    go false e later = later (λ q. p ((λ x. absurd (differ x e)), q))
+      where
+        differ : k ≡ w → eqb k w ≡ false → ⊥
+        differ x f = let z : true ≡ false = sym (eq-eqb k w x) ∙ f in absurd (let y : _≡_ {A = ℕ} 0 1 = cc in omega arith)
 
 -- ---- the rows of a table that is lent as kinds and numbers
 

@@ -8,7 +8,8 @@ use borrow.Author.Needs.{needs}
 use Rattle.words.specs.Kinds.{word-in, word-loc}
 use Rattle.words.specs.declared.Sort.the-variants.{Value, Offset}
 use Rattle.words.specs.Groups.{oneOf}
-use Rattle.syntax.proofs.Words.{at-one, not-one}
+use Rattle.words.specs.Laws.{not-one}
+use Rattle.syntax.proofs.Words.{at-one}
 use Rattle.syntax.proofs.operands.operand_sort.Statement.{statement}
 use Rattle.syntax.proofs.operands.operand_sort.Tie as tie
 
