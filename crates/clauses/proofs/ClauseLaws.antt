@@ -96,7 +96,7 @@ map-put k w n t o o₁ e f p = p ∙ ap₂ (λ (i j : ℕ). putRow o (i, pos j))
 
 -- as far as a reduction's body, the start being node v
 pub reduction-put : (Y : List ℕ) (N : List ℤ) (T B : List ℕ) (p a v c r g len n : ℕ) → ReductionPushed T B p a c r g len
-    → len + 3 ≤ 4096 → p < 65536 → a < len → v < len → c < 65536 → r < 65536 → (o o₁ o₂ o₃ o₄ o₅ : Table)
+    → len + 3 ≤ 1024 → p < 65536 → a < len → v < len → c < 65536 → r < 65536 → (o o₁ o₂ o₃ o₄ o₅ : Table)
     → o₁ ≡ regionRows (typeAt Y p) o
     → o₂ ≡ putRows (commandRows (assign (typeAt Y p) (expressionAt Y N B v) (acceptorAt Y B len) c (r + 1))) o₁
     → o₃ ≡ putRow o₂ (word-seq, pos 0) → o₄ ≡ putRow o₃ (word-for, pos n) → o₅ ≡ nextRows (typeAt Y p) o₄

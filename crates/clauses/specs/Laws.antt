@@ -30,7 +30,7 @@ module _ (T U : List ℕ) (p a c r g len : ℕ) (R : ReductionPushed T U p a c r
   pub reduction-grown : Grown T U len
   reduction-grown = grown-more T (R .one) U len (len + 1) (omega arith) (R .total .grown) between-grown
 
-  module _ (hl : len + 3 ≤ 4096) (h1 : 1 ≤ len) (hp : p < 65536) (ha : a < len) (hc : c < 65536) (hr : r < 65536) (Y : List ℕ) where
+  module _ (hl : len + 3 ≤ 1024) (h1 : 1 ≤ len) (hp : p < 65536) (ha : a < len) (hc : c < 65536) (hr : r < 65536) (Y : List ℕ) where
     pub total-reads : (N : List ℤ) → expressionAt Y N U len ≡ Expression.region r (typeAt Y p)
     total-reads N =
         reads-on (R .one) U (len + 1) len (omega arith) between-grown Y N

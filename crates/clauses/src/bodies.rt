@@ -31,7 +31,7 @@ fn map_loop(kind: u8) -> u8
 // variable, and the node behind it the place where the body is written.
 pub fn enter_map(
     types: &[u64],
-    references: &mut [u64; 4096],
+    references: &mut [u64; 1024],
     outkinds: &mut [u8; 4096],
     outnumbers: &mut [i32; 4096],
     kind: u8,
@@ -40,8 +40,8 @@ pub fn enter_map(
     state: State,
     used: Translated,
 ) -> State
-    requires { ⌜ Sound (now types) (length (now types)) × (place < length (now types)) × (used .value < used .len) × (target < used .len) × (used .len + 2 ≤ 4096)
-        × (state .counters < 65535) × (state .count < 16) × (length (state .variables) ≡ 16) × (length (now references) ≡ 4096) ⌝ }
+    requires { ⌜ Sound (now types) (length (now types)) × (place < length (now types)) × (used .value < used .len) × (target < used .len) × (used .len + 2 ≤ 1024)
+        × (state .counters < 65535) × (state .count < 16) × (length (state .variables) ≡ 16) × (length (now references) ≡ 1024) ⌝ }
     ensures made { λ r. ⌜ MapEntered (now (references .entry)) (now (references .exit)) target state used r ⌝ }
     ensures rows { λ r. ⌜ table (now (outkinds .exit)) (now (outnumbers .exit)) (r .to)
         ≡ mapRows kind (typeAt (now (types .entry)) place) (table (now (outkinds .entry)) (now (outnumbers .entry)) (used .to)) ⌝ }
@@ -105,7 +105,7 @@ fn body_region(types: &[u64], place: usize, regions: u16) -> u16
 
 // [6.14] The nodes of a reduction: its total, the element of the array at a counter, and the region that its body is written into.
 fn push_reduction(
-    references: &mut [u64; 4096],
+    references: &mut [u64; 1024],
     place: usize,
     array: usize,
     counters: u16,
@@ -113,7 +113,7 @@ fn push_reduction(
     region: u16,
     len: usize,
 )
-    requires { ⌜ (place < 65536) × (array < len) × (len + 3 ≤ 4096) × (length (now references) ≡ 4096) ⌝ }
+    requires { ⌜ (place < 65536) × (array < len) × (len + 3 ≤ 1024) × (length (now references) ≡ 1024) ⌝ }
     ensures { λ _. ⌜ ReductionPushed (now (references .entry)) (now (references .exit)) place array counters regions region len ⌝ }
 {
     push_stored(references, len, WORD_LOC, regions, place);
@@ -144,7 +144,7 @@ fn put_next_region(
 fn begin_reduction(
     types: &[u64],
     plan: &[i32],
-    references: &mut [u64; 4096],
+    references: &mut [u64; 1024],
     outkinds: &mut [u8; 4096],
     outnumbers: &mut [i32; 4096],
     place: usize,
@@ -154,8 +154,8 @@ fn begin_reduction(
     region: u16,
     start: Translated,
 ) -> usize
-    requires { ⌜ Sound (now types) (length (now types)) × (place < length (now types)) × (array < start .len) × (start .value < start .len) × (start .len + 19 ≤ 4096)
-        × (counters + 8 < 65536) × (start .regions + 2 < 65536) × (length (now references) ≡ 4096) ⌝ }
+    requires { ⌜ Sound (now types) (length (now types)) × (place < length (now types)) × (array < start .len) × (start .value < start .len) × (start .len + 19 ≤ 1024)
+        × (counters + 8 < 65536) × (start .regions + 2 < 65536) × (length (now references) ≡ 1024) ⌝ }
     ensures made { λ _. ⌜ ReductionBegun (now (references .entry)) (now (references .exit)) place array counters (start .regions) region (start .len) ⌝ }
     ensures rows { λ r. ⌜ table (now (outkinds .exit)) (now (outnumbers .exit)) r
         ≡ enteredRows (typeAt (now (types .entry)) place) rounds (expressionAt (now (types .entry))
@@ -194,7 +194,7 @@ fn begin_reduction(
 // [3.10], [14.8] In its round, whose body is written into `region`, the innermost: the body's variables are the total, innermost, and the
 // element.
 fn in_round(state: State, start: Translated, region: u16, to: usize) -> State
-    requires { ⌜ (start .len + 3 ≤ 4096) × (state .counters + 1 < 65536) × (region + 1 < 65536) × (state .count + 1 < 16) × (length (state .variables) ≡ 16) ⌝ }
+    requires { ⌜ (start .len + 3 ≤ 1024) × (state .counters + 1 < 65536) × (region + 1 < 65536) × (state .count + 1 < 16) × (length (state .variables) ≡ 16) ⌝ }
     ensures { λ r. ⌜ InRound state start region to r ⌝ }
 {
     let count = state.count;
@@ -216,7 +216,7 @@ fn in_round(state: State, start: Translated, region: u16, to: usize) -> State
 pub fn enter_reduction(
     types: &[u64],
     plan: &[i32],
-    references: &mut [u64; 4096],
+    references: &mut [u64; 1024],
     outkinds: &mut [u8; 4096],
     outnumbers: &mut [i32; 4096],
     place: usize,
@@ -225,8 +225,8 @@ pub fn enter_reduction(
     state: State,
     start: Translated,
 ) -> State
-    requires { ⌜ Sound (now types) (length (now types)) × (place < length (now types)) × (array < start .len) × (start .value < start .len) × (start .len + 19 ≤ 4096)
-        × (state .counters + 8 < 65536) × (start .regions + 2 < 65536) × (state .count + 1 < 16) × (length (state .variables) ≡ 16) × (length (now references) ≡ 4096) ⌝ }
+    requires { ⌜ Sound (now types) (length (now types)) × (place < length (now types)) × (array < start .len) × (start .value < start .len) × (start .len + 19 ≤ 1024)
+        × (state .counters + 8 < 65536) × (start .regions + 2 < 65536) × (state .count + 1 < 16) × (length (state .variables) ≡ 16) × (length (now references) ≡ 1024) ⌝ }
     ensures made { λ r. ⌜ ReductionEntered (now (references .entry)) (now (references .exit)) place array
         (bodyRegion (typeAt (now (types .entry)) place) (start .regions)) state start r ⌝ }
     ensures rows { λ r. ⌜ table (now (outkinds .exit)) (now (outnumbers .exit)) (r .to)
@@ -256,7 +256,7 @@ pub fn enter_reduction(
 pub fn leave_reduction(
     types: &[u64],
     plan: &[i32],
-    references: &mut [u64; 4096],
+    references: &mut [u64; 1024],
     outkinds: &mut [u8; 4096],
     outnumbers: &mut [i32; 4096],
     place: usize,
@@ -266,8 +266,8 @@ pub fn leave_reduction(
     rows: usize,
     body: Translated,
 ) -> Translated
-    requires { ⌜ Sound (now types) (length (now types)) × (place < length (now types)) × (total + 2 < body .len) × (body .len + 16 ≤ 4096)
-        × (counters + 9 < 65536) × (regions + 2 < 65536) × (rows ≤ 65535) × (body .rows ≤ 65535) × (length (now references) ≡ 4096) ⌝ }
+    requires { ⌜ Sound (now types) (length (now types)) × (place < length (now types)) × (total + 2 < body .len) × (body .len + 16 ≤ 1024)
+        × (counters + 9 < 65536) × (regions + 2 < 65536) × (rows ≤ 65535) × (body .rows ≤ 65535) × (length (now references) ≡ 1024) ⌝ }
     ensures made { λ r. ⌜ ReductionLeft (now (references .entry)) (now (references .exit)) total regions rows body r ⌝ }
     ensures rows { λ r. ⌜ table (now (outkinds .exit)) (now (outnumbers .exit)) (r .to)
         ≡ leftRows (typeAt (now (types .entry)) place) (expressionAt (now (types .entry)) (now (plan .entry))

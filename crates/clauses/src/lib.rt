@@ -76,7 +76,7 @@ pub fn node_number(kind: u8, number: usize, types: &[u64], place: usize) -> u16
 
 // A use that made node `state.len` and put no rows.
 fn node_used(state: State) -> Translated
-    requires { ⌜ state .len < 4096 ⌝ }
+    requires { ⌜ state .len < 1024 ⌝ }
     ensures { λ r. ⌜ NodeUsed state r ⌝ }
 {
     Translated {
@@ -90,14 +90,14 @@ fn node_used(state: State) -> Translated
 
 // [6.12] A use of an input, a variable or a literal, which stands in row `row` of the plan.
 pub fn leaf(
-    references: &mut [u64; 4096],
+    references: &mut [u64; 1024],
     kind: u8,
     number: usize,
     place: usize,
     row: usize,
     state: State,
 ) -> Translated
-    requires { ⌜ (1 ≤ state .len) × (state .len < 4096) × (place < 65536) × (row < 65536) × (length (now references) ≡ 4096)
+    requires { ⌜ (1 ≤ state .len) × (state .len < 1024) × (place < 65536) × (row < 65536) × (length (now references) ≡ 1024)
         × (kind ≡ word-in → number < 65536) × (kind ≡ word-var → number < state .count) × (state .count ≤ 16) × (length (state .variables) ≡ 16) ⌝ }
     ensures { λ r. ⌜ LeafUsed (now (references .entry)) (now (references .exit)) kind number place row state r ⌝ }
 {
@@ -120,8 +120,8 @@ pub fn leaf(
 }
 
 // [6.15] A node over the one that was used.
-pub fn over_one(references: &mut [u64; 4096], kind: u8, number: u16, one: Translated) -> Translated
-    requires { ⌜ (one .value < one .len) × (one .len < 4096) × (one .rows ≤ 65535) × (length (now references) ≡ 4096) ⌝ }
+pub fn over_one(references: &mut [u64; 1024], kind: u8, number: u16, one: Translated) -> Translated
+    requires { ⌜ (one .value < one .len) × (one .len < 1024) × (one .rows ≤ 65535) × (length (now references) ≡ 1024) ⌝ }
     ensures { λ r. ⌜ OverOne (now (references .entry)) (now (references .exit)) kind number one r ⌝ }
 {
     push(references, one.len, kind, number, one.value, 0);
@@ -136,12 +136,12 @@ pub fn over_one(references: &mut [u64; 4096], kind: u8, number: u16, one: Transl
 
 // [6.15] A node over the two that were used, one after the other.
 pub fn over_two(
-    references: &mut [u64; 4096],
+    references: &mut [u64; 1024],
     kind: u8,
     one: Translated,
     two: Translated,
 ) -> Translated
-    requires { ⌜ (one .value < two .len) × (two .value < two .len) × (two .len < 4096) × (one .rows ≤ 65535) × (two .rows ≤ 65535) × (length (now references) ≡ 4096) ⌝ }
+    requires { ⌜ (one .value < two .len) × (two .value < two .len) × (two .len < 1024) × (one .rows ≤ 65535) × (two .rows ≤ 65535) × (length (now references) ≡ 1024) ⌝ }
     ensures { λ r. ⌜ OverTwo (now (references .entry)) (now (references .exit)) kind one two r ⌝ }
 {
     push(references, two.len, kind, 0, one.value, two.value);
@@ -179,14 +179,14 @@ pub fn put_region(
 // [6.13] A region for a used map whose type is at a place: node `state.len` is where the map is written.
 pub fn open_region(
     types: &[u64],
-    references: &mut [u64; 4096],
+    references: &mut [u64; 1024],
     outkinds: &mut [u8; 4096],
     outnumbers: &mut [i32; 4096],
     place: usize,
     state: State,
 ) -> State
-    requires { ⌜ Sound (now types) (length (now types)) × (place < length (now types)) × (1 ≤ state .len) × (state .len < 4096)
-        × (state .regions < 65535) × (length (now references) ≡ 4096) ⌝ }
+    requires { ⌜ Sound (now types) (length (now types)) × (place < length (now types)) × (1 ≤ state .len) × (state .len < 1024)
+        × (state .regions < 65535) × (length (now references) ≡ 1024) ⌝ }
     ensures made { λ r. ⌜ RegionOpened (now (references .entry)) (now (references .exit)) place state r ⌝ }
     ensures rows { λ r. ⌜ table (now (outkinds .exit)) (now (outnumbers .exit)) (r .to)
         ≡ regionRows (typeAt (now (types .entry)) place) (table (now (outkinds .entry)) (now (outnumbers .entry)) (state .to)) ⌝ }

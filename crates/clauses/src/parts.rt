@@ -66,13 +66,13 @@ pub fn regrouped(kind: u8) -> u8
 
 // Node `state.len` is a part of the place at node `target`.
 pub fn into_part(
-    references: &mut [u64; 4096],
+    references: &mut [u64; 1024],
     kind: u8,
     number: u16,
     target: usize,
     state: State,
 ) -> State
-    requires { ⌜ (target < state .len) × (state .len < 4096) × (length (now references) ≡ 4096) ⌝ }
+    requires { ⌜ (target < state .len) × (state .len < 1024) × (length (now references) ≡ 1024) ⌝ }
     ensures { λ r. ⌜ IntoPart (now (references .entry)) (now (references .exit)) kind number target (state .len) state r × (r .to ≡ state .to) ⌝ }
 {
     push(references, state.len, kind, number, target, 0);
@@ -89,14 +89,14 @@ pub fn into_part(
 
 // [6.9] Into the part of the first of two operands: `seq`, and node `state.len`.
 pub fn into_first(
-    references: &mut [u64; 4096],
+    references: &mut [u64; 1024],
     outkinds: &mut [u8; 4096],
     outnumbers: &mut [i32; 4096],
     kind: u8,
     target: usize,
     state: State,
 ) -> State
-    requires { ⌜ (target < state .len) × (state .len < 4096) × (length (now references) ≡ 4096) ⌝ }
+    requires { ⌜ (target < state .len) × (state .len < 1024) × (length (now references) ≡ 1024) ⌝ }
     ensures made { λ r. ⌜ IntoPart (now (references .entry)) (now (references .exit)) (firstPart kind) 0 target (state .len) state r ⌝ }
     ensures rows { λ r. ⌜ table (now (outkinds .exit)) (now (outnumbers .exit)) (r .to) ≡ putRow (table (now (outkinds .entry)) (now (outnumbers .entry)) (state .to)) (word-seq, pos 0) ⌝ }
 {
@@ -115,13 +115,13 @@ pub fn into_first(
 
 // [6.9] Into the part of the second, behind the first: node `written.len`.
 pub fn into_second(
-    references: &mut [u64; 4096],
+    references: &mut [u64; 1024],
     kind: u8,
     target: usize,
     state: State,
     written: Translated,
 ) -> State
-    requires { ⌜ (target < written .len) × (written .len < 4096) × (length (now references) ≡ 4096) ⌝ }
+    requires { ⌜ (target < written .len) × (written .len < 1024) × (length (now references) ≡ 1024) ⌝ }
     ensures { λ r. ⌜ IntoPart (now (references .entry)) (now (references .exit)) (secondPart kind) 0 target (written .len) state r × (r .to ≡ written .to) ⌝ }
 {
     push(references, written.len, second_part(kind), 0, target, 0);

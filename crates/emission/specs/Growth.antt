@@ -8,7 +8,7 @@ use Rattle.emission.specs.Nodes.{nodeOf}
 -- U is T up to node len
 pub record Grown (T U : List ℕ) (len : ℕ) : Type 0 where
   pub same : take len U ≡ take len T
-  pub size : length U ≡ 4096
+  pub size : length U ≡ 1024
 
 -- U is T up to node len, which is w
 pub record Pushed (T U : List ℕ) (len w : ℕ) : Type 0 where

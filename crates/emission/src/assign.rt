@@ -23,7 +23,7 @@ use words::kinds::*;
 fn put_set(
     types: &[u64],
     plan: &[i32],
-    references: &[u64; 4096],
+    references: &[u64; 1024],
     kinds: &mut [u8; 4096],
     numbers: &mut [i32; 4096],
     value: usize,
@@ -32,13 +32,13 @@ fn put_set(
     regions: u16,
     to: usize,
 ) -> usize
-    requires { ⌜ Sound (now types) (length (now types)) × (value < 4096) × (target < 4096) ⌝ }
+    requires { ⌜ Sound (now types) (length (now types)) × (value < 1024) × (target < 1024) ⌝ }
     ensures { λ r. ⌜ table (now (kinds .exit)) (now (numbers .exit)) r
         ≡ putRows (commandRows (assign numberType (expressionAt (now (types .entry)) (now (plan .entry))
         (now (references .entry)) value) (acceptorAt (now (types .entry)) (now (references .entry))
         target) counters regions)) (table (now (kinds .entry)) (now (numbers .entry)) to) ⌝ }
 {
-    let mut changes = [0u64; 4096];
+    let mut changes = [0u64; 1024];
     let place = put_count(kinds, numbers, to, WORD_SET, 0);
     let next = put_place(
         types,
@@ -69,14 +69,14 @@ fn put_set(
 
 // The same step from what is read and from where it is written, as nodes `len` and `len + 1`.
 fn push_both(
-    references: &mut [u64; 4096],
+    references: &mut [u64; 1024],
     len: usize,
     kind: u8,
     number: u16,
     value: usize,
     target: usize,
 )
-    requires { ⌜ (len + 1 < 4096) × (value < len) × (target < len) × (length (now references) ≡ 4096) ⌝ }
+    requires { ⌜ (len + 1 < 1024) × (value < len) × (target < len) × (length (now references) ≡ 1024) ⌝ }
     ensures { λ _. ⌜ BothPushed (now (references .entry)) (now (references .exit)) len kind number value target ⌝ }
 {
     push(references, len, kind, number, value, 0);
@@ -87,7 +87,7 @@ fn push_both(
 pub fn put_assign(
     types: &[u64],
     plan: &[i32],
-    references: &mut [u64; 4096],
+    references: &mut [u64; 1024],
     kinds: &mut [u8; 4096],
     numbers: &mut [i32; 4096],
     place: usize,
@@ -99,7 +99,7 @@ pub fn put_assign(
     to: usize,
 ) -> usize
     requires { ⌜ Sound (now types) (length (now types)) × (place < length (now types)) × (value < len) × (target < len)
-        × (len + 2 * levelsOf (typeAt (now types) place) ≤ 4096) × (counters + levelsOf (typeAt (now types) place) < 65536) × (length (now references) ≡ 4096) ⌝ }
+        × (len + 2 * levelsOf (typeAt (now types) place) ≤ 1024) × (counters + levelsOf (typeAt (now types) place) < 65536) × (length (now references) ≡ 1024) ⌝ }
     ensures rows { λ r. ⌜ table (now (kinds .exit)) (now (numbers .exit)) r
         ≡ putRows (commandRows (assign (typeAt (now (types .entry)) place) (expressionAt (now (types .entry))
         (now (plan .entry)) (now (references .entry)) value) (acceptorAt (now (types .entry))

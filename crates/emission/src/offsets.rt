@@ -43,12 +43,12 @@ pub fn put_cells(
 // [6.18] How many summands the offset into the type at a place has, from step j of the path on.
 fn count_summands(
     types: &[u64],
-    changes: &[u64; 4096],
+    changes: &[u64; 1024],
     place: usize,
     depth: usize,
     j: usize,
 ) -> usize
-    requires { ⌜ Sound (now types) (suc place) × (depth ≤ 4096) × (j + place ≤ 131072) ⌝ }
+    requires { ⌜ Sound (now types) (suc place) × (depth ≤ 1024) × (j + place ≤ 131072) ⌝ }
     ensures { λ r. ⌜ (r ≡ length (summands (typeAt (now (types .entry)) place) (drop j (pathOf (now (changes .entry)) depth)))) × (r ≤ place) ⌝ }
 {
     let array = type_table::as_array(types, place);
@@ -68,7 +68,7 @@ fn count_summands(
 // [6.18] Their rows, in order.
 fn put_summands(
     types: &[u64],
-    changes: &[u64; 4096],
+    changes: &[u64; 1024],
     kinds: &mut [u8; 4096],
     numbers: &mut [i32; 4096],
     place: usize,
@@ -77,7 +77,7 @@ fn put_summands(
     counters: u16,
     to: usize,
 ) -> usize
-    requires { ⌜ Sound (now types) (suc place) × (depth ≤ 4096) × (j + place ≤ 131072) ⌝ }
+    requires { ⌜ Sound (now types) (suc place) × (depth ≤ 1024) × (j + place ≤ 131072) ⌝ }
     ensures { λ r. ⌜ table (now (kinds .exit)) (now (numbers .exit)) r
         ≡ putRows (allOffsetRows counters (summands (typeAt (now (types .entry)) place) (drop j (pathOf (now (changes .entry)) depth)))) (table (now (kinds .entry)) (now (numbers .entry)) to) ⌝ }
 {
@@ -132,7 +132,7 @@ fn put_summands(
 // table of types does not have stands for a number.
 pub fn put_offset(
     types: &[u64],
-    changes: &[u64; 4096],
+    changes: &[u64; 1024],
     kinds: &mut [u8; 4096],
     numbers: &mut [i32; 4096],
     place: usize,
@@ -140,7 +140,7 @@ pub fn put_offset(
     counters: u16,
     to: usize,
 ) -> usize
-    requires { ⌜ Sound (now types) (length (now types)) × (depth ≤ 4096) ⌝ }
+    requires { ⌜ Sound (now types) (length (now types)) × (depth ≤ 1024) ⌝ }
     ensures { λ r. ⌜ table (now (kinds .exit)) (now (numbers .exit)) r
         ≡ putRows (offsetRows (offsetFromInnermost counters (offsetOf (typeAt (now (types .entry)) place)
         (pathOf (now (changes .entry)) depth)))) (table (now (kinds .entry)) (now (numbers .entry)) to) ⌝ }

@@ -151,8 +151,8 @@ fn own_step(change: Change, number: u16, j: usize, behind: usize) -> Found
 }
 
 // What stands at step j of the path that the first `depth` changes make.
-fn step_at(changes: &[u64; 4096], depth: usize, j: usize) -> Found
-    requires { ⌜ (depth ≤ 4096) × (j + depth ≤ 1048576) ⌝ }
+fn step_at(changes: &[u64; 1024], depth: usize, j: usize) -> Found
+    requires { ⌜ (depth ≤ 1024) × (j + depth ≤ 1048576) ⌝ }
     ensures { λ r. ⌜ r ≡ foundAt (now (changes .entry)) depth j ⌝ }
 {
     if depth == 0 {
@@ -169,8 +169,8 @@ fn step_at(changes: &[u64; 4096], depth: usize, j: usize) -> Found
 }
 
 // Whether step j leads to a second part.
-pub fn is_second(changes: &[u64; 4096], depth: usize, j: usize) -> bool
-    requires { ⌜ (depth ≤ 4096) × (j + depth ≤ 1048576) ⌝ }
+pub fn is_second(changes: &[u64; 1024], depth: usize, j: usize) -> bool
+    requires { ⌜ (depth ≤ 1024) × (j + depth ≤ 1048576) ⌝ }
     ensures { λ r. ⌜ r ≡ byPart (drop j (pathOf (now (changes .entry)) depth)) false true ⌝ }
 {
     let found = step_at(changes, depth, j);
@@ -196,7 +196,7 @@ pub fn from_innermost(many: u16, level: u16) -> u16
 
 // [6.21], [6.22] The rows of the index at step j.
 pub fn put_index(
-    changes: &[u64; 4096],
+    changes: &[u64; 1024],
     kinds: &mut [u8; 4096],
     numbers: &mut [i32; 4096],
     depth: usize,
@@ -204,7 +204,7 @@ pub fn put_index(
     counters: u16,
     to: usize,
 ) -> usize
-    requires { ⌜ (depth ≤ 4096) × (j + depth ≤ 1048576) ⌝ }
+    requires { ⌜ (depth ≤ 1024) × (j + depth ≤ 1048576) ⌝ }
     ensures { λ r. ⌜ table (now (kinds .exit)) (now (numbers .exit)) r
         ≡ putRows (offsetRows (offsetFromInnermost counters (leadingIndex (drop j (pathOf (now (changes .entry)) depth))))) (table (now (kinds .entry)) (now (numbers .entry)) to) ⌝ }
 {

@@ -57,8 +57,8 @@ fn operand_written(node: u64) -> usize
 // The place of the acceptor of node `from`, written at the path of the first `depth` changes.
 pub fn put_place(
     types: &[u64],
-    references: &[u64; 4096],
-    changes: &mut [u64; 4096],
+    references: &[u64; 1024],
+    changes: &mut [u64; 1024],
     kinds: &mut [u8; 4096],
     numbers: &mut [i32; 4096],
     from: usize,
@@ -67,12 +67,12 @@ pub fn put_place(
     regions: u16,
     to: usize,
 ) -> usize
-    requires { ⌜ Sound (now types) (length (now types)) × (from < 4096) × (depth + from ≤ 4096) × (length (now changes) ≡ 4096) ⌝ }
+    requires { ⌜ Sound (now types) (length (now types)) × (from < 1024) × (depth + from ≤ 1024) × (length (now changes) ≡ 1024) ⌝ }
     ensures rows { λ r. ⌜ table (now (kinds .exit)) (now (numbers .exit)) r
         ≡ putRows (placeRows (placeFromInnermost counters regions (writeAt (acceptorAt (now (types .entry))
         (now (references .entry)) from) (pathOf (now (changes .entry)) depth))))
         (table (now (kinds .entry)) (now (numbers .entry)) to) ⌝ }
-    ensures size { λ _. ⌜ length (now (changes .exit)) ≡ 4096 ⌝ }
+    ensures size { λ _. ⌜ length (now (changes .exit)) ≡ 1024 ⌝ }
 {
     let node = references[from];
     let left = left_in(node);

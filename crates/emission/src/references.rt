@@ -97,22 +97,22 @@ pub fn right_in(node: u64) -> usize
 
 // Puts a node over two others as node `len`, the first that is free.
 pub fn push(
-    references: &mut [u64; 4096],
+    references: &mut [u64; 1024],
     len: usize,
     kind: u8,
     number: u16,
     left: usize,
     right: usize,
 )
-    requires { ⌜ (len < 4096) × (left < len) × (right < len) × (length (now references) ≡ 4096) ⌝ }
+    requires { ⌜ (len < 1024) × (left < len) × (right < len) × (length (now references) ≡ 1024) ⌝ }
     ensures { λ _. ⌜ Pushed (now (references .entry)) (now (references .exit)) len (nodeOf kind 0 number left right) ⌝ }
 {
     references[len] = node(kind, 0, number, left, right);
 }
 
 // Puts what lies in the store in the type at a place: an input, a region or the output.
-pub fn push_stored(references: &mut [u64; 4096], len: usize, kind: u8, number: u16, place: usize)
-    requires { ⌜ (0 < len) × (len < 4096) × (place < 65536) × (length (now references) ≡ 4096) ⌝ }
+pub fn push_stored(references: &mut [u64; 1024], len: usize, kind: u8, number: u16, place: usize)
+    requires { ⌜ (0 < len) × (len < 1024) × (place < 65536) × (length (now references) ≡ 1024) ⌝ }
     ensures { λ _. ⌜ Pushed (now (references .entry)) (now (references .exit)) len (nodeOf kind place number 0 0) ⌝ }
 {
     references[len] = node(kind, place, number, 0, 0);

@@ -49,8 +49,8 @@ fn put_literal(
 
 // The node that a path goes on to when this one is read: of a `zip` or a `pair` one of the two. Node 0, which stands for nothing,
 // behind what cannot be read.
-fn operand_read(changes: &[u64; 4096], node: u64, depth: usize) -> usize
-    requires { ⌜ depth ≤ 4096 ⌝ }
+fn operand_read(changes: &[u64; 1024], node: u64, depth: usize) -> usize
+    requires { ⌜ depth ≤ 1024 ⌝ }
     ensures { λ r. ⌜ r ≡ operandRead (changeOf (kindIn node)) (pathOf (now (changes .entry)) depth) (leftIn node) (rightIn node) ⌝ }
 {
     let change = change_of(kind_in(node));
@@ -81,8 +81,8 @@ fn operand_read(changes: &[u64; 4096], node: u64, depth: usize) -> usize
 pub fn put_value(
     types: &[u64],
     plan: &[i32],
-    references: &[u64; 4096],
-    changes: &mut [u64; 4096],
+    references: &[u64; 1024],
+    changes: &mut [u64; 1024],
     kinds: &mut [u8; 4096],
     numbers: &mut [i32; 4096],
     from: usize,
@@ -91,12 +91,12 @@ pub fn put_value(
     regions: u16,
     to: usize,
 ) -> usize
-    requires { ⌜ Sound (now types) (length (now types)) × (from < 4096) × (depth + from ≤ 4096) × (length (now changes) ≡ 4096) ⌝ }
+    requires { ⌜ Sound (now types) (length (now types)) × (from < 1024) × (depth + from ≤ 1024) × (length (now changes) ≡ 1024) ⌝ }
     ensures rows { λ r. ⌜ table (now (kinds .exit)) (now (numbers .exit)) r
         ≡ putRows (valueRows (valueFromInnermost counters regions (readAt (expressionAt (now (types .entry))
         (now (plan .entry)) (now (references .entry)) from) (pathOf (now (changes .entry)) depth))))
         (table (now (kinds .entry)) (now (numbers .entry)) to) ⌝ }
-    ensures kept { λ _. ⌜ (take depth (now (changes .exit)) ≡ take depth (now (changes .entry))) × (length (now (changes .exit)) ≡ 4096) ⌝ }
+    ensures kept { λ _. ⌜ (take depth (now (changes .exit)) ≡ take depth (now (changes .entry))) × (length (now (changes .exit)) ≡ 1024) ⌝ }
 {
     let node = references[from];
     let left = left_in(node);

@@ -24,7 +24,7 @@ use Rattle.numerals.specs.declared.Numeral.the-variants.{Is, Malformed}
 use Rattle.texts.specs.Texts.{placeOf, beforeComma, linesOf, firstLine, afterFirst}
 use Rattle.lines.specs.Reading.{cellNamed, cellHead, headOf, paired, lineOf, addRow, rowsIn, whether, formed}
 use Rattle.texts.specs.Laws.{lines-from, lines-done}
-use Rattle.lines.specs.Below.{Below}
+use Rattle.lines.proofs.Below.{Below}
 use Rattle.lines.specs.declared.Heads.the-variants.{Words}
 use Rattle.lines.specs.declared.Line.{Line}
 use Rattle.lines.specs.declared.Line.the-variants.{IsRow, NoRow}

@@ -1,84 +1,114 @@
--- What `ask` and the readers above it know at each way out. Assumes nothing.
-use mathlib.Core.Path.{_≡_, sym, ap, _∙_}
-use mathlib.Core.Bool.{Bool, true, false, cond}
+-- What the readers know at each way out. Assumes nothing.
+use mathlib.Core.Path.{_≡_, refl, sym, ap, _∙_}
+use mathlib.Core.Bool.{Bool, true, false, not, cond, _&&_}
 use mathlib.Core.List.{List, _++_}
 use mathlib.Core.Logic.{_≢_}
 use Prim.Native.Nat.{ℕ, _-_, _≤_, _<_}
 use native.Mathlib.Nat.{zero-add}
 use native.Mathlib.Omega.{arith}
-use borrow.Author.Tests.{le-leb, lt-leb, eq-eqb, ne-eqb}
-use lib.ListN.{length, getD, drop}
+use borrow.Author.Tests.{le-leb, lt-leb, leb-true, not-true, not-false}
+use lib.Dec.{eqb, leb}
+use lib.IntN.{ℤ}
+use lib.ListN.{length, getD, drop, length-map}
 use lib.Seq.{sets, sets-eq}
+use Rattle.words.specs.Kinds.{Row}
 use Rattle.words.specs.declared.Found.{Found}
 use Rattle.refusals.specs.declared.Refusal.{Refusal}
 use Rattle.refusals.specs.declared.Refusal.the-variants.{TextForm, LineCount}
 use Rattle.texts.specs.Texts.{linesOf}
-use Rattle.lines.specs.Reading.{closed, formed, limited, reading, roomFor, filled}
+use Rattle.lines.specs.Reading.{rowsIn, closed, formed, limited, reading, roomFor, kindsOf, numbersOf, filled, Put, ReadInto}
+use Rattle.lines.specs.Laws.{rows-count}
 use Rattle.refusals.specs.declared.Answer.{Answer}
 use Rattle.refusals.specs.declared.Answer.the-variants.{Told, Refused}
 use Rattle.lines.specs.declared.Limits.{Limits}
 
--- ---- questions 1 to 3
+-- ---- question 1
+
+module _ (limit : ℕ) (t : List ℕ) where
+  pub empty-text : length t ≡ 0 → false ≡ closed limit t
+  empty-text e = simp (lt-leb 1 (length t) (omega arith))
+
+  pub long-text : length t ≢ 0 → limit < length t → false ≡ closed limit t
+  long-text some h = simp (le-leb 1 (length t) (omega arith), lt-leb (length t) limit h)
+
+  pub last-byte : length t ≢ 0 → length t ≤ limit → eqb (getD t (length t - 1) 0) 10 ≡ closed limit t
+  last-byte some h = simp (le-leb 1 (length t) (omega arith), le-leb (length t) limit h)
+
+-- ---- question 3
+
+module _ (limit : ℕ) {a : Answer} where
+  pub still-refused : {r : Refusal} → a ≡ Refused r → a ≡ limited limit a
+  still-refused e = e ∙ ap (limited limit) (sym e)
+
+  pub many-lines : {n : ℕ} → a ≡ Told n → limit < n → Refused LineCount ≡ limited limit a
+  many-lines {n} e h = ap (λ (b : Bool). cond b (Told n) (Refused LineCount)) (sym (lt-leb n limit h)) ∙ ap (limited limit) (sym e)
+
+  pub few-lines : {n : ℕ} → a ≡ Told n → n ≤ limit → Told n ≡ limited limit a
+  few-lines {n} e h = ap (λ (b : Bool). cond b (Told n) (Refused LineCount)) (sym (le-leb n limit h)) ∙ ap (limited limit) (sym e)
+
+-- ---- the three in their order
 
 module _ (head : List ℕ → Found) (limits : Limits) (t : List ℕ) where
   abbrev rest : Answer
   rest = limited (limits .lines) (formed head 0 (linesOf t))
 
-  not-closed : closed (limits .bytes) t ≡ false → Refused TextForm ≡ reading head limits t
+  pub not-closed : closed (limits .bytes) t ≡ false → Refused TextForm ≡ reading head limits t
   unfolding reading
   not-closed c = ap (λ (b : Bool). cond b rest (Refused TextForm)) (sym c)
 
-  pub empty-text : length t ≡ 0 → Refused TextForm ≡ reading head limits t
-  empty-text e = not-closed (simp (lt-leb 1 (length t) (omega arith)))
+  pub lines-asked : closed (limits .bytes) t ≡ true → {a r : Answer} → a ≡ formed head 0 (linesOf t) → r ≡ limited (limits .lines) a
+      → r ≡ reading head limits t
+  unfolding reading
+  lines-asked c e f = f ∙ ap (limited (limits .lines)) e ∙ ap (λ (b : Bool). cond b rest (Refused TextForm)) (sym c)
 
-  pub long-text : length t ≢ 0 → limits .bytes < length t → Refused TextForm ≡ reading head limits t
-  long-text some h = not-closed (simp (le-leb 1 (length t) (omega arith), lt-leb (length t) (limits .bytes) h))
+-- ---- what the slices hold
 
-  module _ (some : length t ≢ 0) (fits : length t ≤ limits .bytes) where
-    pub open-text : getD t (length t - 1) 0 ≢ 10 → Refused TextForm ≡ reading head limits t
-    open-text h =
-        not-closed (simp (le-leb 1 (length t) (omega arith), le-leb (length t) (limits .bytes) fits, ne-eqb (getD t (length t - 1) 0) 10 h))
+-- room for n in slices of k and of m
+room-says : (n k m : ℕ) → (leb n k && leb n m) ≡ true → (n ≤ k) × (n ≤ m)
+room-says n k m h = go (leb n k) (leb n m) (leb-true n k) (leb-true n m) h
+  where
+    go : (a b : Bool) → (a ≡ true → n ≤ k) → (b ≡ true → n ≤ m) → (a && b) ≡ true → (n ≤ k) × (n ≤ m)
+    go true b f g h = (f refl, g h)
+    go false b f g h = absurd (let clash : _≡_ {A = ℕ} 0 1 = cc in omega arith)
 
-    module _ (last : getD t (length t - 1) 0 ≡ 10) {answer : Answer} (asked : answer ≡ formed head 0 (linesOf t)) where
-      limited-answer : limited (limits .lines) answer ≡ reading head limits t
-      unfolding reading
-      limited-answer =
-          let c : closed (limits .bytes) t ≡ true =
-          simp (le-leb 1 (length t) (omega arith), le-leb (length t) (limits .bytes) fits, eq-eqb (getD t (length t - 1) 0) 10 last) in
-          ap (limited (limits .lines)) asked ∙ ap (λ (b : Bool). cond b rest (Refused TextForm)) (sym c)
+no-room : {A : Type 0} → false ≡ true → A
+no-room h = absurd (let clash : _≡_ {A = ℕ} 0 1 = cc in omega arith)
 
-      pub no-row : {r : Refusal} → answer ≡ Refused r → answer ≡ reading head limits t
-      no-row is = is ∙ ap (limited (limits .lines)) (sym is) ∙ limited-answer
+module _ {A : Type 0} (held put : List A) {held′ : List A} (k m limit : ℕ) where
+  pub all-put : (a : Answer) → Put a held put held′ → ((n : ℕ) → a ≡ Told n → length put ≡ n) → ((n : ℕ) → n ≤ k → n ≤ m → n ≤ length held)
+      → roomFor (limited limit a) k m ≡ true → held′ ≡ filled true put held
+  all-put (Refused q) stored count fits h = no-room h
+  all-put (Told n) stored count fits h = go (leb n limit) h
+    where
+      go : (b : Bool) → roomFor (cond b (Told n) (Refused LineCount)) k m ≡ true → held′ ≡ filled true put held
+      go true h =
+          let room = room-says n k m h in
+          let fit : length put ≤ length held = omega (arith, count n refl, fits n (room .0) (room .1)) in
+          stored n refl ∙ sets-eq put held 0 (omega arith) ∙ ap (λ (i : ℕ). put ++ drop i held) (zero-add (length put))
+      go false h = no-room h
 
-      pub many-lines : {n : ℕ} → answer ≡ Told n → limits .lines < n → Refused LineCount ≡ reading head limits t
-      many-lines {n} is h =
-          ap (λ (b : Bool). cond b (Told n) (Refused LineCount)) (sym (lt-leb n (limits .lines) h))
-          ∙ ap (limited (limits .lines)) (sym is)
-          ∙ limited-answer
+-- ---- what a reader promises
 
-      pub all-rows : {n : ℕ} → answer ≡ Told n → n ≤ limits .lines → Told n ≡ reading head limits t
-      all-rows {n} is h =
-          ap (λ (b : Bool). cond b (Told n) (Refused LineCount)) (sym (le-leb n (limits .lines) h))
-          ∙ ap (limited (limits .lines)) (sym is)
-          ∙ limited-answer
+module _ (head : List ℕ → Found) (limits : Limits) (t : List ℕ) (kinds : List ℕ) (numbers : List ℤ) where
+  abbrev R : List Row
+  R = rowsIn head (linesOf t)
 
--- ---- what the lent slices hold
+  pub refused-read : {b : Bool} {kinds′ : List ℕ} {numbers′ : List ℤ} → b ≡ closed (limits .bytes) t → not b ≡ true
+      → ReadInto head limits t kinds numbers (Refused TextForm) kinds′ numbers′
+  refused-read {b} e h =
+      record { answer = not-closed head limits t (sym e ∙ not-true b h); kinds-left = λ f. no-room f; numbers-left = λ f. no-room f }
 
-module _ {A : Type 0} (put held : List A) (kinds numbers : ℕ) where
-  pub kept-refused : {answer : Answer} {r : Refusal} → answer ≡ Refused r → held ≡ filled (roomFor answer kinds numbers) put held
-  kept-refused is = ap (λ (x : Answer). filled (roomFor x kinds numbers) put held) (sym is)
-
-  module _ (n : ℕ) where
-    pub kept-kinds : kinds < n → held ≡ filled (roomFor (Told n) kinds numbers) put held
-    kept-kinds h = simp (lt-leb n kinds h)
-
-    pub kept-numbers : n ≤ kinds → numbers < n → held ≡ filled (roomFor (Told n) kinds numbers) put held
-    kept-numbers g h = simp (le-leb n kinds g, lt-leb n numbers h)
-
-    pub filled-with : {after : List A} → n ≤ kinds → n ≤ numbers → length put ≡ n → n ≤ length held → after ≡ sets held 0 put
-        → after ≡ filled (roomFor (Told n) kinds numbers) put held
-    filled-with g h count fits e =
-        e
-        ∙ sets-eq put held 0 (omega arith)
-        ∙ ap (λ (k : ℕ). put ++ drop k held) (zero-add (length put))
-        ∙ simp (le-leb n kinds g, le-leb n numbers h)
+  pub text-read : {b : Bool} {a r : Answer} {kinds′ : List ℕ} {numbers′ : List ℤ} → b ≡ closed (limits .bytes) t → not b ≡ false
+      → a ≡ formed head 0 (linesOf t) → Put a kinds (kindsOf R) kinds′ → Put a numbers (numbersOf R) numbers′ → r ≡ limited (limits .lines) a
+      → ReadInto head limits t kinds numbers r kinds′ numbers′
+  text-read {b} {a} {r} e h is p q f =
+      let count : (n : ℕ) → a ≡ Told n → length R ≡ n = λ n g. let c = rows-count head 0 n (linesOf t) (sym is ∙ g) in omega arith in
+      let room : roomFor r (length kinds) (length numbers) ≡ true → roomFor (limited (limits .lines) a) (length kinds) (length numbers) ≡ true =
+      λ g. ap (λ (x : Answer). roomFor x (length kinds) (length numbers)) (sym f) ∙ g in
+      record {
+        answer = lines-asked head limits t (sym e ∙ not-false b h) is f;
+        kinds-left = λ g. all-put kinds (kindsOf R) (length kinds) (length numbers) (limits .lines) a p (λ n x. length-map R (λ (y : Row). y .0) ∙ count n x)
+            (λ n l m. l) (room g);
+        numbers-left = λ g. all-put numbers (numbersOf R) (length kinds) (length numbers) (limits .lines) a q (λ n x. length-map R (λ (y : Row). y .1) ∙ count n x)
+            (λ n l m. m) (room g);
+      }

@@ -13,7 +13,7 @@ use mir.Facts.{toZ-ofZ}
 use lib.Seq.{sets, length-sets, drop-cons}
 use Rattle.words.specs.Kinds.{Row}
 use Rattle.lines.specs.Reading.{addRow}
-use Rattle.lines.specs.Below.{Below}
+use Rattle.lines.proofs.Below.{Below}
 use Rattle.lines.specs.declared.Line.{Line}
 use Rattle.lines.specs.declared.Line.the-variants.{IsRow, NoRow}
 

@@ -134,7 +134,7 @@ closed-text limit t c =
 
 module _ (head : List ℕ → Found) where
   -- every line is a row
-  rows-count : (n m : ℕ) (ls : List (List ℕ)) → formed head n ls ≡ Told m → m ≡ n + length (rowsIn head ls)
+  pub rows-count : (n m : ℕ) (ls : List (List ℕ)) → formed head n ls ≡ Told m → m ≡ n + length (rowsIn head ls)
   unfolding formed rowsIn
   rows-count n m [] e = let q : n ≡ m = cc in omega arith
   rows-count n m (l ∷ ls) e = go (lineOf head l) refl e (rows-count (suc n) m ls)

@@ -5,7 +5,6 @@ pub mod Reading
 pub mod Lent
 pub mod Printing
 -- What the contracts of parts say besides
-pub mod Below
 -- Their laws
 pub mod Laws
 pub mod TableLaws

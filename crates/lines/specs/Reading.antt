@@ -1,12 +1,13 @@
 -- From a text to rows: [1.1] to [1.5], [11.3], [11.4], and questions 1 to 3, [10.1] to [10.3]. The table of words is an argument.
 -- Definitions only; assumes nothing.
-use mathlib.Core.Bool.{Bool, false, cond, _&&_}
+use mathlib.Core.Bool.{Bool, true, false, cond, _&&_}
 use mathlib.Core.Path.{_≡_}
 use mathlib.Core.List.{List, [], _∷_, _++_, map}
 use Prim.Native.Nat.{ℕ, suc, _-_}
 use lib.Dec.{eqb, leb}
 use lib.IntN.{ℤ, pos, negsuc}
 use lib.ListN.{length, getD, drop}
+use lib.Seq.{sets}
 use Rattle.refusals.specs.declared.Refusal.the-variants.{TextForm, LineForm, LineCount}
 use Rattle.refusals.specs.declared.Answer.{Answer}
 use Rattle.refusals.specs.declared.Answer.the-variants.{Told, Refused}
@@ -95,7 +96,7 @@ loopsLimits = record { bytes = 65536; lines = 4096 }
 abbrev pub valuesLimits : Limits
 valuesLimits = record { bytes = 65536; lines = 65536 }
 
--- ---- [10.22] what lent slices hold in the end: the rows in front if both have room for them; else what they held
+-- ---- what the two slices of a table hold that a text was read into
 
 abbrev pub roomFor : Answer → ℕ → ℕ → Bool
 roomFor (Told n) kinds numbers = leb n kinds && leb n numbers
@@ -107,12 +108,18 @@ kindsOf rs = map (λ (r : Row). r .0) rs
 abbrev pub numbersOf : List Row → List ℤ
 numbersOf rs = map (λ (r : Row). r .1) rs
 
+-- [10.22] what is put stands in front, and behind it what was held; or all is as it was
 abbrev pub filled : {A : Type 0} → Bool → List A → List A → List A
 filled room put held = cond room (put ++ drop (length put) held) held
 
--- What a reader promises of its answer r and of the two slices, as lent and as left.
+-- Not refused: these were stored from the first place on, those that had room.
+abbrev pub Put : {A : Type 0} → Answer → List A → List A → List A → Type 0
+Put r held put held′ = (n : ℕ) → r ≡ Told n → held′ ≡ sets held 0 put
+
+-- What a reader promises of its answer r and of the two slices, as lent and as left: the rows stand in front if both have room for them. Where they
+-- have not, or the text is refused, nothing is said of the slices.
 pub record ReadInto (head : List ℕ → Found) (limits : Limits) (t : List ℕ) (kinds : List ℕ) (numbers : List ℤ)
     (r : Answer) (kinds′ : List ℕ) (numbers′ : List ℤ) : Type 0 where
   pub answer : r ≡ reading head limits t
-  pub kinds-left : kinds′ ≡ filled (roomFor r (length kinds) (length numbers)) (kindsOf (rowsIn head (linesOf t))) kinds
-  pub numbers-left : numbers′ ≡ filled (roomFor r (length kinds) (length numbers)) (numbersOf (rowsIn head (linesOf t))) numbers
+  pub kinds-left : roomFor r (length kinds) (length numbers) ≡ true → kinds′ ≡ filled true (kindsOf (rowsIn head (linesOf t))) kinds
+  pub numbers-left : roomFor r (length kinds) (length numbers) ≡ true → numbers′ ≡ filled true (numbersOf (rowsIn head (linesOf t))) numbers

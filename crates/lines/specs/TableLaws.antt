@@ -1,7 +1,7 @@
 -- What stands in the two slices that a reader was lent: where they have room for as many rows as its limits let in, the rows of the text
 -- are in front. Assumes nothing.
 use mathlib.Core.Bool.{Bool, true, false, cond, _&&_}
-use mathlib.Core.Path.{_≡_, refl, sym, ap, ap₂, _∙_}
+use mathlib.Core.Path.{_≡_, refl, sym, ap, ap₂, _∙_, subst}
 use mathlib.Core.List.{List, [], _∷_}
 use Prim.Native.Nat.{ℕ, _≤_, _<_}
 use native.Mathlib.Omega.{arith}
@@ -59,20 +59,6 @@ module _ (n k m : ℕ) where
   pub room-for : n ≤ k → n ≤ m → (leb n k && leb n m) ≡ true
   room-for h g = simp (le-leb n k h, le-leb n m g)
 
-  -- question 12 of these rows, which were told
-  module _ {a : Answer} (is : a ≡ Told n) where
-    asked : (b : Bool) → (leb n k && leb n m) ≡ b → cond b (Told n) (Refused LentSize) ≡ after a (λ rows. askRoom rows k m)
-    asked b e = ap (λ (x : Bool). cond x (Told n) (Refused LentSize)) (sym e) ∙ ap (λ (x : Answer). after x (λ rows. askRoom rows k m)) (sym is)
-
-    pub few-kinds : k < n → Refused LentSize ≡ after a (λ rows. askRoom rows k m)
-    few-kinds h = asked false (short-kinds h)
-
-    pub few-numbers : m < n → Refused LentSize ≡ after a (λ rows. askRoom rows k m)
-    few-numbers h = asked false (short-numbers h)
-
-    pub room-told : n ≤ k → n ≤ m → Told n ≡ after a (λ rows. askRoom rows k m)
-    room-told h g = asked true (room-for h g)
-
 -- ---- refused before the table is touched
 
 pub refused-into : {v r : Answer} {q : Refusal} (R : List Row) (ks : List ℕ) (ns : List ℤ) → r ≡ v → r ≡ Refused q → TableInto v R ks ns r ks ns
@@ -81,6 +67,18 @@ refused-into R ks ns e f = record {
   kinds-left = ap (λ (x : Answer). filled (isTold x) (kindsOf R) ks) (sym f);
   numbers-left = ap (λ (x : Answer). filled (isTold x) (numbersOf R) ns) (sym f);
 }
+
+-- ---- passed, whatever number was told: question 12 alone is left
+
+pub told-into : {v r : Answer} {m n : ℕ} {S R : List Row} {ks ks′ : List ℕ} {ns ns′ : List ℤ} → v ≡ Told m → S ≡ R → TableInto (Told n) S ks ns r ks′ ns′
+    → TableInto v R ks ns r ks′ ns′
+told-into {v} {r} {m} {n} {S} {R} {ks} {ks′} {ns} {ns′} e f i =
+    let j = subst (λ (T : List Row). TableInto (Told n) T ks ns r ks′ ns′) f i in
+    record {
+      answer = j .answer ∙ ap (λ (x : Answer). unlessRefused x (askRoom (length R) (length ks) (length ns))) (sym e);
+      kinds-left = j .kinds-left;
+      numbers-left = j .numbers-left;
+    }
 
 -- ---- a text that was read
 
@@ -110,7 +108,7 @@ module _ (head : List ℕ → Found) (limits : Limits) (t : List ℕ) where
       let few = read-few n e in
       let room : roomFor r (length ks) (length ns) ≡ true =
       ap (λ (x : Answer). roomFor x (length ks) (length ns)) f ∙ room-for n (length ks) (length ns) (omega (arith, few, h)) (omega (arith, few, g)) in
-      rows-in-front (roomFor r (length ks) (length ns)) (rowsIn head (linesOf t)) n ks ks′ ns ns′ room (rows-read head limits t n e) (i .kinds-left) (i .numbers-left)
+      rows-in-front true (rowsIn head (linesOf t)) n ks ks′ ns ns′ refl (rows-read head limits t n e) (i .kinds-left room) (i .numbers-left room)
 
   -- ---- read into slices of as many rows as the limits let in: their fronts hold the rows
 
@@ -130,35 +128,3 @@ module _ (head : List ℕ → Found) (limits : Limits) (t : List ℕ) where
         numbers-front = length-take-le n ns′ (omega (arith, few, m′));
         rows = rows-held r n ks ks′ ns ns′ f (omega (arith, k)) (omega (arith, m)) i;
       }
-
-  -- ---- read into a lent table, where `checked` answers the questions before 12, those of the reading first
-
-  abbrev R : List Row
-  R = rowsIn head (linesOf t)
-
-  module _ {checked : Answer} (next : Answer) (c : checked ≡ unlessRefused (reading head limits t) next) {n : ℕ} (passes : checked ≡ Told n)
-      {ks ks′ : List ℕ} {ns ns′ : List ℤ} {r : Answer} (i : ReadInto head limits t ks ns r ks′ ns′) where
-    pub read-into : {a : Answer} {k m : ℕ} → k ≡ length ks → m ≡ length ns → a ≡ after r (λ rows. askRoom rows k m) → TableInto checked R ks ns a ks′ ns′
-    read-into {a} {k} {m} h g e = go r refl
-      where
-        told : (b : Bool) (m : ℕ) → isTold (cond b (Told m) (Refused LentSize)) ≡ b
-        told true m = refl
-        told false m = refl
-
-        go : (x : Answer) → r ≡ x → TableInto checked R ks ns a ks′ ns′
-        go (Refused q) f =
-            let no : checked ≡ Refused q = c ∙ ap (λ (x : Answer). unlessRefused x next) (sym (i .answer) ∙ f) in
-            absurd (let clash : _≡_ {A = ℕ} 0 1 = cc in omega arith)
-        go (Told rows) f =
-            let asks : a ≡ askRoom rows (length ks) (length ns) =
-            e ∙ ap (λ (x : Answer). after x (λ rows. askRoom rows k m)) f ∙ ap₂ (askRoom rows) h g in
-            let room : roomFor r (length ks) (length ns) ≡ isTold a =
-            ap (λ (x : Answer). roomFor x (length ks) (length ns)) f
-            ∙ sym (ap isTold asks ∙ told (leb rows (length ks) && leb rows (length ns)) rows) in
-            record {
-              answer = asks
-                  ∙ ap (λ (k : ℕ). askRoom k (length ks) (length ns)) (sym (rows-read head limits t rows (sym (i .answer) ∙ f)))
-                  ∙ ap (λ (x : Answer). unlessRefused x (askRoom (length R) (length ks) (length ns))) (sym passes);
-              kinds-left = i .kinds-left ∙ ap (λ (b : Bool). filled b (kindsOf R) ks) room;
-              numbers-left = i .numbers-left ∙ ap (λ (b : Bool). filled b (numbersOf R) ns) room;
-            }

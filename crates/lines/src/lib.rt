@@ -1,16 +1,18 @@
 // Texts and rows: a text is read into kinds and numbers ([1.8]), and rows are printed as a text ([1.9]).
 ghost use mathlib.Core.Path.{_≡_};
-ghost use Rattle.refusals.specs.Answers.{after};
+ghost use lib.ListN.{length};
+ghost use Rattle.refusals.specs.declared.Answer.the-variants.{Told};
 ghost use Rattle.words.specs.Kinds.{rowsOf};
 ghost use Rattle.words.specs.Tables.{wordsIn};
 ghost use Rattle.lines.specs.Reading.{cellHead, headOf, planLimits, loopsLimits, valuesLimits, ReadInto};
-ghost use Rattle.lines.specs.Lent.{askRoom};
+ghost use Rattle.lines.specs.Lent.{TableInto};
 ghost use Rattle.lines.specs.Printing.{PrintInto};
 ghost use Rattle.lines.specs.declared.Heads.the-variants.{Words};
 use refusals::Answer;
 use refusals::Refusal;
 use words::Table;
 
+mod lent;
 mod printer;
 mod reader;
 
@@ -32,22 +34,15 @@ pub struct Limits {
     pub lines: usize,
 }
 
-// Reads a text within limits: how many rows it has, or the first "no". They go into the lent slices if both have room for them.
+// Reads a text within limits: how many rows it has, or the first "no". They go into the table if both its slices have room for them. Where they
+// have not, or the text is refused, what they hold is not told: a table that must stay as it was is lent only when all is asked.
 fn read(table: &Table, text: &[u8], limits: Limits, kinds: &mut [u8], numbers: &mut [i32]) -> Answer
     ensures { λ r. ⌜ ReadInto (headOf (wordsIn (now (table .entry))) Words) limits (now (text .entry)) (now (kinds .entry)) (now (numbers .entry)) r (now (kinds .exit)) (now (numbers .exit)) ⌝ }
 {
-    let answer = reader::ask(table, Heads::Words, limits, text);
-    let Answer::Told(rows) = answer else {
-        return answer;
-    };
-    if kinds.len() < rows {
-        return answer;
+    if !reader::is_closed(text, limits.bytes) {
+        return Answer::Refused(Refusal::TextForm);
     }
-    if numbers.len() < rows {
-        return answer;
-    }
-    reader::put_rows(table, text, kinds, numbers);
-    answer
+    reader::ask_count(reader::put_rows(table, text, kinds, numbers), limits.lines)
 }
 
 // Reads a plan's text: at most 4,096 bytes [13.2] and 256 lines [13.4].
@@ -86,43 +81,34 @@ pub fn read_loops(table: &Table, text: &[u8], kinds: &mut [u8], numbers: &mut [i
 pub fn read_values(text: &[u8], cells: &mut [u32], values: &mut [i32]) -> Answer
     ensures { λ r. ⌜ ReadInto cellHead valuesLimits (now (text .entry)) (now (cells .entry)) (now (values .entry)) r (now (cells .exit)) (now (values .exit)) ⌝ }
 {
+    if !reader::is_closed(text, 65536) {
+        return Answer::Refused(Refusal::TextForm);
+    }
     let table = words::built_in();
-    let answer = reader::ask(
-        &table,
-        Heads::Cells,
-        Limits {
-            bytes: 65536,
-            lines: 65536,
-        },
-        text,
-    );
-    let Answer::Told(rows) = answer else {
-        return answer;
-    };
-    if cells.len() < rows {
-        return answer;
-    }
-    if values.len() < rows {
-        return answer;
-    }
-    reader::put_values(&table, text, cells, values);
-    answer
+    reader::ask_count(reader::put_values(&table, text, cells, values), 65536)
 }
 
-// [10.12] Has a table of so many kinds and numbers room for the rows told? How many they are, or the first "no".
-pub fn ask_room(told: Answer, kinds: usize, numbers: usize) -> Answer
-    ensures { λ r. ⌜ r ≡ after told (λ rows. askRoom rows kinds numbers) ⌝ }
+// [10.12] Has a lent table room for these rows? [10.22] Then they are put in front: how many they are, or the "no", and it is as it was.
+pub fn hand_over(
+    kinds: &[u8],
+    numbers: &[i32],
+    lentkinds: &mut [u8],
+    lentnumbers: &mut [i32],
+) -> Answer
+    requires { ⌜ length (now kinds) ≡ length (now numbers) ⌝ }
+    ensures { λ r. ⌜ TableInto (Told (length (now (kinds .entry)))) (rowsOf (now (kinds .entry)) (now (numbers .entry)))
+        (now (lentkinds .entry)) (now (lentnumbers .entry)) r (now (lentkinds .exit)) (now (lentnumbers .exit)) ⌝ }
 {
-    let Answer::Told(rows) = told else {
-        return told;
-    };
-    if kinds < rows {
+    let rows = kinds.len();
+    if lentkinds.len() < rows {
         return Answer::Refused(Refusal::LentSize);
     }
-    if numbers < rows {
+    if lentnumbers.len() < rows {
         return Answer::Refused(Refusal::LentSize);
     }
-    told
+    lent::put_kinds(kinds, lentkinds);
+    lent::put_numbers(numbers, lentnumbers);
+    Answer::Told(rows)
 }
 
 // [1.9] Prints rows, as many as the shorter slice has ([1.8]), at the front of the lent text:

@@ -1,5 +1,5 @@
 -- A text that was read: its answer is that of its rows. Assumes nothing.
-use mathlib.Core.Path.{_≡_, refl, sym, ap, _∙_}
+use mathlib.Core.Path.{_≡_, sym, ap, _∙_}
 use mathlib.Core.List.{List}
 use Prim.Native.Nat.{ℕ}
 use Rattle.refusals.specs.declared.Refusal.{Refusal}
@@ -7,22 +7,13 @@ use Rattle.words.specs.Kinds.{Row}
 use Rattle.lines.specs.Reading.{reading, loopsLimits}
 use Rattle.refusals.specs.declared.Answer.{Answer}
 use Rattle.refusals.specs.declared.Answer.the-variants as answer
-use Rattle.refusals.specs.Answers.{unlessRefused}
 use Rattle.words.specs.Words.{lookUp}
 use Rattle.lines.specs.Lent.{textRows}
 use Rattle.loops.specs.declared.Checked.{Checked}
 use Rattle.loops.specs.declared.Checked.the-variants.{Refused}
-use Rattle.loops.specs.Check.{needOf, afterAnswer, checkLoopsRows, checkLoopsText}
+use Rattle.loops.specs.Check.{afterAnswer, checkLoopsRows, checkLoopsText}
 
 module _ (ws : List (List ℕ)) (t : List ℕ) where
-  pub need-asked : needOf (checkLoopsText ws t) ≡ unlessRefused (reading (lookUp ws) loopsLimits t) (needOf (checkLoopsRows (textRows ws t)))
-  unfolding checkLoopsText
-  need-asked = go (reading (lookUp ws) loopsLimits t)
-    where
-      go : (x : Answer) → needOf (afterAnswer x (checkLoopsRows (textRows ws t))) ≡ unlessRefused x (needOf (checkLoopsRows (textRows ws t)))
-      go (answer.Told n) = refl
-      go (answer.Refused q) = refl
-
   module _ {r : Answer} (e : r ≡ reading (lookUp ws) loopsLimits t) where
     by-reading : {x : Answer} → r ≡ x → afterAnswer x (checkLoopsRows (textRows ws t)) ≡ checkLoopsText ws t
     unfolding checkLoopsText

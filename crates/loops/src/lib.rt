@@ -97,16 +97,28 @@ fn need_with(table: &Table, text: &[u8]) -> Answer
     }
 }
 
-// The same text read into a lent table of rows.
+// The same text read into a lent table of rows, which is touched when all is asked.
 fn read_with(table: &Table, text: &[u8], kinds: &mut [u8], numbers: &mut [i32]) -> Answer
     ensures { λ r. ⌜ ReadsLoops (wordsIn (now (table .entry))) (now (text .entry)) (now (kinds .entry)) (now (numbers .entry)) r (now (kinds .exit)) (now (numbers .exit)) ⌝ }
 {
-    let checked = need_with(table, text);
-    let Answer::Told(_) = checked else {
-        return checked;
+    let mut own_kinds = [0u8; 4096];
+    let mut own_numbers = [0i32; 4096];
+    let read = lines::read_loops(table, text, &mut own_kinds, &mut own_numbers);
+    let Answer::Told(rows) = read else {
+        return read;
     };
-    let read = lines::read_loops(table, text, kinds, numbers);
-    lines::ask_room(read, kinds.len(), numbers.len())
+    let its_kinds = &own_kinds[..rows];
+    let its_numbers = &own_numbers[..rows];
+    let checked = check_rows(its_kinds, its_numbers);
+    match checked {
+        Checked::Refused(refusal) => Answer::Refused(refusal),
+        Checked::Passes { writes: _, need: _ } => lines::hand_over(
+            its_kinds,
+            its_numbers,
+            kinds,
+            numbers,
+        ),
+    }
 }
 
 // [10.16] The check of a loops text: questions 1 to 6, 9 and 11.

@@ -13,7 +13,7 @@ use Rattle.lines.specs.Lent.{textRows}
 use Rattle.typing.specs.Entry.{checkPlanRows, checkPlanText}
 
 module _ (ws : List (List ℕ)) (t : List ℕ) where
-  pub text-asked : checkPlanText ws t ≡ unlessRefused (reading (lookUp ws) planLimits t) (checkPlanRows (textRows ws t))
+  text-asked : checkPlanText ws t ≡ unlessRefused (reading (lookUp ws) planLimits t) (checkPlanRows (textRows ws t))
   unfolding checkPlanText
   text-asked = refl
 

@@ -47,16 +47,23 @@ fn check_with(table: &Table, text: &[u8]) -> Answer
     check_rows(&kinds[..rows], &numbers[..rows])
 }
 
-// The same text read into a lent table of rows.
+// The same text read into a lent table of rows, which is touched when all is asked.
 fn read_with(table: &Table, text: &[u8], kinds: &mut [u8], numbers: &mut [i32]) -> Answer
     ensures { λ r. ⌜ ReadsPlan (wordsIn (now (table .entry))) (now (text .entry)) (now (kinds .entry)) (now (numbers .entry)) r (now (kinds .exit)) (now (numbers .exit)) ⌝ }
 {
-    let checked = check_with(table, text);
+    let mut own_kinds = [0u8; 256];
+    let mut own_numbers = [0i32; 256];
+    let read = lines::read_plan(table, text, &mut own_kinds, &mut own_numbers);
+    let Answer::Told(rows) = read else {
+        return read;
+    };
+    let its_kinds = &own_kinds[..rows];
+    let its_numbers = &own_numbers[..rows];
+    let checked = check_rows(its_kinds, its_numbers);
     let Answer::Told(_) = checked else {
         return checked;
     };
-    let read = lines::read_plan(table, text, kinds, numbers);
-    lines::ask_room(read, kinds.len(), numbers.len())
+    lines::hand_over(its_kinds, its_numbers, kinds, numbers)
 }
 
 // [10.16], [10.21] The check of a plan's text: how many rows it has, or the first "no" to questions 1 to 8.

@@ -63,7 +63,7 @@ module _ (ks : List ℕ) (ns : List ℤ) (C Y : List ℕ) (N : List ℤ) (T : Li
 
   module _ (m : ℕ) (R : Room m Y N T s) where
     pub leaf-asks : (k n p : ℕ) → k ≡ getD ks 0 0 → n ≡ asNatural (getD ns 0 (pos 0)) → p < 65536
-        → (1 ≤ s .len) × (s .len < 4096) × (p < 65536) × (length N - length ns < 65536) × (length T ≡ 4096)
+        → (1 ≤ s .len) × (s .len < 1024) × (p < 65536) × (length N - length ns < 65536) × (length T ≡ 1024)
         × (k ≡ word-in → n < 65536) × (k ≡ word-var → n < s .count) × (s .count ≤ 16) × (length (s .variables) ≡ 16)
     leaf-asks k n p ek en hp = (
       R .some,
@@ -77,7 +77,7 @@ module _ (ks : List ℕ) (ns : List ℤ) (C Y : List ℕ) (N : List ℤ) (T : Li
       S .variables .long,
     )
 
-    pub region-asks : 1 ≤ m → Sound Y (length Y) × (getD C 0 0 < length Y) × (1 ≤ s .len) × (s .len < 4096) × (s .regions < 65535) × (length T ≡ 4096)
+    pub region-asks : 1 ≤ m → Sound Y (length Y) × (getD C 0 0 < length Y) × (1 ≤ s .len) × (s .len < 1024) × (s .regions < 65535) × (length T ≡ 1024)
     region-asks h = (R .types, typed, R .some, omega (arith, R .nodes), omega (arith, R .regions), R .size)
 
   some-node : 1 ≤ nodesUsed e
@@ -85,7 +85,7 @@ module _ (ks : List ℕ) (ns : List ℤ) (C Y : List ℕ) (N : List ℤ) (T : Li
 
   -- a region is opened for a used map
   pub open-asks : Room (nodesUsed e) Y N T s
-      → Sound Y (length Y) × (getD C 0 0 < length Y) × (1 ≤ s .len) × (s .len < 4096) × (s .regions < 65535) × (length T ≡ 4096)
+      → Sound Y (length Y) × (getD C 0 0 < length Y) × (1 ≤ s .len) × (s .len < 1024) × (s .regions < 65535) × (length T ≡ 1024)
   open-asks R = region-asks (nodesUsed e) R some-node
 
   pub opened-asks : Room (nodesUsed e) Y N T s → isMap (getD ks 0 0) ≡ true → {U : List ℕ} {p : ℕ} {s′ : State} → RegionOpened T U p s s′
@@ -129,7 +129,7 @@ module _ (ks : List ℕ) (ns : List ℤ) (C Y : List ℕ) (N : List ℤ) (T : Li
       pub first-reach : (1 + r .rows ≤ length ks) × (r .rows ≤ length N)
       first-reach = (omega (arith, first-used .passed, fewer, bounds), omega (arith, first-used .passed, fewer, bounds))
 
-      pub over-one-asks : Room (nodesUsed e) Y N T s → (r .value < r .len) × (r .len < 4096) × (r .rows ≤ 65535) × (length U ≡ 4096)
+      pub over-one-asks : Room (nodesUsed e) Y N T s → (r .value < r .len) × (r .len < 1024) × (r .rows ≤ 65535) × (length U ≡ 1024)
       over-one-asks R = (first-used .below, omega (arith, R .nodes, first-used .few, fewer), omega (arith, R .plan, first-reach, bounds), first-used .grown .size)
 
       -- the second of two that are used
@@ -157,7 +157,7 @@ module _ (ks : List ℕ) (ns : List ℤ) (C Y : List ℕ) (N : List ℤ) (T : Li
             pub second-used : Used Y N I Γ Δ (secondOperand e) s′ U W p p′ w
             second-used = H′ I Γ Δ (secondOperand e) second-here
 
-            pub over-two-asks : Room (nodesUsed e) Y N T s → (r .value < w .len) × (w .value < w .len) × (w .len < 4096) × (r .rows ≤ 65535) × (w .rows ≤ 65535) × (length W ≡ 4096)
+            pub over-two-asks : Room (nodesUsed e) Y N T s → (r .value < w .len) × (w .value < w .len) × (w .len < 1024) × (r .rows ≤ 65535) × (w .rows ≤ 65535) × (length W ≡ 1024)
             over-two-asks R = (
               omega (arith, first-used .below, G .len, second-used .more),
               second-used .below,

@@ -107,8 +107,8 @@ module _ (ks : List ℕ) (ns : List ℤ) (C Y : List ℕ) (N : List ℤ) (T : Li
           region = bodyRegion (typeAt Y (getD C 0 0)) (y .regions)
 
           pub enter-asks : Room (nodesUsed e) Y N T s
-              → Sound Y (length Y) × (getD C 0 0 < length Y) × (x .value < y .len) × (y .value < y .len) × (y .len + 19 ≤ 4096)
-              × (s .counters + 8 < 65536) × (y .regions + 2 < 65536) × (s .count + 1 < 16) × (length (s .variables) ≡ 16) × (length W ≡ 4096)
+              → Sound Y (length Y) × (getD C 0 0 < length Y) × (x .value < y .len) × (y .value < y .len) × (y .len + 19 ≤ 1024)
+              × (s .counters + 8 < 65536) × (y .regions + 2 < 65536) × (s .count + 1 < 16) × (length (s .variables) ≡ 16) × (length W ≡ 1024)
           enter-asks R = (
             R .types,
             typed ks ns C Y N T s I Γ Δ e S,
@@ -122,7 +122,7 @@ module _ (ks : List ℕ) (ns : List ℤ) (C Y : List ℕ) (N : List ℤ) (T : Li
             start-used .grown .size,
           )
 
-          module _ {X : List ℕ} {s₂ : State} (E : ReductionEntered W X (getD C 0 0) (x .value) region s y s₂) (hy : length Y ≤ 65536) (hl : y .len + 3 ≤ 4096)
+          module _ {X : List ℕ} {s₂ : State} (E : ReductionEntered W X (getD C 0 0) (x .value) region s y s₂) (hy : length Y ≤ 65536) (hl : y .len + 3 ≤ 1024)
               (hr : y .regions < 65535) (hc : s .counters < 65536) (hv : s .count + 1 < 16) where
             round-here : Stands (part (1 + a + x .rows) ks) (part (1 + a + x .rows) ns) (part (1 + a + x .rows) C) Y N X s₂ I
                 (typeOf I Γ (firstOperand e) ∷ element (typeOf I Γ (secondOperand e)) ∷ Γ)
@@ -165,8 +165,8 @@ module _ (ks : List ℕ) (ns : List ℤ) (C Y : List ℕ) (N : List ℤ) (T : Li
               round-written = D I _ _ (thirdOperand e) round-here
 
               pub leave-asks : Room (nodesUsed e) Y N T s
-                  → Sound Y (length Y) × (getD C 0 0 < length Y) × (y .len + 2 < w .len) × (w .len + 16 ≤ 4096)
-                  × (s .counters + 9 < 65536) × (y .regions + 2 < 65536) × (1 + a + x .rows ≤ 65535) × (w .rows ≤ 65535) × (length Z ≡ 4096)
+                  → Sound Y (length Y) × (getD C 0 0 < length Y) × (y .len + 2 < w .len) × (w .len + 16 ≤ 1024)
+                  × (s .counters + 9 < 65536) × (y .regions + 2 < 65536) × (1 + a + x .rows ≤ 65535) × (w .rows ≤ 65535) × (length Z ≡ 1024)
               leave-asks R = (
                 R .types,
                 typed ks ns C Y N T s I Γ Δ e S,

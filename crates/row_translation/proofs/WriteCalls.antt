@@ -74,8 +74,8 @@ module _ (ks : List ℕ) (ns : List ℤ) (C Y : List ℕ) (N : List ℤ) (T : Li
         ready-use S (room-on (nodesWritten e) (nodesUsed e) Y N T T s s R (grown-none T (s .len) (R .size)) (omega arith) (omega (arith, no-node)) (omega (arith, no-node)) (omega (arith, no-node)))
 
     pub assign-asks : (target : ℕ) → target < s .len → {U : List ℕ} {o o′ : Table} {r : Translated} → Uses ks ns C Y N s T U o o′ r
-        → Sound Y (length Y) × (getD C 0 0 < length Y) × (r .value < r .len) × (target < r .len) × (r .len + 2 * levels (typeAt Y (getD C 0 0)) ≤ 4096)
-        × (s .counters + levels (typeAt Y (getD C 0 0)) < 65536) × (length U ≡ 4096)
+        → Sound Y (length Y) × (getD C 0 0 < length Y) × (r .value < r .len) × (target < r .len) × (r .len + 2 * levels (typeAt Y (getD C 0 0)) ≤ 1024)
+        × (s .counters + levels (typeAt Y (getD C 0 0)) < 65536) × (length U ≡ 1024)
     assign-asks target ht H =
         let A = H I Γ Δ e S in
         (R .types, typed, A .below, omega (arith, ht, A .more), omega (arith, R .nodes, A .few, no-node, few-levels (R .types)), omega (arith, R .counters, few-levels (R .types)), A .grown .size)
@@ -127,8 +127,8 @@ module _ (ks : List ℕ) (ns : List ℤ) (C Y : List ℕ) (N : List ℤ) (T : Li
       pub map-reach : 1 + r .rows < length ks
       map-reach = omega (arith, array-used .passed, map-rows, bounds, some-rows (secondOperand e))
 
-      pub enter-map-asks : Room (nodesWritten e) Y N T s → Sound Y (length Y) × (getD C 0 0 < length Y) × (r .value < r .len) × (target < r .len) × (r .len + 2 ≤ 4096)
-          × (s .counters < 65535) × (s .count < 16) × (length (s .variables) ≡ 16) × (length U ≡ 4096)
+      pub enter-map-asks : Room (nodesWritten e) Y N T s → Sound Y (length Y) × (getD C 0 0 < length Y) × (r .value < r .len) × (target < r .len) × (r .len + 2 ≤ 1024)
+          × (s .counters < 65535) × (s .count < 16) × (length (s .variables) ≡ 16) × (length U ≡ 1024)
       enter-map-asks R = (
         R .types,
         typed,
@@ -141,7 +141,7 @@ module _ (ks : List ℕ) (ns : List ℤ) (C Y : List ℕ) (N : List ℤ) (T : Li
         array-used .grown .size,
       )
 
-      module _ {W : List ℕ} {s′ : State} (E : MapEntered U W target s r s′) (hl : r .len + 2 ≤ 4096) (hc : s .counters < 65535) (hv : s .count < 16) where
+      module _ {W : List ℕ} {s′ : State} (E : MapEntered U W target s r s′) (hl : r .len + 2 ≤ 1024) (hc : s .counters < 65535) (hv : s .count < 16) where
         pub body-here : Stands (part (1 + r .rows) ks) (part (1 + r .rows) ns) (part (1 + r .rows) C) Y N W s′ I
             (element (typeOf I Γ (firstOperand e)) ∷ Γ) (Expression.index (expressionOf I (firstOperand e) Γ Δ (s .regions)) (Offset.counter (s .counters)) ∷ Δ) (secondOperand e)
         body-here = map-body Y N I Γ Δ s T target ht e ks ns C S (getD ks 0 0) refl o U W K M r s′ array-used E hl hc hm hv
@@ -165,7 +165,7 @@ module _ (ks : List ℕ) (ns : List ℤ) (C Y : List ℕ) (N : List ℤ) (T : Li
 
     -- operands that are written into parts of the place
     module _ (target : ℕ) (ht : target < s .len) where
-      pub into-asks : Room (nodesWritten e) Y N T s → (target < s .len) × (s .len < 4096) × (length T ≡ 4096)
+      pub into-asks : Room (nodesWritten e) Y N T s → (target < s .len) × (s .len < 1024) × (length T ≡ 1024)
       into-asks R = (ht, omega (arith, R .nodes), R .size)
 
       module _ {U : List ℕ} {i n : ℕ} {s₁ : State} (F : IntoPart T U i n target (s .len) s s₁) where
@@ -197,7 +197,7 @@ module _ (ks : List ℕ) (ns : List ℤ) (C Y : List ℕ) (N : List ℤ) (T : Li
             pub paired-reach : 1 + r .rows < length ks
             paired-reach = omega (arith, part-written .passed, paired-rows, bounds, some-rows (secondOperand e))
 
-            pub into-second-asks : Room (nodesWritten e) Y N T s → (target < r .len) × (r .len < 4096) × (length W ≡ 4096)
+            pub into-second-asks : Room (nodesWritten e) Y N T s → (target < r .len) × (r .len < 1024) × (length W ≡ 1024)
             into-second-asks R =
                 (omega (arith, ht, F .len, part-written .more), omega (arith, R .nodes, F .len, part-written .few, paired-rows, paired .noMap), part-written .grown .size)
 

@@ -64,8 +64,8 @@ pub record SomeTerm (ks : List ℕ) (ns : List ℤ) (C Y : List ℕ) (N : List �
 pub record Room (more : ℕ) (Y : List ℕ) (N : List ℤ) (T : List ℕ) (s : State) : Type 0 where
   pub types : Sound Y (length Y)
   pub some : 1 ≤ s .len
-  pub nodes : s .len + more + 16 ≤ 4096
-  pub size : length T ≡ 4096
+  pub nodes : s .len + more + 16 ≤ 1024
+  pub size : length T ≡ 1024
   pub counters : s .counters + more + 8 < 65536
   pub regions : s .regions + more < 65536
   pub plan : length N ≤ 65536

@@ -23,7 +23,7 @@ pub fn use_term(
     column: &[u16],
     types: &[u64],
     plan: &[i32],
-    references: &mut [u64; 4096],
+    references: &mut [u64; 1024],
     outkinds: &mut [u8; 4096],
     outnumbers: &mut [i32; 4096],
     state: State,

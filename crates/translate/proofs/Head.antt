@@ -131,7 +131,7 @@ module _ (ks : List ℕ) (ns : List ℤ) (C Y places : List ℕ) (row place : �
             inputs = A .stands .1 .inputsFew;
           }
 
-      pub plan-room : s .len ≡ 2 → s .counters ≡ 0 → s .regions ≡ 0 → length T ≡ 4096 → Room (nodesWritten (P .term)) Y ns T s
+      pub plan-room : s .len ≡ 2 → s .counters ≡ 0 → s .regions ≡ 0 → length T ≡ 1024 → Room (nodesWritten (P .term)) Y ns T s
       plan-room l c r t =
           let more : nodesWritten (P .term) ≤ 768 = omega (arith, rows-count, few) in
           record {
@@ -217,7 +217,7 @@ module _ {ks : List ℕ} {ns : List ℤ} {C Y places : List ℕ} {row place : �
         let n = S .noted .inputs k (omega (arith, h, inputs-length, counted)) .0 in
         omega (arith, g, n)
 
-  pub ready : (T : List ℕ) (s : State) → s .count ≡ 0 → length (s .variables) ≡ 16 → s .len ≡ 2 → s .counters ≡ 0 → s .regions ≡ 0 → length T ≡ 4096
+  pub ready : (T : List ℕ) (s : State) → s .count ≡ 0 → length (s .variables) ≡ 16 → s .len ≡ 2 → s .counters ≡ 0 → s .regions ≡ 0 → length T ≡ 1024
       → ReadyToWrite (part row ks) (part row ns) (part row C) Y ns T s
   ready T s a b l c r t = (
     record {

@@ -3,4 +3,3 @@ pub mod Head
 pub mod MadeLaws
 pub mod ReadPlan
 pub mod LentLaws
-pub mod Copies

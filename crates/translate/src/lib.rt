@@ -7,7 +7,6 @@ use refusals::Answer;
 use words::Table;
 
 mod making;
-mod tables;
 
 // Translates a plan's text that is read with this table of words: the rows of its loops.
 pub fn rows_with(table: &Table, text: &[u8], kinds: &mut [u8], numbers: &mut [i32]) -> Answer

@@ -18,7 +18,6 @@ ghost use Rattle.typing.specs.Entry.{answered, checkPlanRows};
 ghost use Rattle.row_typing.specs.Typed.{PlanStands};
 ghost use Rattle.translate.specs.Entry.{madeRows, makePlan};
 ghost use Rattle.translate.specs.Making.{cellsAt, PlanNoted, SomePlanNoted, byCheck};
-use crate::tables;
 use clauses::State;
 use emission::references;
 use emission::rows::MOST_ROWS;
@@ -96,7 +95,7 @@ fn put_loops(
     let first = put_count(outkinds, outnumbers, 0, WORD_LOOPS, count as u16);
     let last = put_inputs(types, &inputs[..count], outkinds, outnumbers, first);
     let to = put_cells(types, outkinds, outnumbers, place, last);
-    let mut references = [0u64; 4096];
+    let mut references = [0u64; 1024];
     references::push_stored(&mut references, OUTPUT, WORD_OUT, 0, place);
     let state = State {
         counters: 0,
@@ -138,17 +137,11 @@ fn hand_over(kinds: &[u8], numbers: &[i32], lentkinds: &mut [u8], lentnumbers: &
     ensures { λ r. ⌜ TableInto (byCheck (length (now (kinds .entry))) (checkTable (rowsOf (now (kinds .entry)) (now (numbers .entry))))) (rowsOf (now (kinds .entry)) (now (numbers .entry)))
         (now (lentkinds .entry)) (now (lentnumbers .entry)) r (now (lentkinds .exit)) (now (lentnumbers .exit)) ⌝ }
 {
-    let asked = lines::ask_room(
-        ask_writes(kinds, numbers),
-        lentkinds.len(),
-        lentnumbers.len(),
-    );
+    let asked = ask_writes(kinds, numbers);
     let Answer::Told(_) = asked else {
         return asked;
     };
-    tables::put_kinds(kinds, lentkinds);
-    tables::put_numbers(numbers, lentnumbers);
-    asked
+    lines::hand_over(kinds, numbers, lentkinds, lentnumbers)
 }
 
 // Questions 7, 8 and 10 to 12 of rows that walk well.

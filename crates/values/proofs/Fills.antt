@@ -79,11 +79,11 @@ module _ (t : List ℕ) {r : Answer} (cells : List ℕ) (values : List ℤ) {cel
 
         cells-read : take m cells′ ≡ kindsOf R
         cells-read =
-            in-front (roomFor r (length cells) (length values)) (kindsOf R) cells cells′ m had-room (length-map R (λ (x : Row). x .0) ∙ count) (read .kinds-left)
+            in-front true (kindsOf R) cells cells′ m refl (length-map R (λ (x : Row). x .0) ∙ count) (read .kinds-left had-room)
 
         rows-put : rowsOf (take m cells′) (take m values′) ≡ R
         rows-put =
-            rows-in-front (roomFor r (length cells) (length values)) R m cells cells′ values values′ had-room count (read .kinds-left) (read .numbers-left)
+            rows-in-front true R m cells cells′ values values′ refl count (read .kinds-left had-room) (read .numbers-left had-room)
 
         tested : {b : Bool} → b ≡ oneLineEach n (take m cells′) → by-lines b ≡ filling t n (length store)
         tested e = ap by-lines (e ∙ ap (oneLineEach n) cells-read) ∙ by-store (sym (le-leb n (length store) room))

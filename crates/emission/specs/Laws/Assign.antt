@@ -32,7 +32,7 @@ module _ (T U : List ℕ) (len k n v q : ℕ) (B : BothPushed T U len k n v q) w
   pub both-grown : Grown T U len
   both-grown = grown-more T (B .between) U len (len + 1) (omega arith) (B .over-value .grown) (B .over-target .grown)
 
-  module _ (hl : len + 1 < 4096) (hn : n < 65536) (hv : v < len) (hq : q < len) where
+  module _ (hl : len + 1 < 1024) (hn : n < 65536) (hv : v < len) (hq : q < len) where
     -- a step from what is read, and from where it is written
     pub step-read : (Y : List ℕ) (N : List ℤ) → classOf k ≡ Rearranged
         → expressionAt Y N U len ≡ rearranged (changeOf k) n (expressionAt Y N T v) (expressionAt Y N T 0)
@@ -85,7 +85,7 @@ module _ (Y : List ℕ) (N : List ℤ) (T : List ℕ) (t v q c r : ℕ) (o o′ 
       → o′ ≡ putRows (assignRows (typeAt Y t) (expressionAt Y N T v) (acceptorAt Y T q) c r) o
   assign-number e h = h ∙ sym (ap (λ (s : DataType). putRows (assignRows s (expressionAt Y N T v) (acceptorAt Y T q) c r) o) e)
 
-  module _ (len : ℕ) (hl : len + 1 < 4096) (hv : v < len) (hq : q < len) where
+  module _ (len : ℕ) (hl : len + 1 < 1024) (hv : v < len) (hq : q < len) where
     pub assign-array : (U : List ℕ) (n e : ℕ) (o₁ : Table) → c < 65536 → typeAt Y t ≡ array n (typeAt Y e) → o₁ ≡ putRow o (word-par, pos n)
         → BothPushed T U len word-ctr c v q
         → o′ ≡ putRows (assignRows (typeAt Y e) (expressionAt Y N U len) (acceptorAt Y U (len + 1)) (c + 1) r) o₁

@@ -10,7 +10,7 @@ use Rattle.emission.specs.References.{nodeAt}
 use Rattle.emission.specs.Growth.{Grown, Pushed}
 use Rattle.emission.specs.Laws.Nodes.{node-made, node-agrees}
 
-pub grown-none : (T : List ℕ) (len : ℕ) → length T ≡ 4096 → Grown T T len
+pub grown-none : (T : List ℕ) (len : ℕ) → length T ≡ 1024 → Grown T T len
 grown-none T len h = record { same = refl; size = h }
 
 pub grown-more : (T U W : List ℕ) (m n : ℕ) → m ≤ n → Grown T U m → Grown U W n → Grown T W m
@@ -19,7 +19,7 @@ grown-more T U W m n h p q = record {
   size = q .size;
 }
 
-pub pushed : (T U : List ℕ) (len w w′ : ℕ) → len < 4096 → length T ≡ 4096 → w ≡ w′ → U ≡ set T len w → Pushed T U len w′
+pub pushed : (T U : List ℕ) (len w w′ : ℕ) → len < 1024 → length T ≡ 1024 → w ≡ w′ → U ≡ set T len w → Pushed T U len w′
 pushed T U len w w′ h s e u =
     rw (u, sym e)
     record {

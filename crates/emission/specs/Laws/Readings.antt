@@ -57,7 +57,7 @@ write-by Negation Y w P = refl
 write-by Operated Y w P = refl
 write-by Rearranged Y w P = refl
 
-module _ (T U : List ℕ) (len k t n a b : ℕ) (p : Pushed T U len (nodeOf k t n a b)) (hl : len < 4096) (ht : t < 65536) (hn : n < 65536) (ha : a < len) (hb : b < len) where
+module _ (T U : List ℕ) (len k t n a b : ℕ) (p : Pushed T U len (nodeOf k t n a b)) (hl : len < 1024) (ht : t < 65536) (hn : n < 65536) (ha : a < len) (hb : b < len) where
   node-over : {A : Type 0} (nothing : A) (make : ℕ → A → A → A)
       → nodeAt nothing make U len ≡ make (nodeOf k t n a b) (nodeAt nothing make T a) (nodeAt nothing make T b)
   node-over nothing make =

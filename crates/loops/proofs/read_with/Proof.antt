@@ -1,11 +1,12 @@
--- `loops::read_with` meets its contract: a text that passes is read, into slices that have room for its rows.
-use mathlib.Core.Path.{sym, _∙_}
+-- `loops::read_with` meets its contract: the table of its own holds the text's rows, their answer is the text's, and rows that pass are handed over.
+use mathlib.Core.Path.{refl, sym, ap, _∙_}
+use native.Mathlib.Omega.{arith}
 use Rattle.words.specs.Tables.{wordsIn}
 use Rattle.words.specs.Words.{lookUp}
 use Rattle.lines.specs.Lent.{textRows}
 use Rattle.lines.specs.Reading.{loopsLimits}
-use Rattle.lines.specs.TableLaws.{refused-into, read-into}
-use Rattle.loops.specs.Check.{needOf, checkLoopsRows}
+use Rattle.lines.specs.TableLaws.{refused-into, told-into, held}
+use Rattle.loops.specs.Check.{needOf}
 use Rattle.loops.proofs.Texts as texts
 use borrow.Author.Needs.{needs}
 use Rattle.loops.proofs.read_with.Statement.{statement}
@@ -13,22 +14,88 @@ use Rattle.loops.proofs.read_with.Tie as tie
 
 returns : tie.Need-returns
 returns c =
-    let a = c .before .before .before .before .before .args in
-    let need-with = c .before .before .need-with in
-    refused-into (textRows (wordsIn (a .table .now)) (a .text .now)) (a .kinds .now) (a .numbers .now) (need-with .ensures) (c .enum-told2 .given .1)
+    let a = c .before .before .before .before .before .before .before .before .before .args in
+    let read-loops = c .before .before .before .before .read-loops in
+    let no = c .enum-told .given .1 in
+    refused-into (textRows (wordsIn (a .table .now)) (a .text .now)) (a .kinds .now) (a .numbers .now)
+    (no ∙ ap needOf (texts.text-refused (wordsIn (a .table .now)) (a .text .now) (read-loops .ensures .answer) no)) no
+
+array-share-prefix-own-kinds : tie.Need-array-share-prefix-own-kinds
+array-share-prefix-own-kinds c =
+    let a = c .before .before .before .before .before .before .before .before .before .before .args in
+    let read-loops = c .before .before .before .before .before .read-loops in
+    let read = c .before .read in
+    let h = held (lookUp (wordsIn (a .table .now))) loopsLimits (a .text .now) (read-loops .ensures) (read .given .1) refl refl (read-loops .kept .1 .1 .0) (read-loops .kept .1 .1 .1 .0) in
+    omega (arith, h .few)
+
+slice-aggregate-its-kinds : tie.Need-slice-aggregate-its-kinds
+slice-aggregate-its-kinds c =
+    let a = c .before .before .before .before .before .before .before .before .before .before .before .args in
+    let read-loops = c .before .before .before .before .before .before .read-loops in
+    let read = c .before .before .read in
+    let h = held (lookUp (wordsIn (a .table .now))) loopsLimits (a .text .now) (read-loops .ensures) (read .given .1) refl refl (read-loops .kept .1 .1 .0) (read-loops .kept .1 .1 .1 .0) in
+    sym (h .kinds-front)
+
+array-share-prefix-own-numbers : tie.Need-array-share-prefix-own-numbers
+array-share-prefix-own-numbers c =
+    let a = c .before .before .before .before .before .before .before .before .before .before .before .args in
+    let read-loops = c .before .before .before .before .before .before .read-loops in
+    let read = c .before .before .read in
+    let h = held (lookUp (wordsIn (a .table .now))) loopsLimits (a .text .now) (read-loops .ensures) (read .given .1) refl refl (read-loops .kept .1 .1 .0) (read-loops .kept .1 .1 .1 .0) in
+    omega (arith, h .few)
+
+slice-aggregate-its-numbers : tie.Need-slice-aggregate-its-numbers
+slice-aggregate-its-numbers c =
+    let a = c .before .before .before .before .before .before .before .before .before .before .before .before .args in
+    let read-loops = c .before .before .before .before .before .before .before .read-loops in
+    let read = c .before .before .before .read in
+    let h = held (lookUp (wordsIn (a .table .now))) loopsLimits (a .text .now) (read-loops .ensures) (read .given .1) refl refl (read-loops .kept .1 .1 .0) (read-loops .kept .1 .1 .1 .0) in
+    sym (h .numbers-front)
+
+check-rows-requires : tie.Need-check-rows-requires
+check-rows-requires c κs =
+    let a = c .before .before .before .before .before .before .before .before .before .before .before .before .args in
+    let read-loops = c .before .before .before .before .before .before .before .read-loops in
+    let read = c .before .before .before .read in
+    let h = held (lookUp (wordsIn (a .table .now))) loopsLimits (a .text .now) (read-loops .ensures) (read .given .1) refl refl (read-loops .kept .1 .1 .0) (read-loops .kept .1 .1 .1 .0) in
+    (h .kinds-front ∙ sym (h .numbers-front), omega (arith, h .kinds-front, h .few))
 
 returns-2 : tie.Need-returns-2
 returns-2 c =
-    let a = c .before .before .before .before .before .before .before .before .before .before .before .before .args in
-    let need-with = c .before .before .before .before .before .before .before .before .before .need-with in
-    let enum-told = c .before .before .before .before .before .before .before .enum-told in
-    let read-loops = c .before .before .before .before .read-loops in
-    read-into (lookUp (wordsIn (a .table .now))) loopsLimits (a .text .now) (needOf (checkLoopsRows (textRows (wordsIn (a .table .now)) (a .text .now))))
-    (texts.need-asked (wordsIn (a .table .now)) (a .text .now)) (sym (need-with .ensures) ∙ enum-told .given .1) (read-loops .ensures)
-    (read-loops .kept .1 .1 .0) (read-loops .kept .1 .1 .1 .0) (c .ask-room .ensures)
+    let a = c .before .before .before .before .before .before .before .before .before .before .before .before .before .before .before .before .args in
+    let read-loops = c .before .before .before .before .before .before .before .before .before .before .before .read-loops in
+    let read = c .before .before .before .before .before .before .before .read in
+    let h = held (lookUp (wordsIn (a .table .now))) loopsLimits (a .text .now) (read-loops .ensures) (read .given .1) refl refl (read-loops .kept .1 .1 .0) (read-loops .kept .1 .1 .1 .0) in
+    refused-into (textRows (wordsIn (a .table .now)) (a .text .now)) (a .kinds .now) (a .numbers .now)
+    (ap needOf
+    (sym (c .before .checked .given .1)
+    ∙ texts.text-checked (wordsIn (a .table .now)) (a .text .now) (read-loops .ensures .answer) (read .given .1) (h .rows) (c .before .before .before .check-rows .ensures)))
+    refl
+
+hand-over-requires : tie.Need-hand-over-requires
+hand-over-requires c κs =
+    let a = c .before .before .before .before .before .before .before .before .before .before .before .before .before .before .before .before .before .args in
+    let read-loops = c .before .before .before .before .before .before .before .before .before .before .before .before .read-loops in
+    let read = c .before .before .before .before .before .before .before .before .read in
+    let h = held (lookUp (wordsIn (a .table .now))) loopsLimits (a .text .now) (read-loops .ensures) (read .given .1) refl refl (read-loops .kept .1 .1 .0) (read-loops .kept .1 .1 .1 .0) in
+    h .kinds-front ∙ sym (h .numbers-front)
+
+returns-3 : tie.Need-returns-3
+returns-3 c =
+    let a = c .before .before .before .before .before .before .before .before .before .before .before .before .before .before .before .before .before .before .before .before .before .args in
+    let read-loops = c .before .before .before .before .before .before .before .before .before .before .before .before .before .before .before .before .read-loops in
+    let read = c .before .before .before .before .before .before .before .before .before .before .before .before .read in
+    let h = held (lookUp (wordsIn (a .table .now))) loopsLimits (a .text .now) (read-loops .ensures) (read .given .1) refl refl (read-loops .kept .1 .1 .0) (read-loops .kept .1 .1 .1 .0) in
+    told-into
+    (ap needOf
+    (sym (texts.text-checked (wordsIn (a .table .now)) (a .text .now) (read-loops .ensures .answer) (read .given .1)
+    (h .rows) (c .before .before .before .before .before .before .before .before .check-rows .ensures))
+    ∙ c .before .before .before .before .before .before .enum-told2 .given .1))
+    (h .rows) (c .before .before .before .hand-over .ensures)
 
 pub read-with-spec : {M : Type 1} → statement M
 read-with-spec =
     tie.close
-    (tie.spec (λ c κs. search needs) (λ c. search needs) (λ c. search needs) returns (λ c κs. search needs)
-    (λ c κs. search needs) (λ c. search needs) (λ c. search needs) returns-2)
+    (tie.spec (λ c. search needs) (λ c. search needs) (λ c κs. search needs) (λ c. search needs) (λ c. search needs)
+    returns array-share-prefix-own-kinds slice-aggregate-its-kinds array-share-prefix-own-numbers
+    slice-aggregate-its-numbers check-rows-requires (λ c. search needs) (λ c. search needs) hand-over-requires returns-2 (λ c. search needs) (λ c. search needs) returns-3)

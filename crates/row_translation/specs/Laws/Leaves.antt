@@ -58,7 +58,7 @@ module _ (Y : List ℕ) (N : List ℤ) (I Γ : List DataType) (Δ : List Express
   -- of kind k and number n, its type at place p, in a row of the plan
   by-leaf : {e : Term} → Leaf e → (ks : List ℕ) (ns : List ℤ) (C : List ℕ) (k n p row : ℕ) → Stands ks ns C Y N T s I Γ Δ e
       → k ≡ getD ks 0 0 → n ≡ asNatural (getD ns 0 (pos 0)) → p ≡ getD C 0 0 → row ≡ length N - length ns
-      → 1 ≤ s .len → s .len < 4096 → p < 65536 → row < 65536 → length T ≡ 4096
+      → 1 ≤ s .len → s .len < 1024 → p < 65536 → row < 65536 → length T ≡ 1024
       → LeafUsed T U k n p row s r → Used Y N I Γ Δ e s T U (table K M (s .to)) (table K M (r .to)) r
   unfolding useRows expressionOf termRows
   by-leaf (Leaf.input j) ks ns C k n p row S ek en ep ew h1 hl hp hw hT L =
@@ -97,7 +97,7 @@ module _ (Y : List ℕ) (N : List ℤ) (I Γ : List DataType) (Δ : List Express
 
   pub used-leaf : (e : Term) (ks : List ℕ) (ns : List ℤ) (C : List ℕ) (k n p row : ℕ) → Stands ks ns C Y N T s I Γ Δ e
       → k ≡ getD ks 0 0 → n ≡ asNatural (getD ns 0 (pos 0)) → p ≡ getD C 0 0 → row ≡ length N - length ns → isLeaf k ≡ true
-      → 1 ≤ s .len → s .len < 4096 → p < 65536 → row < 65536 → length T ≡ 4096
+      → 1 ≤ s .len → s .len < 1024 → p < 65536 → row < 65536 → length T ≡ 1024
       → LeafUsed T U k n p row s r → Used Y N I Γ Δ e s T U (table K M (s .to)) (table K M (r .to)) r
   used-leaf e ks ns C k n p row S ek en ep ew hk h1 hl hp hw hT L =
       let f : k ≡ termKind e = ek ∙ its-kind ks ns (length I) (length Γ) e (S .rows) in

@@ -104,7 +104,7 @@ module _ (Y : List ℕ) (N : List ℤ) (I Γ : List DataType) (Δ : List Express
     (U W X : List ℕ) (o : Table) (K K₁ : List ℕ) (M M₁ : List ℤ) (array : Translated) (s₁ : State) (start : Translated) (s₂ : State)
     (A : Used Y N I Γ Δ (secondOperand e) s T U o (table K M (array .to)) array) (G : AfterUse s array s₁)
     (B : Used Y N I Γ Δ (firstOperand e) s₁ U W (table K M (s₁ .to)) (table K₁ M₁ (start .to)) start)
-    (H : ReductionEntered W X p (array .value) (bodyRegion (typeAt Y p) (start .regions)) s start s₂) (hl : start .len + 3 ≤ 4096) (hr : start .regions < 65535)
+    (H : ReductionEntered W X p (array .value) (bodyRegion (typeAt Y p) (start .regions)) s start s₂) (hl : start .len + 3 ≤ 1024) (hr : start .regions < 65535)
     (hc : s .counters < 65536) where
   -- the region that its body is written into
   abbrev region : ℕ

@@ -45,7 +45,7 @@ module _ (Y : List ℕ) (N : List ℤ) (I Γ : List DataType) (Δ : List Express
   -- ---- one operand
 
   module _ (e : Term) (U W : List ℕ) (o : Table) (K : List ℕ) (M : List ℤ) (k n : ℕ) (one r : Translated) where
-    over-one : k ≡ termKind e → n ≡ numberOver k (termNumber e) (typeOf I Γ (firstOperand e)) → n < 65536 → one .len < 4096 → OneOperand I e
+    over-one : k ≡ termKind e → n ≡ numberOver k (termNumber e) (typeOf I Γ (firstOperand e)) → n < 65536 → one .len < 1024 → OneOperand I e
         → Used Y N I Γ Δ (firstOperand e) s T U o (table K M (one .to)) one → OverOne U W k n one r
         → Used Y N I Γ Δ e s T W o (table K M (r .to)) r
     over-one ek en hn hl q A B =
@@ -72,7 +72,7 @@ module _ (Y : List ℕ) (N : List ℤ) (I Γ : List DataType) (Δ : List Express
     -- p is the place of the operand's type, m the number of the term's row
     pub used-over-one : (ks : List ℕ) (ns : List ℤ) (C : List ℕ) (m p : ℕ) → Stands ks ns C Y N T s I Γ Δ e
         → k ≡ getD ks 0 0 → m ≡ asNatural (getD ns 0 (pos 0)) → p ≡ getD C 1 0 → isLeaf k ≡ false → hasOneOperand k ≡ true
-        → n ≡ numberOver k m (typeAt Y p) → n < 65536 → one .len < 4096
+        → n ≡ numberOver k m (typeAt Y p) → n < 65536 → one .len < 1024
         → Used Y N I Γ Δ (firstOperand e) s T U o (table K M (one .to)) one → OverOne U W k n one r
         → Used Y N I Γ Δ e s T W o (table K M (r .to)) r
     used-over-one ks ns C m p S ek em ep hk hb en hn hl A B =
@@ -85,7 +85,7 @@ module _ (Y : List ℕ) (N : List ℤ) (I Γ : List DataType) (Δ : List Express
   -- ---- two operands
 
   module _ (e : Term) (U W X : List ℕ) (o : Table) (K K′ : List ℕ) (M M′ : List ℤ) (k : ℕ) (one : Translated) (s′ : State) (two r : Translated) where
-    over-two : k ≡ termKind e → two .len < 4096 → TwoOperands I e
+    over-two : k ≡ termKind e → two .len < 1024 → TwoOperands I e
         → Used Y N I Γ Δ (firstOperand e) s T U o (table K M (one .to)) one → AfterUse s one s′
         → Used Y N I Γ Δ (secondOperand e) s′ U W (table K M (s′ .to)) (table K′ M′ (two .to)) two
         → OverTwo W X k one two r → Used Y N I Γ Δ e s T X o (table K′ M′ (r .to)) r
@@ -126,7 +126,7 @@ module _ (Y : List ℕ) (N : List ℤ) (I Γ : List DataType) (Δ : List Express
         }
 
     pub used-over-two : (ks : List ℕ) (ns : List ℤ) (C : List ℕ) → Stands ks ns C Y N T s I Γ Δ e
-        → k ≡ getD ks 0 0 → isLeaf k ≡ false → isMap k ≡ false → (k ≡ word-redseq → ⊥) → hasOneOperand k ≡ false → two .len < 4096
+        → k ≡ getD ks 0 0 → isLeaf k ≡ false → isMap k ≡ false → (k ≡ word-redseq → ⊥) → hasOneOperand k ≡ false → two .len < 1024
         → Used Y N I Γ Δ (firstOperand e) s T U o (table K M (one .to)) one → AfterUse s one s′
         → Used Y N I Γ Δ (secondOperand e) s′ U W (table K M (s′ .to)) (table K′ M′ (two .to)) two
         → OverTwo W X k one two r → Used Y N I Γ Δ e s T X o (table K′ M′ (r .to)) r
@@ -138,7 +138,7 @@ module _ (Y : List ℕ) (N : List ℤ) (I Γ : List DataType) (Δ : List Express
 
   module _ (e : Term) (U W : List ℕ) (o : Table) (K K′ : List ℕ) (M M′ : List ℤ) (k p : ℕ) (s′ : State) (w r : Translated) where
     pub used-map : (ks : List ℕ) (ns : List ℤ) (C : List ℕ) → Stands ks ns C Y N T s I Γ Δ e
-        → k ≡ getD ks 0 0 → p ≡ getD C 0 0 → isMap k ≡ true → length Y ≤ 65536 → 1 ≤ s .len → s .len < 4096 → s .regions < 65535
+        → k ≡ getD ks 0 0 → p ≡ getD C 0 0 → isMap k ≡ true → length Y ≤ 65536 → 1 ≤ s .len → s .len < 1024 → s .regions < 65535
         → RegionOpened T U p s s′ → table K M (s′ .to) ≡ regionRows (typeAt Y p) o
         → Written Y N I Γ Δ e (acceptorAt Y U (s .len)) s′ U W (table K M (s′ .to)) (table K′ M′ (w .to)) w
         → RegionUsed s w r → Used Y N I Γ Δ e s T W o (table K′ M′ (r .to)) r

@@ -88,7 +88,7 @@ module _ (Y : List ℕ) (N : List ℤ) (I Γ : List DataType) (Δ : List Express
 
   module _ (U W : List ℕ) (K : List ℕ) (M : List ℤ) (used : Translated) (s′ : State)
       (A : Used Y N I Γ Δ (firstOperand e) s T U o (table K M (used .to)) used) (H : MapEntered U W target s used s′)
-      (hl : used .len + 2 ≤ 4096) (hc : s .counters < 65535) (hm : isMap k ≡ true) where
+      (hl : used .len + 2 ≤ 1024) (hc : s .counters < 65535) (hm : isMap k ≡ true) where
     map-here : MapTerm I e
     map-here = map-term I e (ap isMap (sym kind) ∙ hm)
 
@@ -153,7 +153,7 @@ module _ (Y : List ℕ) (N : List ℤ) (I Γ : List DataType) (Δ : List Express
   -- ---- a `zip` or a `pair`: the operands are written one after the other, each into its part
 
   module _ (U W X Z K K₁ K₂ : List ℕ) (M M₁ M₂ : List ℤ) (s₁ : State) (one : Translated) (s₂ : State) (two r : Translated) where
-    pub written-paired : isPaired k ≡ true → one .len < 4096
+    pub written-paired : isPaired k ≡ true → one .len < 1024
         → IntoPart T U (firstPart k) 0 target (s .len) s s₁ → table K M (s₁ .to) ≡ putRow o (word-seq, pos 0)
         → Written Y N I Γ Δ (firstOperand e) (acceptorAt Y U (s .len)) s₁ U W (table K M (s₁ .to)) (table K₁ M₁ (one .to)) one
         → IntoPart W X (secondPart k) 0 target (one .len) s s₂ → s₂ .to ≡ one .to
@@ -204,7 +204,7 @@ module _ (Y : List ℕ) (N : List ℤ) (I Γ : List DataType) (Δ : List Express
 
   module _ (U W K K₁ : List ℕ) (M M₁ : List ℤ) (m p n : ℕ) (s₁ : State) (w r : Translated) where
     pub written-regrouped : isRegrouped k ≡ true → m ≡ asNatural (getD ns 0 (pos 0)) → p ≡ getD C 1 0 → isLeaf k ≡ false
-        → n ≡ numberOver k m (typeAt Y p) → n < 65536 → s .len < 4096
+        → n ≡ numberOver k m (typeAt Y p) → n < 65536 → s .len < 1024
         → IntoPart T U (regroupedBy k) n target (s .len) s s₁ → table K M (s₁ .to) ≡ o
         → Written Y N I Γ Δ (firstOperand e) (acceptorAt Y U (s .len)) s₁ U W (table K M (s₁ .to)) (table K₁ M₁ (w .to)) w
         → Later 1 w r

@@ -75,7 +75,7 @@ module _ (t : ℕ) where
 
   -- room for the nodes and counters of its elements
   array-room : (c : IsArray)
-      → (entry c .args .len + 2 * suc (levels (typeAt (entry c .args .types .now) (c .array .given .0 .1 .0))) ≤ 4096)
+      → (entry c .args .len + 2 * suc (levels (typeAt (entry c .args .types .now) (c .array .given .0 .1 .0))) ≤ 1024)
       × (entry c .args .counters + suc (levels (typeAt (entry c .args .types .now) (c .array .given .0 .1 .0))) < 65536)
   array-room c = let l = array-levels _ _ _ (its-array c .0) in (omega (arith, l, entry c .pre .1 .4), omega (arith, l, entry c .pre .1 .5))
 
@@ -88,7 +88,7 @@ module _ (t : ℕ) where
 
   -- and of its parts
   abbrev PartRoom : IsPair → ℕ → Type 0
-  PartRoom c i = (pair-entry c .args .len + 2 * suc (levels (typeAt (pair-entry c .args .types .now) i)) ≤ 4096) × (pair-entry
+  PartRoom c i = (pair-entry c .args .len + 2 * suc (levels (typeAt (pair-entry c .args .types .now) i)) ≤ 1024) × (pair-entry
       c .args .counters + suc (levels (typeAt (pair-entry c .args .types .now) i)) < 65536)
 
   part-room : (c : IsPair) → PartRoom c (c .pair .given .0 .0) × PartRoom c (c .pair .given .0 .1 .0)

@@ -6,10 +6,30 @@ use Rattle.words.proofs.groups.has_one_operand.Statement.{statement}
 use Rattle.words.proofs.groups.has_one_operand.Tie as tie
 
 returns : tie.Need-returns
-returns c = not-one-operand (c .before .before .args .kind) (c .before .match .rest .1, ((λ e. omega arith), ((λ e. omega arith), ((λ e. omega arith), ((λ e. omega arith), ((λ e. omega arith), tt))))))
+returns c =
+    not-one-operand (c .before .before .args .kind) (
+      c .before .match .rest .1,
+      (
+        (λ e. omega arith),
+        (
+          (λ e. omega arith),
+          ((λ e. omega arith), ((λ e. omega arith), ((λ e. omega arith), tt))),
+        ),
+      ),
+    )
 
 returns-2 : tie.Need-returns-2
-returns-2 c = not-one-operand (c .before .before .before .args .kind) (c .before .before .match .rest .1, ((λ e. omega arith), ((λ e. omega arith), ((λ e. omega arith), ((λ e. omega arith), ((λ e. omega arith), tt))))))
+returns-2 c =
+    not-one-operand (c .before .before .before .args .kind) (
+      c .before .before .match .rest .1,
+      (
+        (λ e. omega arith),
+        (
+          (λ e. omega arith),
+          ((λ e. omega arith), ((λ e. omega arith), ((λ e. omega arith), tt))),
+        ),
+      ),
+    )
 
 returns-3 : tie.Need-returns-3
 unfolding operandsOf table

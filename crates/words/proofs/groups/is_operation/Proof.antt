@@ -11,10 +11,30 @@ returns : tie.Need-returns
 returns c = sym (operation (c .before .before .args .kind) (omega arith) (omega arith))
 
 returns-2 : tie.Need-returns-2
-returns-2 c = sym (not-one (c .before .args .kind) operations ((λ e. omega arith), ((λ e. omega arith), ((λ e. omega arith), ((λ e. omega arith), ((λ e. omega arith), ((λ e. omega arith), tt)))))))
+returns-2 c =
+    sym (not-one (c .before .args .kind) operations (
+      (λ e. omega arith),
+      (
+        (λ e. omega arith),
+        (
+          (λ e. omega arith),
+          ((λ e. omega arith), ((λ e. omega arith), ((λ e. omega arith), tt))),
+        ),
+      ),
+    ))
 
 returns-3 : tie.Need-returns-3
-returns-3 c = sym (not-one (c .before .before .args .kind) operations ((λ e. omega arith), ((λ e. omega arith), ((λ e. omega arith), ((λ e. omega arith), ((λ e. omega arith), ((λ e. omega arith), tt)))))))
+returns-3 c =
+    sym (not-one (c .before .before .args .kind) operations (
+      (λ e. omega arith),
+      (
+        (λ e. omega arith),
+        (
+          (λ e. omega arith),
+          ((λ e. omega arith), ((λ e. omega arith), ((λ e. omega arith), tt))),
+        ),
+      ),
+    ))
 
 pub is-operation-spec : {M : Type 1} → statement M
 is-operation-spec = tie.close (tie.spec returns returns-2 returns-3)

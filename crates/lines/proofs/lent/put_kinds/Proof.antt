@@ -5,9 +5,9 @@ use native.Mathlib.Omega.{arith}
 use borrow.Author.Needs.{needs}
 use lib.ListN.{length, length-set, getD, drop}
 use lib.Seq.{sets}
-use Rattle.translate.proofs.Copies.{copy-start, copy-next, copy-end}
-use Rattle.translate.proofs.tables.put_kinds.Statement.{statement}
-use Rattle.translate.proofs.tables.put_kinds.Tie as tie
+use Rattle.lines.proofs.Copies.{copy-start, copy-next, copy-end}
+use Rattle.lines.proofs.lent.put_kinds.Statement.{statement}
+use Rattle.lines.proofs.lent.put_kinds.Tie as tie
 
 abbrev Inv-loop : tie.InvT-loop
 Inv-loop kinds lent₀ i₀ lent i = (i ≤ length kinds) × (length lent ≡ length lent₀) × (sets lent i (drop i kinds) ≡ sets lent₀ 0 kinds)

@@ -1,4 +1,4 @@
--- What putting a row asks of its line. Definitions only; assumes nothing.
+-- How large the kind, or cell, of a line's row is. Definitions only; assumes nothing.
 use Prim.Native.Nat.{ℕ, _<_}
 use Rattle.lines.specs.declared.Line.{Line}
 use Rattle.lines.specs.declared.Line.the-variants.{IsRow, NoRow}

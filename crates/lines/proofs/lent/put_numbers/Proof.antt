@@ -6,10 +6,10 @@ use borrow.Author.Needs.{needs}
 use lib.IntN.{ℤ, pos}
 use lib.ListN.{length, length-set, getD, set, drop}
 use lib.Seq.{sets}
 use Rattle.lines.proofs.Stores.{held}
-use Rattle.translate.proofs.Copies.{copy-start, copy-next, copy-end}
-use Rattle.translate.proofs.tables.put_numbers.Statement.{statement}
-use Rattle.translate.proofs.tables.put_numbers.Tie as tie
+use Rattle.lines.proofs.Copies.{copy-start, copy-next, copy-end}
+use Rattle.lines.proofs.lent.put_numbers.Statement.{statement}
+use Rattle.lines.proofs.lent.put_numbers.Tie as tie
 
 abbrev Inv-loop : tie.InvT-loop
 Inv-loop numbers lent₀ i₀ lent i = (i ≤ length numbers) × (length lent ≡ length lent₀) ×
