@@ -2,7 +2,7 @@
 use mathlib.Core.Bool.{Bool, true, false, cond, _&&_}
 use mathlib.Core.Path.{_≡_, refl, ap}
 use mathlib.Core.Option.{none, some}
-use Prim.Native.Nat.{ℕ}
+use Prim.Native.Nat.{ℕ, _≤_}
 use native.Mathlib.Omega.{arith}
 use borrow.Author.Tests.{leb-true, ltb-true, le-leb, lt-ltb}
 use lib.Dec.{ltb}
@@ -20,6 +20,16 @@ both-true false b e = absurd (let z : _≡_ {A = ℕ} 0 1 = cc in omega arith)
 pub both : (a b : Bool) → a ≡ true → b ≡ true → (a && b) ≡ true
 both true b e f = f
 both false b e f = e
+
+-- the whole's bound, where that of every row is within
+pub row-bounded : (c : ℕ → ℕ) (o : Offset) → everyRowBounded c o ≡ true → bound c o ≤ 65535
+unfolding everyRowBounded
+row-bounded c (Offset.literal v) e = leb-true v 65535 e
+row-bounded c (Offset.counter d) e = leb-true (c d) 65535 e
+row-bounded c (plus x y) e = leb-true _ _ (both-true (everyRowBounded c x && everyRowBounded c y) _ e .1)
+row-bounded c (times n x) e = leb-true _ _ (both-true (everyRowBounded c x) _ e .1)
+row-bounded c (over n x) e = leb-true _ _ (both-true (everyRowBounded c x) _ e .1)
+row-bounded c (rest n x) e = leb-true _ _ (both-true (everyRowBounded c x) _ e .1)
 
 -- "yes" is an offset that passes, and an offset that passes gives "yes"
 pub rows-pass : (k : ℕ) (c : ℕ → ℕ) (o : Offset) → OffsetInRange k o → everyRowBounded c o ≡ true → OffsetPasses k c o

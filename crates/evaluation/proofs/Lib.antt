@@ -1,4 +1,3 @@
-pub mod Tables
 pub mod Operations
 pub mod Offsets
 pub mod Values

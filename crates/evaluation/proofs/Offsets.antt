@@ -11,9 +11,9 @@ use Rattle.words.specs.Kinds.{word-lit, word-ctr, word-plus, word-times, word-o
 use Rattle.meaning.specs.Rows.{offsetRows}
 use Rattle.meaning.specs.Runs.{offsetAt}
 use Rattle.syntax.specs.Ranges.{asNatural}
-use Rattle.evaluation.specs.Table.{Stand}
+use Rattle.columns.specs.Table.{Stand}
 use Rattle.evaluation.specs.Exact.{OffsetExact}
-use Rattle.evaluation.proofs.Tables as table
+use Rattle.columns.proofs.Tables as table
 
 -- the code's answer: the number of whatever offset stands at row `at`, and the row behind it
 abbrev pub Gives : List ℕ → List ℤ → ℕ → (ℕ → ℕ) → ℕ → ℕ → Type 0

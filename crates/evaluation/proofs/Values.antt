@@ -14,9 +14,9 @@ use Rattle.meaning.specs.Rows.{operationWord, offsetRows, valueRows}
 use Rattle.meaning.specs.Runs.{offsetAt, valueIn}
 use Rattle.meaning.specs.Numbers.{clamped32}
 use Rattle.syntax.specs.Ranges.{asNatural}
-use Rattle.evaluation.specs.Table.{Stand}
+use Rattle.columns.specs.Table.{Stand}
 use Rattle.evaluation.specs.Exact.{OffsetExact, ValueExact}
-use Rattle.evaluation.proofs.Tables as table
+use Rattle.columns.proofs.Tables as table
 
 -- what an evaluation of value rows gives
 abbrev pub Gives : List ℕ → List ℤ → ℕ → List ℕ → (ℕ → ℕ) → (ℕ → ℕ) → List ℤ → ℤ → ℕ → Type 0

@@ -7,7 +7,7 @@ ghost use Rattle.meaning.specs.Loops.{Offset as OffsetTree};
 ghost use Rattle.meaning.specs.Rows.{offsetRows};
 ghost use Rattle.meaning.specs.Runs.{offsetAt, entry as entryOf};
 ghost use Rattle.syntax.specs.Ranges.{asNatural};
-ghost use Rattle.evaluation.specs.Table.{Stand};
+ghost use Rattle.columns.specs.Table.{Stand};
 ghost use Rattle.evaluation.specs.Exact.{OffsetExact};
 use crate::capped;
 use syntax::ranges;

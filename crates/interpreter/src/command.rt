@@ -5,7 +5,7 @@ ghost use lib.ListN.{length, drop};
 ghost use Rattle.meaning.specs.Loops.{Place as PlaceTree, Command as CommandTree};
 ghost use Rattle.meaning.specs.Rows.{placeRows, commandRows};
 ghost use Rattle.meaning.specs.Runs.{entry as entryOf};
-ghost use Rattle.evaluation.specs.Table.{Stand};
+ghost use Rattle.columns.specs.Table.{Stand};
 ghost use Rattle.interpreter.specs.Exact.{PlaceExact, PlaceOfExact};
 ghost use Rattle.interpreter.specs.Commands.{nextOf, placeIn, commandOf, cellIn};
 use evaluation::offset;

@@ -12,7 +12,7 @@ ghost use Rattle.meaning.specs.Rows.{valueRows, commandRows};
 ghost use Rattle.meaning.specs.Runs.{valueIn, entry as entryOf};
 ghost use Rattle.meaning.specs.Counts.{commandWrites};
 ghost use Rattle.store.specs.Store.{storeOf, frameOf};
-ghost use Rattle.evaluation.specs.Table.{Stand};
+ghost use Rattle.columns.specs.Table.{Stand};
 ghost use Rattle.evaluation.specs.Exact.{ValueExact};
 ghost use Rattle.interpreter.specs.Exact.{CommandExact};
 ghost use Rattle.interpreter.specs.Commands.{cellIn};

@@ -7,14 +7,13 @@ use Prim.Native.Nat.{ℕ, _-_, _≤_, _<_, min}
 use native.Mathlib.Omega.{arith}
 use borrow.Author.Tests.{le-leb, lt-leb}
 use lib.Dec.{leb}
-use lib.ListN.{length}
 use Rattle.refusals.specs.declared.Refusal.{Refusal}
 use Rattle.refusals.specs.declared.Refusal.the-variants.{WriteCount}
 use Rattle.refusals.specs.declared.Answer.{Answer}
 use Rattle.refusals.specs.declared.Answer.the-variants as answer
 use Rattle.words.specs.Kinds.{Row}
 use Rattle.meaning.specs.Loops.{Loops}
-use Rattle.meaning.specs.Rows.{commandRows, loopsRows}
+use Rattle.meaning.specs.Rows.{loopsRows}
 use Rattle.meaning.specs.Layout.{need}
 use Rattle.meaning.specs.Counts.{commandWrites}
 use Rattle.syntax.specs.InRange.{LoopsInRange}
@@ -24,28 +23,25 @@ use Rattle.syntax.specs.Theorems.{all-passed, loops-tree}
 use Rattle.words.specs.declared.Sort.the-variants as sort
 use Rattle.loops.specs.declared.Checked.{Checked}
 use Rattle.loops.specs.declared.Checked.the-variants as checked
-use Rattle.row_bounds.specs.declared.Asked.{Asked}
-use Rattle.row_bounds.specs.declared.Asked.the-variants.{Passed, Refused}
+use Rattle.columns.specs.declared.Asked.{Asked}
+use Rattle.columns.specs.declared.Asked.the-variants.{Passed, Refused}
 use Rattle.bounds.specs.Bounds.{askBounds}
 use Rattle.loops.specs.Check.{askWrites, unless, checkLoops, afterAnswer, checkLoopsRows}
-use Rattle.row_bounds.specs.Rows.{asking}
-use Rattle.loops.specs.Needs.{cellsNeeded}
-use Rattle.loops.proofs.Needs.{loops-cells}
-use Rattle.row_bounds.proofs.Commands.{asking-refused, asking-passed}
-use Rattle.syntax.proofs.Front as table
+use Rattle.columns.specs.Whole.{asking}
+use Rattle.columns.proofs.WholeLoops.{asking-refused, asking-passed}
 
 -- ---- the loops' answer, from the command's
 
-module _ (L : Loops) (w : Asked) (g : w ≡ asking (length (commandRows (L .command))) (commandWrites (L .command)) (askBounds L)) where
+module _ (L : Loops) (w : Asked) (g : w ≡ asking (commandWrites (L .command)) (need L) (askBounds L)) where
   pub limits-refused : (q : Refusal) → w ≡ Refused q → checked.Refused q ≡ checkLoops L
   unfolding checkLoops
   limits-refused q f =
-      let a = asking-refused (length (commandRows (L .command))) (commandWrites (L .command)) (askBounds L) q (sym f ∙ g) in
+      let a = asking-refused (commandWrites (L .command)) (need L) (askBounds L) q (sym f ∙ g) in
       ap (λ (o : Option Refusal). unless o (askWrites L)) (sym a)
 
-  module _ (i v : ℕ) (f : w ≡ Passed i v) where
-    passed : (askBounds L ≡ none) × (i ≡ length (commandRows (L .command))) × (v ≡ min (commandWrites (L .command)) 16777217)
-    passed = asking-passed i v (length (commandRows (L .command))) (commandWrites (L .command)) (askBounds L) (sym f ∙ g)
+  module _ (v c : ℕ) (f : w ≡ Passed v c) where
+    passed : (askBounds L ≡ none) × (v ≡ min (commandWrites (L .command)) 16777217) × (c ≡ need L)
+    passed = asking-passed v c (commandWrites (L .command)) (need L) (askBounds L) (sym f ∙ g)
 
     asked : (b : Bool) → leb (commandWrites (L .command)) 16777216 ≡ b
         → cond b (checked.Passes (commandWrites (L .command)) (need L)) (checked.Refused WriteCount) ≡ checkLoops L
@@ -56,14 +52,13 @@ module _ (L : Loops) (w : Asked) (g : w ≡ asking (length (commandRows (L .comm
 
     pub limits-many : 16777216 < v → checked.Refused WriteCount ≡ checkLoops L
     limits-many l =
-        let m : 16777216 < commandWrites (L .command) = omega (arith, l, passed .2) in
+        let m : 16777216 < commandWrites (L .command) = omega (arith, l, passed .1) in
         asked false (lt-leb (commandWrites (L .command)) 16777216 m)
 
-    pub limits-passes : v ≤ 16777216 → (R : List Row) → R ≡ loopsRows L → (c : ℕ) → c ≡ cellsNeeded R → checked.Passes v c ≡ checkLoops L
-    limits-passes l R e c q =
-        let m : v ≡ commandWrites (L .command) = omega (arith, l, passed .2) in
-        ap₂ checked.Passes m (q ∙ ap cellsNeeded e ∙ loops-cells L)
-        ∙ asked true (le-leb (commandWrites (L .command)) 16777216 (omega (arith, l, m)))
+    pub limits-passes : v ≤ 16777216 → checked.Passes v c ≡ checkLoops L
+    limits-passes l =
+        let m : v ≡ commandWrites (L .command) = omega (arith, l, passed .1) in
+        ap₂ checked.Passes m (passed .2) ∙ asked true (le-leb (commandWrites (L .command)) 16777216 (omega (arith, l, m)))
 
 -- ---- a table's answer, from the walk's
 

@@ -2,8 +2,6 @@
 
 -- The definitions
 pub mod Check
--- What the contracts of parts say besides
-pub mod Needs
 -- Their laws, and what is proved
 pub mod Laws
 pub mod Theorems

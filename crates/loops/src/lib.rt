@@ -12,12 +12,10 @@ ghost use Rattle.syntax.specs.InRange.{LoopsInRange};
 ghost use Rattle.loops.specs.Check.{checkLoops, checkLoopsRows};
 ghost use Rattle.loops.specs.Contracts.{ChecksLoops, ChecksTable, TellsNeed, ReadsLoops};
 ghost use Rattle.loops.specs.Contracts.{ChecksLoopsIn, TellsNeedIn, ReadsLoopsIn};
+use columns::Asked;
 use refusals::Answer;
 use refusals::Refusal;
-use row_bounds::Asked;
 use words::Table;
-
-mod need;
 
 // The writes of loops that pass and the cells that they need; or the first "no".
 pub enum Checked {
@@ -30,17 +28,14 @@ fn check_limits(kinds: &[u8], numbers: &[i32]) -> Checked
     requires { ⌜ (length (now kinds) ≡ length (now numbers)) × (length (now kinds) ≤ 4096) ⌝ }
     ensures { λ r. ⌜ ((L : Loops) → rowsOf (now (kinds .entry)) (now (numbers .entry)) ≡ loopsRows L → LoopsInRange L → r ≡ checkLoops L) ⌝ }
 {
-    let asked = row_bounds::ask_loops(kinds, numbers);
+    let asked = columns::ask_loops(kinds, numbers);
     match asked {
         Asked::Refused(refusal) => Checked::Refused(refusal),
-        Asked::Passed { rows: _, writes } => {
+        Asked::Passed { writes, need } => {
             if 16777216 < writes {
                 return Checked::Refused(Refusal::WriteCount);
             }
-            Checked::Passes {
-                writes,
-                need: need::cells_needed(kinds, numbers),
-            }
+            Checked::Passes { writes, need }
         }
     }
 }

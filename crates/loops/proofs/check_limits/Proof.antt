@@ -19,13 +19,13 @@ returns-2 c =
 
 returns-3 : tie.Need-returns-3
 returns-3 c =
-    let ask-loops = c .before .before .before .before .before .ask-loops in
-    let asked2 = c .before .before .before .asked2 in
-    let if1 = c .before .if1 in
+    let ask-loops = c .before .before .before .before .ask-loops in
+    let asked2 = c .before .before .asked2 in
+    let if1 = c .if1 in
     λ L e h. limits.limits-passes L (ask-loops .result) (ask-loops .ensures L e h) (asked2 .given .0 .0) (asked2 .given .0 .1 .0)
-    (asked2 .given .1) (if1 .left) _ e (c .cells-needed .result) (c .cells-needed .ensures)
+    (asked2 .given .1) (if1 .left)
 
 pub check-limits-spec : {M : Type 1} → statement M
 check-limits-spec =
     tie.close
-    (tie.spec (λ c κs. search needs) (λ c. search needs) (λ c. search needs) returns (λ c κs. search needs) returns-2 returns-3)
+    (tie.spec (λ c κs. search needs) (λ c. search needs) (λ c. search needs) returns returns-2 returns-3)

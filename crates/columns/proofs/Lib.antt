@@ -1,0 +1,14 @@
+pub mod Tables
+pub mod Inputs
+pub mod Puts
+pub mod EndPasses
+pub mod EndTrees
+pub mod Force
+pub mod Stacks
+pub mod Naming
+pub mod Columns
+pub mod CommandColumns
+pub mod Operands
+pub mod OffsetBounds
+pub mod AskedTrees
+pub mod WholeLoops

@@ -1,0 +1,51 @@
+-- `columns::commands::row_room` meets its contract: each word by its test.
+use native.Mathlib.Omega.{arith}
+use borrow.Author.Needs.{needs}
+use borrow.Author.Tests.{eq-eqb, ne-eqb}
+use Rattle.words.specs.Kinds.{word-set, word-seq, word-new}
+use Rattle.columns.specs.Figures.{roomBy}
+use Rattle.columns.proofs.commands.row_room.Statement.{statement}
+use Rattle.columns.proofs.commands.row_room.Tie as tie
+
+returns : tie.Need-returns
+unfolding roomBy
+returns c =
+    let k = c .before .args .kind in
+    (simp (eq-eqb k word-set (c .if1 .taken)), omega arith)
+
+returns-2 : tie.Need-returns-2
+unfolding roomBy
+returns-2 c =
+    let k = c .before .before .before .args .kind in
+    (simp (ne-eqb k word-set (c .before .before .if1 .left), eq-eqb k word-seq (c .before .if2 .taken)) (c .capped-sum .ensures .0), c .capped-sum .ensures .1)
+
+returns-3 : tie.Need-returns-3
+unfolding roomBy
+returns-3 c =
+    let k = c .before .before .before .before .args .kind in (
+      simp (
+        ne-eqb k word-set (c .before .before .before .if1 .left),
+        ne-eqb k word-seq (c .before .before .if2 .left),
+        eq-eqb k word-new
+            (c .before .if3 .taken),
+      ) (c .capped-sum2 .ensures .0),
+      c .capped-sum2 .ensures .1,
+    )
+
+returns-4 : tie.Need-returns-4
+unfolding roomBy
+returns-4 c =
+    let k = c .before .before .before .args .kind in (
+      simp (
+        ne-eqb k word-set (c .before .before .if1 .left),
+        ne-eqb k word-seq (c .before .if2 .left),
+        ne-eqb k word-new
+            (c .if3 .left),
+      ),
+      c .before .before .before .pre .1,
+    )
+
+pub row-room-spec : {M : Type 1} → statement M
+row-room-spec =
+    tie.close
+    (tie.spec returns (λ c κs. search needs) returns-2 (λ c κs. search needs) returns-3 returns-4)
