@@ -43,7 +43,8 @@ fn ask(built_in: &Table, due: Due, kind: u8, number: usize, line: usize) -> Answ
     Answer::Told(operands::inputs_counted(sort, number) + count)
 }
 
-// The row that is due and its operands: how many rows they are, or the first "no". `before` rows stand before them.
+// The row that is due and its operands: how many rows they are, or the first "no". `before` rows stand before them. The walk goes on to a
+// row's last operand and calls itself for the others.
 fn walk(built_in: &Table, kinds: &[u8], numbers: &[i32], before: usize, due: Due) -> Answer
     requires { ⌜ (length (now kinds) ≡ length (now numbers)) × (before + length (now kinds) < 18446744073709551615) × Bounded (due .names)
         × (now built_in ≡ packedTable) ⌝ }
@@ -51,34 +52,37 @@ fn walk(built_in: &Table, kinds: &[u8], numbers: &[i32], before: usize, due: Due
     ensures result { λ r. ⌜ ((ds : List Due) → walkFrom before (due ∷ ds) (rowsOf (now (kinds .entry)) (now (numbers .entry)))
         ≡ resume r before ds (rowsOf (now (kinds .entry)) (now (numbers .entry)))) ⌝ }
 {
-    let line = before + 1;
-    if kinds.len() == 0 {
-        return Answer::Refused(Refusal::RowDue(line));
-    }
-    let kind = kinds[0];
-    let number = ranges::natural(numbers[0]);
-    let asked = ask(built_in, due, kind, number, line);
-    let Answer::Told(count) = asked else {
-        return asked;
-    };
-    let mut rows = 1;
-    let mut left = count;
-    while 0 < left {
-        let next = operands::operand(due, kind, number, left == 1);
-        let walked = walk(
-            built_in,
-            &kinds[rows..],
-            &numbers[rows..],
-            before + rows,
-            next,
-        );
-        let Answer::Told(more) = walked else {
-            return walked;
+    let mut rows = 0;
+    let mut next = due;
+    while rows < kinds.len() {
+        let kind = kinds[rows];
+        let number = ranges::natural(numbers[rows]);
+        let asked = ask(built_in, next, kind, number, before + rows + 1);
+        let Answer::Told(count) = asked else {
+            return asked;
         };
-        rows += more;
-        left -= 1;
+        rows += 1;
+        if count == 0 {
+            return Answer::Told(rows);
+        }
+        let mut left = count;
+        while 1 < left {
+            let walked = walk(
+                built_in,
+                &kinds[rows..],
+                &numbers[rows..],
+                before + rows,
+                operands::operand(next, kind, number, false),
+            );
+            let Answer::Told(more) = walked else {
+                return walked;
+            };
+            rows += more;
+            left -= 1;
+        }
+        next = operands::operand(next, kind, number, true);
     }
-    Answer::Told(rows)
+    Answer::Refused(Refusal::RowDue(before + rows + 1))
 }
 
 // How many kinds stand before the first that is no word.
