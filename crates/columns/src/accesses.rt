@@ -30,7 +30,7 @@ fn cells(kind: u8, n: usize, named: usize, inputs: &[i32], output: usize) -> usi
 }
 
 // Whether a row is a place or a reading.
-fn is_access(kind: u8) -> bool
+pub fn is_access(kind: u8) -> bool
     ensures { λ r. ⌜ r ≡ isAccess kind ⌝ }
 {
     if kind == WORD_IN {

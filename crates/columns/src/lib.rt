@@ -10,12 +10,12 @@ use crate::entries::count_at;
 use refusals::Refusal;
 use syntax::ranges;
 
-mod accesses;
+pub mod accesses;
 mod commands;
-mod ends;
-mod entries;
+pub mod ends;
+pub mod entries;
 mod figures;
-mod names;
+pub mod names;
 mod offsets;
 
 // The writes of loops, 16,777,217 standing for every number above 16,777,216, and the cells that they need; or the first "no" to question 9.

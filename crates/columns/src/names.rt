@@ -13,7 +13,7 @@ use crate::entries::row_at;
 use words::kinds::*;
 
 // The rows that opened what is in force are stack[top..], innermost first: the new top without those that end at row q or before it.
-fn closed(ends: &[u16], stack: &[u16], top: usize, q: usize) -> usize
+pub fn closed(ends: &[u16], stack: &[u16], top: usize, q: usize) -> usize
     requires { ⌜ top ≤ length (now stack) ⌝ }
     ensures bound { λ r. ⌜ (top ≤ r) × (r ≤ length (now (stack .entry))) ⌝ }
     ensures result { λ r. ⌜ drop r (now (stack .entry)) ≡ closing (now (ends .entry)) q (drop top (now (stack .entry))) ⌝ }
@@ -30,7 +30,7 @@ fn closed(ends: &[u16], stack: &[u16], top: usize, q: usize) -> usize
 }
 
 // Row q is put on top: the new top.
-fn push(stack: &mut [u16], top: usize, q: usize) -> usize
+pub fn push(stack: &mut [u16], top: usize, q: usize) -> usize
     requires { ⌜ (1 ≤ top) × (top ≤ length (now stack)) × (q ≤ 4095) ⌝ }
     ensures kept { λ r. ⌜ (length (now (stack .exit)) ≡ length (now (stack .entry))) × (r + 1 ≡ top) ⌝ }
     ensures result { λ r. ⌜ drop r (now (stack .exit)) ≡ q ∷ drop top (now (stack .entry)) ⌝ }

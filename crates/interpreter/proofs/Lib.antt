@@ -1,9 +1,17 @@
-pub mod Commands
+-- The orders, the inputs, and loops that pass
 pub mod Turns
-pub mod Runs
-pub mod Rounds
-pub mod Passing
 pub mod Inputs
-pub mod Copying
+pub mod Passing
 pub mod SameInputs
+-- The cursor: its steps, its rows
+pub mod Cursor
+pub mod Whole
+pub mod Moving
+pub mod Position
+pub mod Standing
+-- The code
+pub mod Frames
+pub mod Closing
+pub mod Descending
+pub mod Running
 pub mod WholeLoops

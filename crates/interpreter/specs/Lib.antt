@@ -4,5 +4,6 @@
 pub mod Orders
 -- What the contracts of parts say besides
 pub mod Exact
-pub mod Commands
+pub mod Control
+pub mod Frames
 pub mod Interpreter
