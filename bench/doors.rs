@@ -21,7 +21,7 @@ const TURN_MICROSECONDS: f64 = 1000.0;
 const P1: &str = "plan,1\narr,2\nnum,0\nredseq,0\nlit,0\nin,0\nadd,0\nvar,0\nvar,1\n";
 
 // The microseconds of a call.
-fn timed(mut call: impl FnMut()) -> f64 {
+pub fn timed(mut call: impl FnMut()) -> f64 {
     let mut turn = |calls: usize| {
         let begin = Instant::now();
         (0..calls).for_each(|_| call());

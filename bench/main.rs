@@ -1,10 +1,12 @@
 // The run of the static library beside a plain interpreter in Rust, on the loops of five plans of five to ten million writes: nanoseconds for
 // each write, the least of several turns. Then the check of the longest plan, in the built-in words and in German: microseconds for each check.
 // Then the longest loops, read into a table, and the longest texts, read and refused, with words that stand early and late in the table of
-// words: microseconds for each. Last the doors beside the second implementation (doors.rs).
+// words: microseconds for each. Then what a check and a run cost beside the writes (fixed.rs). Last the doors beside the second implementation
+// (doors.rs).
 use std::time::Instant;
 
 mod doors;
+mod fixed;
 mod interpreter;
 
 #[link(name = "vazhdumir", kind = "static")]
@@ -152,5 +154,6 @@ fn main() {
     }
     checks(begin);
     reads(begin);
+    fixed::print();
     doors::print();
 }

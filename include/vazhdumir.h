@@ -20,8 +20,10 @@
  *
  * Machine. The library is for x86-64, where size_t has 64 bits; of the C library it uses memset alone. Nothing is allocated.
  *
- * Stack. An entry uses the caller's, more of it the deeper the rows nest: loops of 4,096 lines, nested 4,091 deep, were checked and run on
- * x86-64 with 2 MiB.
+ * Stack. An entry uses the caller's. On x86-64 a check of loops takes 88 KiB and a run 256, however many lines there are, and more only where rows
+ * nest in an operand that is not its row's last: the walk of questions 4 to 6 calls itself for such operands, some 264 bytes a level. So chains of
+ * `neg`, of `times` and of `seq` to the right take no more, and of all loops within the limits those of 817 `seq` to the left, the deepest commands, run on
+ * 512 KiB, and those of 2,042 `add` to the left, the deepest of all, on 832 KiB.
  *
  * Threads and interrupts. Nothing is kept between calls [12.5] and there is no memory but the stack and what is lent, so entries may be called from
  * several threads at once, and from an interrupt while a call is under way, on slices that do not overlap. An interrupt has to save the SSE

@@ -1,0 +1,81 @@
+// How much stack the check, the need and the run of the deepest loops take: chains of `seq` to the right and to the left, of `neg`, of
+// `times` and of `add` to the left, of 4,086 rows and more. Each call is made by a process of its own, on a thread with so many KiB of stack; where
+// they are too few, the system ends the process. The least that will do is searched for, from what the header promises down.
+//
+//   stack HEADER
+#[allow(dead_code)]
+mod entries;
+
+const DEPTH: usize = 4_084;
+
+// Each with the KiB that the header promises to be enough.
+const SHAPES: [(&str, usize); 5] =
+    [("seq to the right", 512), ("seq to the left", 512), ("neg", 512), ("times", 512), ("add to the left", 832)];
+
+const ENTRIES: [&str; 3] = ["check", "need", "run"];
+
+fn loops(shape: &str) -> String {
+    let set = "set,0\nout,0\nlit,0\nlit,7\n";
+    let many = DEPTH / 5;
+    let command = match shape {
+        "seq to the right" => format!("{}{set}", format!("seq,0\n{set}").repeat(many)),
+        "seq to the left" => format!("{}{set}{}", "seq,0\n".repeat(many), set.repeat(many)),
+        "add to the left" => format!("set,0\nout,0\nlit,0\n{}{}", "add,0\n".repeat(DEPTH / 2), "lit,7\n".repeat(DEPTH / 2 + 1)),
+        "neg" => format!("set,0\nout,0\nlit,0\n{}lit,7\n", "neg,0\n".repeat(DEPTH)),
+        _ => format!("set,0\nout,0\n{}lit,0\nlit,7\n", "times,1\n".repeat(DEPTH)),
+    };
+    format!("loops,0\ncells,1\n{command}")
+}
+
+fn call(entry: &str, text: &[u8]) -> String {
+    match entry {
+        "check" => entries::check_loops(text),
+        "need" => entries::need(text),
+        _ => entries::run(text, 0, &mut [0; 4]),
+    }
+}
+
+// The call on a thread of so many KiB: the process ends well where the stack was enough and the answer is the same as with a large one.
+fn alone(entry: &str, shape: &str, size: usize) {
+    let text = loops(shape);
+    let asked = |size: usize| {
+        let (entry, text) = (entry.to_string(), text.clone());
+        std::thread::Builder::new().stack_size(size << 10).spawn(move || call(&entry, text.as_bytes())).unwrap().join().unwrap()
+    };
+    let answer = asked(size);
+    assert!(!answer.starts_with("no"), "{entry} of {shape}: {answer}");
+    assert_eq!(answer, asked(16 << 10));
+}
+
+fn enough(entry: &str, shape: &str, size: usize) -> bool {
+    let program = std::env::current_exe().unwrap();
+    let status = std::process::Command::new(program).args([entry, shape, &size.to_string()]).stderr(std::process::Stdio::null()).status();
+    status.unwrap().success()
+}
+
+fn least(entry: &str, shape: &str, most: usize) -> usize {
+    assert!(enough(entry, shape, most), "{entry} of {shape} takes more than {most} KiB of stack");
+    let (mut few, mut many) = (16, most);
+    while few + 4 < many {
+        let size = (few + many) / 2;
+        if enough(entry, shape, size) { many = size } else { few = size }
+    }
+    many
+}
+
+fn main() {
+    let given: Vec<String> = std::env::args().skip(1).collect();
+    if let [entry, shape, size] = &given[..] {
+        return alone(entry, shape, size.parse().unwrap());
+    }
+    let header = std::fs::read_to_string(&given[0]).unwrap();
+    let told: Vec<String> = SHAPES
+        .iter()
+        .map(|(shape, most)| {
+            assert!(header.contains(&format!("{most} KiB")), "{} does not say {most} KiB", given[0]);
+            let sizes = ENTRIES.map(|entry| format!("{entry} {}", least(entry, shape, *most)));
+            format!("{shape} ({} rows): {}", loops(shape).lines().count(), sizes.join(", "))
+        })
+        .collect();
+    println!("KiB of stack that the deepest loops take: {}", told.join("; "));
+}
