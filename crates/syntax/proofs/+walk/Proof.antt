@@ -69,33 +69,6 @@ walk-loop-holds t c =
     let entry = c .before in
     (omega arith, entry .pre .1 .2, steps.walk-begin (entry .args .before) (entry .args .due) (rowsOf (entry .args .kinds .now) (entry .args .numbers .now)))
 
-walk-shared-slice-read-kind : (t : ℕ) → walk-lts.Need-shared-slice-read-kind (walk-calls t) (walk-at t) walk.Post walk-Inv-loop2 walk-μ-loop2 walk-Inv-loop walk-μ-loop
-walk-shared-slice-read-kind t c = search needs
-
-walk-mul-natural : (t : ℕ) → walk-lts.Need-mul-natural (walk-calls t) (walk-at t) walk.Post walk-Inv-loop2 walk-μ-loop2 walk-Inv-loop walk-μ-loop
-walk-mul-natural t c = search needs
-
-walk-shared-slice-copy-out-natural : (t : ℕ) → walk-lts.Need-shared-slice-copy-out-natural (walk-calls t) (walk-at t) walk.Post walk-Inv-loop2 walk-μ-loop2 walk-Inv-loop walk-μ-loop
-walk-shared-slice-copy-out-natural t c = search needs
-
-walk-natural-requires : (t : ℕ) → walk-lts.Need-natural-requires (walk-calls t) (walk-at t) walk.Post walk-Inv-loop2 walk-μ-loop2 walk-Inv-loop walk-μ-loop
-walk-natural-requires t c κs = search needs
-
-walk-add-ask : (t : ℕ) → walk-lts.Need-add-ask (walk-calls t) (walk-at t) walk.Post walk-Inv-loop2 walk-μ-loop2 walk-Inv-loop walk-μ-loop
-walk-add-ask t c = search needs
-
-walk-add-ask-2 : (t : ℕ) → walk-lts.Need-add-ask-2 (walk-calls t) (walk-at t) walk.Post walk-Inv-loop2 walk-μ-loop2 walk-Inv-loop walk-μ-loop
-walk-add-ask-2 t c = search needs
-
-walk-ask-requires : (t : ℕ) → walk-lts.Need-ask-requires (walk-calls t) (walk-at t) walk.Post walk-Inv-loop2 walk-μ-loop2 walk-Inv-loop walk-μ-loop
-walk-ask-requires t c κs = search needs
-
-walk-enum-known-asked : (t : ℕ) → walk-lts.Need-enum-known-asked (walk-calls t) (walk-at t) walk.Post walk-Inv-loop2 walk-μ-loop2 walk-Inv-loop walk-μ-loop
-walk-enum-known-asked t c = search needs
-
-walk-enum-told : (t : ℕ) → walk-lts.Need-enum-told (walk-calls t) (walk-at t) walk.Post walk-Inv-loop2 walk-μ-loop2 walk-Inv-loop walk-μ-loop
-walk-enum-told t c = search needs
-
 walk-returns : (t : ℕ) → walk-lts.Need-returns (walk-calls t) (walk-at t) walk.Post walk-Inv-loop2 walk-μ-loop2 walk-Inv-loop walk-μ-loop
 walk-returns t c =
     let entry = c .before .before .before .before .before .before .before .before .before in
@@ -107,9 +80,6 @@ walk-returns t c =
       λ ds. turn .inv .2 ds ∙ steps.walk-no (entry .args .before) (turn .rows) (turn .next) (entry .args .kinds .now) (entry .args .numbers .now) (entry .pre .1 .0) (c .before .before
           .before .before .before .before .loop-test .taken) number (c .before .before .ask .ensures) _ (c .enum-told .given .1) ds ∙ rw (c .enum-told .given .1),
     )
-
-walk-add-rows : (t : ℕ) → walk-lts.Need-add-rows (walk-calls t) (walk-at t) walk.Post walk-Inv-loop2 walk-μ-loop2 walk-Inv-loop walk-μ-loop
-walk-add-rows t c = search needs
 
 walk-returns-2 : (t : ℕ) → walk-lts.Need-returns-2 (walk-calls t) (walk-at t) walk.Post walk-Inv-loop2 walk-μ-loop2 walk-Inv-loop walk-μ-loop
 walk-returns-2 t c =
@@ -124,36 +94,6 @@ walk-returns-2 t c =
           .before .before .before .before .before .before .before .loop-test .taken) number (c .before .before .before .before .ask .ensures) _ (c .before .before .asked .given .1) ds)
           (omega (arith, c .if1 .taken)),
     )
-
-walk-loop2-holds : (t : ℕ) → walk-lts.Need-loop2-holds (walk-calls t) (walk-at t) walk.Post walk-Inv-loop2 walk-μ-loop2 walk-Inv-loop walk-μ-loop
-walk-loop2-holds t c = search needs
-
-walk-sub-walk : (t : ℕ) → walk-lts.Need-sub-walk (walk-calls t) (walk-at t) walk.Post walk-Inv-loop2 walk-μ-loop2 walk-Inv-loop walk-μ-loop
-walk-sub-walk t c = search needs
-
-walk-part-walk-start : (t : ℕ) → walk-lts.Need-part-walk-start (walk-calls t) (walk-at t) walk.Post walk-Inv-loop2 walk-μ-loop2 walk-Inv-loop walk-μ-loop
-walk-part-walk-start t c = search needs
-
-walk-part-walk-end : (t : ℕ) → walk-lts.Need-part-walk-end (walk-calls t) (walk-at t) walk.Post walk-Inv-loop2 walk-μ-loop2 walk-Inv-loop walk-μ-loop
-walk-part-walk-end t c = search needs
-
-walk-mul-walk : (t : ℕ) → walk-lts.Need-mul-walk (walk-calls t) (walk-at t) walk.Post walk-Inv-loop2 walk-μ-loop2 walk-Inv-loop walk-μ-loop
-walk-mul-walk t c = search needs
-
-walk-sub-walk-2 : (t : ℕ) → walk-lts.Need-sub-walk-2 (walk-calls t) (walk-at t) walk.Post walk-Inv-loop2 walk-μ-loop2 walk-Inv-loop walk-μ-loop
-walk-sub-walk-2 t c = search needs
-
-walk-part-walk-start-2 : (t : ℕ) → walk-lts.Need-part-walk-start-2 (walk-calls t) (walk-at t) walk.Post walk-Inv-loop2 walk-μ-loop2 walk-Inv-loop walk-μ-loop
-walk-part-walk-start-2 t c = search needs
-
-walk-part-walk-end-2 : (t : ℕ) → walk-lts.Need-part-walk-end-2 (walk-calls t) (walk-at t) walk.Post walk-Inv-loop2 walk-μ-loop2 walk-Inv-loop walk-μ-loop
-walk-part-walk-end-2 t c = search needs
-
-walk-add-walk : (t : ℕ) → walk-lts.Need-add-walk (walk-calls t) (walk-at t) walk.Post walk-Inv-loop2 walk-μ-loop2 walk-Inv-loop walk-μ-loop
-walk-add-walk t c = search needs
-
-walk-operand-requires : (t : ℕ) → walk-lts.Need-operand-requires (walk-calls t) (walk-at t) walk.Post walk-Inv-loop2 walk-μ-loop2 walk-Inv-loop walk-μ-loop
-walk-operand-requires t c κs = search needs
 
 walk-walk-requires : (t : ℕ) → walk-lts.Need-walk-requires (walk-calls t) (walk-at t) walk.Post walk-Inv-loop2 walk-μ-loop2 walk-Inv-loop walk-μ-loop
 walk-walk-requires t c κs =
@@ -175,12 +115,6 @@ walk-walk-requires t c κs =
         entry .pre .1 .3,
       ),
     )
-
-walk-enum-known-walked : (t : ℕ) → walk-lts.Need-enum-known-walked (walk-calls t) (walk-at t) walk.Post walk-Inv-loop2 walk-μ-loop2 walk-Inv-loop walk-μ-loop
-walk-enum-known-walked t c = search needs
-
-walk-enum-told-2 : (t : ℕ) → walk-lts.Need-enum-told-2 (walk-calls t) (walk-at t) walk.Post walk-Inv-loop2 walk-μ-loop2 walk-Inv-loop walk-μ-loop
-walk-enum-told-2 t c = search needs
 
 walk-returns-3 : (t : ℕ) → walk-lts.Need-returns-3 (walk-calls t) (walk-at t) walk.Post walk-Inv-loop2 walk-μ-loop2 walk-Inv-loop walk-μ-loop
 walk-returns-3 t c =
@@ -217,12 +151,6 @@ walk-add-rows-2 t c =
           .before .before .before .before .before .before .before .before .before .before .before .before .pre .1 .1,
     )
 
-walk-sub-left : (t : ℕ) → walk-lts.Need-sub-left (walk-calls t) (walk-at t) walk.Post walk-Inv-loop2 walk-μ-loop2 walk-Inv-loop walk-μ-loop
-walk-sub-left t c = search needs
-
-walk-loop2-less : (t : ℕ) → walk-lts.Need-loop2-less (walk-calls t) (walk-at t) walk.Post walk-Inv-loop2 walk-μ-loop2 walk-Inv-loop walk-μ-loop
-walk-loop2-less t c = search needs
-
 walk-loop2-again : (t : ℕ) → walk-lts.Need-loop2-again (walk-calls t) (walk-at t) walk.Post walk-Inv-loop2 walk-μ-loop2 walk-Inv-loop walk-μ-loop
 walk-loop2-again t c =
     let entry = c .before .before .before .before .before .before .before .before .before .before .before .before .before .before .before .before .before .before .before .before in
@@ -244,9 +172,6 @@ walk-loop2-again t c =
           steps.rows-part at (at-walk .ensures .1 ds)) _
           (c .before .walked .given .1),
     )
-
-walk-operand-requires-2 : (t : ℕ) → walk-lts.Need-operand-requires-2 (walk-calls t) (walk-at t) walk.Post walk-Inv-loop2 walk-μ-loop2 walk-Inv-loop walk-μ-loop
-walk-operand-requires-2 t c κs = search needs
 
 walk-loop-less : (t : ℕ) → walk-lts.Need-loop-less (walk-calls t) (walk-at t) walk.Post walk-Inv-loop2 walk-μ-loop2 walk-Inv-loop walk-μ-loop
 walk-loop-less t c =
@@ -275,12 +200,6 @@ walk-loop-again t c =
           (c .before .loop2-test .left) (c .operand2 .ensures) ds,
     )
 
-walk-add-t34 : (t : ℕ) → walk-lts.Need-add-t34 (walk-calls t) (walk-at t) walk.Post walk-Inv-loop2 walk-μ-loop2 walk-Inv-loop walk-μ-loop
-walk-add-t34 t c = search needs
-
-walk-add-t35 : (t : ℕ) → walk-lts.Need-add-t35 (walk-calls t) (walk-at t) walk.Post walk-Inv-loop2 walk-μ-loop2 walk-Inv-loop walk-μ-loop
-walk-add-t35 t c = search needs
-
 walk-returns-4 : (t : ℕ) → walk-lts.Need-returns-4 (walk-calls t) (walk-at t) walk.Post walk-Inv-loop2 walk-μ-loop2 walk-Inv-loop walk-μ-loop
 walk-returns-4 t c =
     let entry = c .before .before .before in
@@ -289,46 +208,10 @@ walk-returns-4 t c =
 
 pub +walk-spec : {M : Type 1} → statement M
 +walk-spec = close μ-walk λ t. walk-lts.spec (walk-calls t)
-    (walk-at t)
-    walk.Post
-    walk-Inv-loop2
-    walk-μ-loop2
-    walk-Inv-loop
-    walk-μ-loop
-    (walk-loop-holds t)
-    (walk-shared-slice-read-kind t)
-    (walk-mul-natural t)
-    (walk-shared-slice-copy-out-natural t)
-    (walk-natural-requires t)
-    (walk-add-ask t)
-    (walk-add-ask-2 t)
-    (walk-ask-requires t)
-    (walk-enum-known-asked t)
-    (walk-enum-told t)
-    (walk-returns t)
-    (walk-add-rows t)
-    (walk-returns-2 t)
-    (walk-loop2-holds t)
-    (walk-sub-walk t)
-    (walk-part-walk-start t)
-    (walk-part-walk-end t)
-    (walk-mul-walk t)
-    (walk-sub-walk-2 t)
-    (walk-part-walk-start-2 t)
-    (walk-part-walk-end-2 t)
-    (walk-add-walk t)
-    (walk-operand-requires t)
-    (walk-walk-requires t)
-    (walk-enum-known-walked t)
-    (walk-enum-told-2 t)
-    (walk-returns-3 t)
-    (walk-add-rows-2 t)
-    (walk-sub-left t)
-    (walk-loop2-less t)
-    (walk-loop2-again t)
-    (walk-operand-requires-2 t)
-    (walk-loop-less t)
-    (walk-loop-again t)
-    (walk-add-t34 t)
-    (walk-add-t35 t)
-    (walk-returns-4 t)
+    (walk-at t) walk.Post walk-Inv-loop2 walk-μ-loop2 walk-Inv-loop walk-μ-loop (walk-loop-holds t) (λ c. search needs)
+    (λ c. search needs) (λ c. search needs) (λ c κs. search needs) (λ c. search needs) (λ c. search needs) (λ c κs. search needs)
+    (λ c. search needs) (λ c. search needs) (walk-returns t) (λ c. search needs) (walk-returns-2 t) (λ c. search needs)
+    (λ c. search needs) (λ c. search needs) (λ c. search needs) (λ c. search needs) (λ c. search needs) (λ c. search needs)
+    (λ c. search needs) (λ c. search needs) (λ c κs. search needs) (walk-walk-requires t) (λ c. search needs) (λ c. search needs)
+    (walk-returns-3 t) (walk-add-rows-2 t) (λ c. search needs) (λ c. search needs) (walk-loop2-again t) (λ c κs. search needs)
+    (walk-loop-less t) (walk-loop-again t) (λ c. search needs) (λ c. search needs) (walk-returns-4 t)
