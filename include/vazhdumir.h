@@ -22,8 +22,8 @@
  *
  * Stack. An entry uses the caller's. On x86-64 a check of loops takes 88 KiB and a run 256, however many lines there are, and more only where rows
  * nest in an operand that is not its row's last: the walk of questions 4 to 6 calls itself for such operands, some 264 bytes a level. So chains of
- * `neg`, of `times` and of `seq` to the right take no more, and of all loops within the limits those of 817 `seq` to the left, the deepest commands, run on
- * 512 KiB, and those of 2,042 `add` to the left, the deepest of all, on 832 KiB.
+ * `neg`, of `times` and of `seq` to the right take no more; 817 `seq` to the left, the deepest commands, run on 512 KiB, and some 2,045 `add` or `plus` to
+ * the left, the deepest of all loops within the limits, on 832 KiB. The deepest plan, a chain of `neg`, is checked and translated on 512 KiB.
  *
  * Threads and interrupts. Nothing is kept between calls [12.5] and there is no memory but the stack and what is lent, so entries may be called from
  * several threads at once, and from an interrupt while a call is under way, on slices that do not overlap. An interrupt has to save the SSE

@@ -1,5 +1,5 @@
 // How much stack the check, the need and the run of the deepest loops take: chains of `seq` to the right and to the left, of `neg`, of
-// `times` and of `add` to the left, of 4,086 rows and more. Each call is made by a process of its own, on a thread with so many KiB of stack; where
+// `times` and of `add` to the left, of 4,086 rows and more; and the check and the translation of a plan that is a chain of `neg`. Each call is made by a process of its own, on a thread with so many KiB of stack; where
 // they are too few, the system ends the process. The least that will do is searched for, from what the header promises down.
 //
 //   stack HEADER
@@ -14,7 +14,14 @@ const SHAPES: [(&str, usize); 5] =
 
 const ENTRIES: [&str; 3] = ["check", "need", "run"];
 
-fn loops(shape: &str) -> String {
+const PLAN: (&str, usize) = ("plan of neg", 512);
+
+const PLAN_ENTRIES: [&str; 2] = ["check_plan", "translate"];
+
+fn text(shape: &str) -> String {
+    if shape == PLAN.0 {
+        return format!("plan,0\n{}lit,7\n", "neg,0\n".repeat(254));
+    }
     let set = "set,0\nout,0\nlit,0\nlit,7\n";
     let many = DEPTH / 5;
     let command = match shape {
@@ -31,13 +38,15 @@ fn call(entry: &str, text: &[u8]) -> String {
     match entry {
         "check" => entries::check_loops(text),
         "need" => entries::need(text),
+        "check_plan" => entries::check_plan(text),
+        "translate" => entries::translate(text, &mut vec![0; 65536]),
         _ => entries::run(text, 0, &mut [0; 4]),
     }
 }
 
 // The call on a thread of so many KiB: the process ends well where the stack was enough and the answer is the same as with a large one.
 fn alone(entry: &str, shape: &str, size: usize) {
-    let text = loops(shape);
+    let text = text(shape);
     let asked = |size: usize| {
         let (entry, text) = (entry.to_string(), text.clone());
         std::thread::Builder::new().stack_size(size << 10).spawn(move || call(&entry, text.as_bytes())).unwrap().join().unwrap()
@@ -69,13 +78,12 @@ fn main() {
         return alone(entry, shape, size.parse().unwrap());
     }
     let header = std::fs::read_to_string(&given[0]).unwrap();
-    let told: Vec<String> = SHAPES
-        .iter()
-        .map(|(shape, most)| {
-            assert!(header.contains(&format!("{most} KiB")), "{} does not say {most} KiB", given[0]);
-            let sizes = ENTRIES.map(|entry| format!("{entry} {}", least(entry, shape, *most)));
-            format!("{shape} ({} rows): {}", loops(shape).lines().count(), sizes.join(", "))
-        })
-        .collect();
-    println!("KiB of stack that the deepest loops take: {}", told.join("; "));
+    let told = |(shape, most): &(&str, usize), entries: &[&str]| {
+        assert!(header.contains(&format!("{most} KiB")), "{} does not say {most} KiB", given[0]);
+        let sizes: Vec<String> = entries.iter().map(|entry| format!("{entry} {}", least(entry, shape, *most))).collect();
+        format!("{shape} ({} rows): {}", text(shape).lines().count(), sizes.join(", "))
+    };
+    let mut all: Vec<String> = SHAPES.iter().map(|shape| told(shape, &ENTRIES)).collect();
+    all.push(told(&PLAN, &PLAN_ENTRIES));
+    println!("KiB of stack that the deepest loops and plans take: {}", all.join("; "));
 }
