@@ -16,7 +16,8 @@
  * 16: for the built-in words call the entry without `_in`. Kinds are the same under all words.
  *
  * Store. A store is lent as bytes; each cell is four of them, the lowest first, in two's complement [9.11]. One to three bytes left over are not
- * touched. The cells of the inputs come first, then those of the output, then those of the regions [7.5].
+ * touched. The cells of the inputs come first, then those of the output, then those of the regions; a region begins right behind those open
+ * around it, and its cells are given back when its command ends [7.5].
  *
  * Machine. The library is for x86-64, where size_t has 64 bits; of the C library it uses memset alone. Nothing is allocated.
  *
@@ -98,7 +99,8 @@ uint64_t vazhdumir_check_loops(const uint8_t *loops, size_t loops_len);
 uint64_t vazhdumir_read_loops(const uint8_t *loops, size_t loops_len, uint8_t *kinds, size_t kinds_len, int32_t *numbers,
                               size_t numbers_len);
 
-/* The cells that a text of loops needs [7.4], after the same questions as its check. Value: the cells. */
+/* The cells that a text of loops needs [7.4]: those of the inputs, of the output, and the most of regions that are open together. The same
+ * questions as its check. Value: the cells. */
 uint64_t vazhdumir_need(const uint8_t *loops, size_t loops_len);
 
 /* Runs a text of loops on a store, every `par` in the order named [9.10]: 0 forward, 1 backward, 2 the even rounds and then the odd

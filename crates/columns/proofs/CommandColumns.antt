@@ -2,7 +2,7 @@
 use mathlib.Core.Bool.{Bool, true, false}
 use mathlib.Core.Path.{_≡_, refl, ap, ap₂, _∙_}
 use mathlib.Core.List.{List}
-use Prim.Native.Nat.{ℕ, zero, suc, _+_, _*_, min, _≤_}
+use Prim.Native.Nat.{ℕ, zero, suc, _+_, _*_, min, max, _≤_}
 use native.Mathlib.Nat.{zero-mul, suc-mul}
 use native.Mathlib.Omega.{arith}
 use borrow.Author.Tests.{leb-true, leb-false}
@@ -100,6 +100,6 @@ module _ (ks : List ℕ) (ns : List ℤ) (es : List ℕ) (E : Ends ks es) where
   room-there rs R =
       command-column ks ns es rs E (λ (p : ℕ). roomBy) (R .rule) (λ (x : Command). cappedRoom (room x))
       (λ at p v x y. refl)
-      (λ at c d. let e : cappedRoom (cappedRoom (room c) + cappedRoom (room d)) ≡ cappedRoom (room c + room d) = omega arith in e)
+      (λ at c d. let e : max (cappedRoom (room c)) (cappedRoom (room d)) ≡ cappedRoom (max (room c) (room d)) = omega arith in e)
       (λ at kind n c y. looped-room kind n (cappedRoom (room c)) y)
       (λ at n c y. let e : cappedRoom (n + cappedRoom (room c)) ≡ cappedRoom (n + room c) = omega arith in e)

@@ -3,7 +3,7 @@
 use mathlib.Core.Bool.{Bool, cond, _||_}
 use mathlib.Core.Path.{_≡_}
 use mathlib.Core.List.{List}
-use Prim.Native.Nat.{ℕ, min, _+_, _*_, _-_, _/_, _≤_, _<_}
+use Prim.Native.Nat.{ℕ, min, max, _+_, _*_, _-_, _/_, _≤_, _<_}
 use lib.Dec.{eqb, ltb}
 use lib.IntN.{ℤ, pos}
 use lib.ListN.{length, getD}
@@ -57,7 +57,7 @@ cappedRoom x = min x 4294967295
 -- [7.4] the room of a command's row, x and y being those of its operands
 unfoldable pub roomBy : ℕ → ℕ → ℕ → ℕ → ℕ
 roomBy k n x y =
-    cond (eqb k word-set) 0 (cond (eqb k word-seq) (cappedRoom (x + y)) (cond (eqb k word-new) (cappedRoom (n + x)) x))
+    cond (eqb k word-set) 0 (cond (eqb k word-seq) (max x y) (cond (eqb k word-new) (cappedRoom (n + x)) x))
 
 abbrev pub roomAt : List ℕ → List ℤ → ℕ → ℕ → ℕ → ℕ
 roomAt ks ns p x y = roomBy (getD ks p 0) (asNatural (getD ns p (pos 0))) x y

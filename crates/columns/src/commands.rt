@@ -1,6 +1,6 @@
 // What a command's row adds to the writes and to the room of its operands.
 ghost use mathlib.Core.Path.{_≡_};
-ghost use Prim.Native.Nat.{min, _+_, _≤_};
+ghost use Prim.Native.Nat.{min, max, _+_, _≤_};
 ghost use Rattle.columns.specs.Figures.{writesBy, isCommand, figureBy, roomBy};
 use crate::offsets::row_bound;
 use words::kinds::*;
@@ -73,6 +73,17 @@ fn capped_sum(x: usize, y: usize) -> usize
     x + y
 }
 
+// The greater of two rooms.
+fn greater(x: usize, y: usize) -> usize
+    requires { ⌜ (x ≤ 4294967295) × (y ≤ 4294967295) ⌝ }
+    ensures { λ r. ⌜ (r ≡ max x y) × (r ≤ 4294967295) ⌝ }
+{
+    if x < y {
+        return y;
+    }
+    x
+}
+
 // [7.4] The room of a command's regions.
 pub fn row_room(kind: u8, n: usize, first: usize, second: usize) -> usize
     requires { ⌜ (n ≤ 2147483648) × (first ≤ 4294967295) × (second ≤ 4294967295) ⌝ }
@@ -82,7 +93,7 @@ pub fn row_room(kind: u8, n: usize, first: usize, second: usize) -> usize
         return 0;
     }
     if kind == WORD_SEQ {
-        return capped_sum(first, second);
+        return greater(first, second);
     }
     if kind == WORD_NEW {
         return capped_sum(n, first);

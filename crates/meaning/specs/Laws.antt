@@ -7,6 +7,7 @@ pub mod Inference
 pub mod Groups
 pub mod Orders
 pub mod Layout
+pub mod LayoutTests
 pub mod Paths
 pub mod Evaluation
 pub mod Levels

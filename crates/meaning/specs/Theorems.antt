@@ -1,6 +1,6 @@
 -- What is proved, in one place: demand 3, which is [9.8], and what goes with it. The proofs are in `Laws`.
 use mathlib.Core.Path.{_≡_, refl, sym, _∙_, subst}
-use mathlib.Core.Logic.{_↔_}
+use mathlib.Core.Logic.{_↔_, _⊎_}
 use mathlib.Core.List.{List, [], map, List·Permᴰ}
 use mathlib.Core.Option.{some}
 use Prim.Native.Nat.{ℕ, _+_, _≤_}
@@ -36,7 +36,7 @@ use Rattle.meaning.specs.Laws.Runs.{run-choice, choice-run}
 use Rattle.meaning.specs.Laws.Arbiters.{arbiterOf, arbiter-fair, run-by-arbiter, run-by-name}
 use Rattle.meaning.specs.Laws.Steps.{run-does-steps, run-writes, run-length}
 use Rattle.meaning.specs.Laws.Safety.{loops-touch-below, beyond-kept}
-use Rattle.meaning.specs.Laws.Needs.{need-by-rows}
+use Rattle.meaning.specs.Laws.Needs.{need-by-rows, EndsBefore, need-reached}
 use Rattle.meaning.specs.Laws.PassingPlans.{translation-passes}
 
 -- [5.1] The relation of Figure 3 and the type check find the same types.
@@ -164,6 +164,10 @@ safe-loops L h = loops-touch-below L h
 -- [7.4] Loops of at most 4,096 rows [13.5] that pass need at most 4,096 × 4,096 cells.
 pub need-few : (L : Loops) → LoopsPass L → length (loopsRows L) ≤ 4096 → need L ≤ 16777216
 need-few L h few = omega (arith, need-by-rows L h)
+
+-- [7.4] The need is not a cell too great: where there are regions, one of them ends right before it.
+pub need-taken : (L : Loops) → LoopsPass L → (need L ≡ regionsFrom L) ⊎ EndsBefore (need L) (L .command) (regionsFrom L)
+need-taken L h = need-reached L h
 
 -- [9.9] Loops made from a plan pass: [10.5], [10.6] and [10.9].
 pub own-loops-pass : (P : Plan) (t : DataType) → HasType (P .inputs) [] (P .term) t → PlanWithin P

@@ -17,7 +17,7 @@ returns-2 : tie.Need-returns-2
 unfolding roomBy
 returns-2 c =
     let k = c .before .before .before .args .kind in
-    (simp (ne-eqb k word-set (c .before .before .if1 .left), eq-eqb k word-seq (c .before .if2 .taken)) (c .capped-sum .ensures .0), c .capped-sum .ensures .1)
+    (simp (ne-eqb k word-set (c .before .before .if1 .left), eq-eqb k word-seq (c .before .if2 .taken)) (c .greater .ensures .0), c .greater .ensures .1)
 
 returns-3 : tie.Need-returns-3
 unfolding roomBy
@@ -28,8 +28,8 @@ returns-3 c =
         ne-eqb k word-seq (c .before .before .if2 .left),
         eq-eqb k word-new
             (c .before .if3 .taken),
-      ) (c .capped-sum2 .ensures .0),
-      c .capped-sum2 .ensures .1,
+      ) (c .capped-sum .ensures .0),
+      c .capped-sum .ensures .1,
     )
 
 returns-4 : tie.Need-returns-4
