@@ -15,7 +15,7 @@ use Rattle.meaning.specs.Sequence.{upFrom, inTurn}
 use Rattle.meaning.specs.Values.{flatten, noNumber}
 use Rattle.meaning.specs.Shapes.{Shaped}
 use Rattle.meaning.specs.Loops.{Loops}
-use Rattle.meaning.specs.Layout.{allCells, regionsFrom, need}
+use Rattle.meaning.specs.Layout.{EndsBefore, allCells, regionsFrom, need}
 use Rattle.meaning.specs.Runs.{Order, Orders, startOf, Store, State, cell, Run, beginning, runLoops, RunOf}
 use Rattle.meaning.specs.Arbiters.{Arbiter, runBy}
 use Rattle.meaning.specs.NamedOrders.{forward, always}
@@ -36,7 +36,7 @@ use Rattle.meaning.specs.Laws.Runs.{run-choice, choice-run}
 use Rattle.meaning.specs.Laws.Arbiters.{arbiterOf, arbiter-fair, run-by-arbiter, run-by-name}
 use Rattle.meaning.specs.Laws.Steps.{run-does-steps, run-writes, run-length}
 use Rattle.meaning.specs.Laws.Safety.{loops-touch-below, beyond-kept}
-use Rattle.meaning.specs.Laws.Needs.{need-by-rows, EndsBefore, need-reached}
+use Rattle.meaning.specs.Laws.Needs.{need-by-rows, need-reached}
 use Rattle.meaning.specs.Laws.PassingPlans.{translation-passes}
 
 -- [5.1] The relation of Figure 3 and the type check find the same types.

@@ -12,7 +12,7 @@ use lib.IntN.{pos}
 use Rattle.words.specs.Kinds.{Row, word-cells}
 use Rattle.meaning.specs.Terms.{LoopKind}
 use Rattle.meaning.specs.Loops.{Command, Loops, seq, loop, new}
-use Rattle.meaning.specs.Layout.{room, firstRoom, secondRoom, roundRoom, regionRoom, bodyRoom, allCells, regionsFrom, need}
+use Rattle.meaning.specs.Layout.{room, firstRoom, secondRoom, roundRoom, regionRoom, bodyRoom, EndsBefore, allCells, regionsFrom, need}
 use Rattle.meaning.specs.Runs.{entry}
 use Rattle.meaning.specs.Rows.{commandRows, allCellsRows, loopsRows}
 use Rattle.meaning.specs.Limits.{IsCount, CommandPasses, LoopsPass}
@@ -45,13 +45,6 @@ need-by-rows L h =
     omega (arith, a, b, h .outputCells .1, length-append (allCellsRows (L .inputs)) rows)
 
 -- ---- Reached
-
--- a region of a command ends right before cell e, the command's room beginning at a
-abbrev pub EndsBefore : ℕ → Command → ℕ → Type 0
-EndsBefore e (Command.assignment p v) a = ⊥
-EndsBefore e (seq c d) a = EndsBefore e c (firstRoom a c d) ⊎ EndsBefore e d (secondRoom a c d)
-EndsBefore e (loop kind n b) a = (i : ℕ) × (i < n) × EndsBefore e b (roundRoom a kind n b i)
-EndsBefore e (new c b) a = (regionRoom a c b + c ≡ e) ⊎ EndsBefore e b (bodyRoom a c b)
 
 -- where a room ends, one of its regions does, unless there is none
 abbrev Reached : Command → ℕ → Type 0
