@@ -1,4 +1,4 @@
-// The run of the static library beside a plain interpreter in Rust, on the loops of five plans of five to ten million writes: nanoseconds for
+// The run of the static library beside a plain interpreter in Rust, on the loops of six plans of five to ten million writes: nanoseconds for
 // each write, the least of several turns. Then the check of the longest plan, in the built-in words and in German: microseconds for each check.
 // Then the longest loops, read into a table, and the longest texts, read and refused, with words that stand early and late in the table of
 // words: microseconds for each. Then what a check and a run cost beside the writes (fixed.rs). Last the doors beside the second implementation
@@ -33,12 +33,13 @@ const ROWS: usize = 4096;
 
 const GERMAN: &str = include_str!("../examples/german.words");
 
-const PLANS: [(&str, &str); 5] = [
+const PLANS: [(&str, &str); 6] = [
     ("dot product", include_str!("dot.plan")),
     ("sums", include_str!("sums.plan")),
     ("used maps", include_str!("maps.plan")),
     ("zipped and regrouped", include_str!("regrouped.plan")),
     ("matrix product", include_str!("matrix.plan")),
+    ("shares", include_str!("shares.plan")),
 ];
 
 // This thread's time on a processor, in nanoseconds; where the system does not tell it, the time that has passed.

@@ -1,6 +1,6 @@
-/* A garage with three feeders: two of four bays and one of six. Each car gets what it asks for, but at most its feeder's limit
- * divided by the bays on that feeder. The plan, in the file named, is checked, translated and run; the amperes of the fourteen bays
- * are printed.
+/* A garage with three feeders: two of four bays and one of six. Each car gets what it asks for, but at most a share: its feeder's limit
+ * divided by the bays on that feeder, to the nearest ampere. The plan, in the file named, is checked, translated and run; the amperes of
+ * the fourteen bays are printed.
  *
  *   garage garage.plan */
 #include <stdio.h>
@@ -8,7 +8,7 @@
 #include "vazhdumir.h"
 
 /* The limits of the two feeders of four bays, what their eight cars ask for, the limit of the feeder of six, what its cars ask for. */
-static const int32_t INPUTS[] = {64, 40, 32, 11, 16, 0, 7, 20, 10, 6, 60, 16, 16, 5, 32, 16, 0};
+static const int32_t INPUTS[] = {63, 42, 32, 11, 16, 0, 7, 20, 10, 6, 64, 16, 16, 5, 32, 16, 0};
 
 /* A byte more than a plan may have, so that a longer file is refused. */
 enum { INPUT_CELLS = sizeof INPUTS / sizeof INPUTS[0], BAYS = 14, PLAN_BYTES = 4097 };

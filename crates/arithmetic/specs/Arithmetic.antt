@@ -1,8 +1,9 @@
 -- The arithmetic of cells: [4.1] to [4.5]. Definitions only; assumes nothing.
 use mathlib.Core.Bool.{cond}
-use Prim.Native.Nat.{zero, suc}
+use Prim.Native.Nat.{ℕ, zero, suc, _+_, _*_, _/_, _%_}
+use lib.Dec.{ltb}
 use lib.IntN.{ℤ, pos, negsuc, negℤ, _+ℤ_, _-ℤ_, _*ℤ_}
-use lib.Signed.{ltZ, quotZ}
+use lib.Signed.{ltZ}
 
 -- [4.1] The range of a cell [13.1]: from −2,147,483,648, since `negsuc n` is −(n + 1), to 2,147,483,647.
 abbrev pub lowest : ℤ
@@ -28,11 +29,21 @@ product x y = clamp (x *ℤ y)
 unfoldable pub negation : ℤ → ℤ
 negation x = clamp (negℤ x)
 
--- [4.3] The quotient without its fraction, which is `quotZ`, clamped; 0 if the divisor is 0.
+-- [4.3] a by b, rounded to nearest, an exact half to the even neighbour. The fraction is more than a half where twice the remainder is
+-- more than b, and less where it is less; at a half an odd quotient goes one up.
+unfoldable pub nearest : ℕ → ℕ → ℕ
+nearest a b = cond (ltb b (2 * (a % b))) (a / b + 1) (cond (ltb (2 * (a % b)) b) (a / b) (a / b + a / b % 2))
+
+-- [4.3] The same of a number with a sign; the result has that sign.
+abbrev pub nearestZ : ℤ → ℕ → ℤ
+nearestZ (pos a) b = pos (nearest a b)
+nearestZ (negsuc a) b = negℤ (pos (nearest (suc a) b))
+
+-- [4.3] The exact quotient so rounded, and clamped; 0 if the divisor is 0. x by −b is −x by b.
 unfoldable pub quotient : ℤ → ℤ → ℤ
 quotient x (pos zero) = pos 0
-quotient x (pos (suc n)) = clamp (quotZ x (pos (suc n)))
-quotient x (negsuc n) = clamp (quotZ x (negsuc n))
+quotient x (pos (suc n)) = clamp (nearestZ x (suc n))
+quotient x (negsuc n) = clamp (nearestZ (negℤ x) (suc n))
 
 -- [4.4] One of the two numbers.
 unfoldable pub lesser : ℤ → ℤ → ℤ

@@ -1,9 +1,10 @@
--- Examples of the arithmetic of cells, found by computing: zero, both ends of the range, and the numbers of the cards P5 and P6 [15.2].
+-- Examples of the arithmetic of cells, found by computing: zero, both ends of the range, exact halves, and the numbers of the cards P5 and
+-- P6 [15.2].
 -- Facts about the definitions, none of them a definition to believe; assumes nothing.
 use mathlib.Core.Path.{_≡_, refl}
 use mathlib.Core.List.{List, [], _∷_, map}
 use lib.IntN.{ℤ, pos, negℤ}
-use Rattle.arithmetic.specs.Arithmetic.{lowest, highest, clamp, sum, difference, product, negation, quotient, lesser, greater, Operation, operate}
+use Rattle.arithmetic.specs.Arithmetic.{lowest, highest, clamp, sum, difference, product, negation, nearest, quotient, lesser, greater, Operation, operate}
 
 lowest-is : lowest ≡ negℤ (pos 2147483648)
 lowest-is = refl
@@ -42,18 +43,31 @@ examples Operation.multiplication =
     ∷ (pos 65536, pos 32768, highest)
     ∷ []
 examples Operation.division =
-    (negℤ (pos 7), pos 2, negℤ (pos 3))
-    ∷ (pos 7, negℤ (pos 2), negℤ (pos 3))
-    ∷ (negℤ (pos 7), negℤ (pos 2), pos 3)
+    (pos 5, pos 2, pos 2)
+    ∷ (pos 7, pos 2, pos 4)
+    ∷ (negℤ (pos 5), pos 2, negℤ (pos 2))
+    ∷ (negℤ (pos 7), pos 2, negℤ (pos 4))
+    ∷ (pos 5, negℤ (pos 2), negℤ (pos 2))
+    ∷ (pos 7, negℤ (pos 2), negℤ (pos 4))
+    ∷ (negℤ (pos 7), negℤ (pos 2), pos 4)
+    ∷ (pos 1, pos 2, pos 0)
     ∷ (negℤ (pos 1), pos 2, pos 0)
+    ∷ (pos 4, pos 3, pos 1)
+    ∷ (pos 5, pos 3, pos 2)
     ∷ (pos 7, pos 0, pos 0)
     ∷ (pos 0, pos 0, pos 0)
+    ∷ (pos 0, highest, pos 0)
+    ∷ (pos 0, lowest, pos 0)
     ∷ (lowest, pos 0, pos 0)
     ∷ (lowest, pos 1, lowest)
     ∷ (lowest, negℤ (pos 1), highest)
     ∷ (lowest, highest, negℤ (pos 1))
+    ∷ (lowest, lowest, pos 1)
     ∷ (highest, negℤ (pos 1), negℤ (pos 2147483647))
-    ∷ (highest, lowest, pos 0)
+    ∷ (highest, pos 2, pos 1073741824)
+    ∷ (highest, lowest, negℤ (pos 1))
+    ∷ (pos 1073741824, lowest, pos 0)
+    ∷ (pos 1073741825, lowest, negℤ (pos 1))
     ∷ []
 examples Operation.minimum =
     (pos 0, pos 0, pos 0)
@@ -69,7 +83,7 @@ examples Operation.maximum =
     ∷ []
 
 examples-hold : (o : Operation) → map (λ (e : ℤ × ℤ × ℤ). operate o (e .0) (e .1)) (examples o) ≡ map (λ (e : ℤ × ℤ × ℤ). e .2) (examples o)
-unfolding operate clamp sum difference product quotient lesser greater
+unfolding operate clamp sum difference product nearest quotient lesser greater
 examples-hold Operation.addition = refl
 examples-hold Operation.subtraction = refl
 examples-hold Operation.multiplication = refl

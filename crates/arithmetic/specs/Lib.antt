@@ -5,4 +5,6 @@
 pub mod Arithmetic
 -- Their laws, and computed examples
 pub mod Laws
+pub mod Rounding
+pub mod Order
 pub mod Examples

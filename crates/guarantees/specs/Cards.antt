@@ -16,7 +16,7 @@ use Prim.Native.String.{String, _++_ as append}
 use lib.Dec.{eqb}
 use lib.IntN.{ℤ, pos, negsuc}
 use lib.ListN.{take, drop}
-use Rattle.arithmetic.specs.Arithmetic.{clamp, sum, difference, product, negation, quotient, lesser, greater, operate}
+use Rattle.arithmetic.specs.Arithmetic.{clamp, sum, difference, product, negation, nearest, quotient, lesser, greater, operate}
 use Rattle.refusals.specs.Refusals.{refusalNumber, refusalLine}
 use Rattle.refusals.specs.declared.Answer.{Answer}
 use Rattle.refusals.specs.declared.Answer.the-variants.{Told, Refused}
@@ -150,7 +150,7 @@ cards =
     ∷ ("P4", checked "plan,1 arr,2 num,0 idx,1 in,0", passes)
     ∷ ("P4", checked "plan,1 arr,2 num,0 idx,2 in,0", refused 7 4)
     -- `negsuc n` is −(n + 1)
-    ∷ eachOrder "P5" "plan,0 div,0 lit,-7 lit,2" (numbers (0 ∷ [])) (finished 1 (negsuc 2 ∷ []))
+    ∷ eachOrder "P5" "plan,0 div,0 lit,-7 lit,2" (numbers (0 ∷ [])) (finished 1 (negsuc 3 ∷ []))
     ++ eachOrder "P5" "plan,0 div,0 lit,7 lit,0" (numbers (0 ∷ [])) (finished 1 (numbers (0 ∷ [])))
     ++ eachOrder "P6" "plan,0 div,0 lit,-2147483648 lit,-1" (numbers (0 ∷ [])) (finished 1 (numbers (2147483647 ∷ [])))
     ++ eachOrder "P7" exchange (numbers (0 ∷ 0 ∷ 0 ∷ 0 ∷ 0 ∷ 0 ∷ 0 ∷ [])) (finished 8 (numbers (2 ∷ 1 ∷ [])))
@@ -163,7 +163,7 @@ cards =
 
 pub cards-answered : map (λ (c : Card). answered (c .1)) cards ≡ map (λ (c : Card). c .2) cards
 unfolding
-    clamp sum difference product negation quotient lesser greater operate
+    clamp sum difference product negation nearest quotient lesser greater operate
     words table sameLetters lookFrom operandsOf
     allDigits value leadingZero unsigned notBelowZero belowZero numeralOf lastDigits digits decimal
     linesOf placeOf rowOf rowsIn formed reading written textOf
