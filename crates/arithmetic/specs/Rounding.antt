@@ -178,15 +178,15 @@ nearest-fits : (x : ℤ) {b : ℕ} → SFits w32 x → 0 < b → SFits w32 (near
 nearest-fits (pos a) hx h = record { sfits = omega (arith, hx .sfits, nearest-few a {c = 1} h h) }
 nearest-fits (negsuc a) {b} hx h = minus-fits (nearest (suc a) b) (omega (arith, hx .sfits, nearest-few (suc a) {c = 1} h h))
 
-opposite-fits : (x : ℤ) (b : ℕ) → SFits w32 x → (x ≡ lowest → negsuc b ≡ negsuc 0 → ⊥) → SFits w32 (nearestZ (negℤ x) (suc b))
-opposite-fits (pos zero) b hx other = nearest-fits (pos 0) hx (zero-lt-suc b)
-opposite-fits (pos (suc a)) b hx other = nearest-fits (negsuc a) (record { sfits = omega (arith, hx .sfits) }) (zero-lt-suc b)
-opposite-fits (negsuc a) zero hx other = by-test (ltb a 2147483647) refl
+negated-fits : (x : ℤ) (b : ℕ) → SFits w32 x → (x ≡ lowest → negsuc b ≡ negsuc 0 → ⊥) → SFits w32 (nearestZ (negℤ x) (suc b))
+negated-fits (pos zero) b hx other = nearest-fits (pos 0) hx (zero-lt-suc b)
+negated-fits (pos (suc a)) b hx other = nearest-fits (negsuc a) (record { sfits = omega (arith, hx .sfits) }) (zero-lt-suc b)
+negated-fits (negsuc a) zero hx other = by-test (ltb a 2147483647) refl
   where
     by-test : (less : Bool) → ltb a 2147483647 ≡ less → SFits w32 (pos (nearest (suc a) 1))
     by-test true l = record { sfits = omega (arith, ltb-true a 2147483647 l, nearest-few (suc a) {c = 1} (zero-lt-suc 0) (zero-lt-suc 0)) }
     by-test false l = absurd (other (ap negsuc (omega (arith, hx .sfits, ltb-false a 2147483647 l))) refl)
-opposite-fits (negsuc a) (suc b) hx other =
+negated-fits (negsuc a) (suc b) hx other =
     record { sfits = omega (arith, hx .sfits, nearest-few (suc a) {c = 2} (zero-lt-suc (suc b)) (omega arith)) }
 
 -- Of any other two cells, the divisor not 0, the quotient itself is nearest.
@@ -194,4 +194,4 @@ pub quotient-nearest : {x y : ℤ} → SFits w32 x → (y ≡ pos 0 → ⊥) →
 unfolding quotient
 quotient-nearest {x} {y = pos zero} hx nonzero other = absurd (nonzero refl)
 quotient-nearest {x} {y = pos (suc b)} hx nonzero other = rw (clamp-exact (nearest-fits x hx (zero-lt-suc b))) (nearest-is x (zero-lt-suc b))
-quotient-nearest {x} {y = negsuc b} hx nonzero other = rw (clamp-exact (opposite-fits x b hx other)) (nearest-below x b)
+quotient-nearest {x} {y = negsuc b} hx nonzero other = rw (clamp-exact (negated-fits x b hx other)) (nearest-below x b)
