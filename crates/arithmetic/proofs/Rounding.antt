@@ -52,6 +52,7 @@ below : (b n : ℕ) → ltZ (minus n) (negsuc b) ≡ ltb (suc b) n
 below b zero = sym (le-ltb (suc b) 0 zero-le)
 below b (suc n) = sym (leb·suc-suc (suc b) n)
 
+-- what the code tests: twice the remainder, and the 1 or −1 of an odd quotient
 abbrev twice : ℤ → ℤ → ℤ
 twice x y = pos 2 *ℤ remZ x y +ℤ remZ (quotZ x y) (pos 2)
 
@@ -83,6 +84,7 @@ size-mag (negsuc n) = (omega arith, omega arith)
 abbrev pub Asked : ℤ → ℤ → Type 0
 Asked x y = (natAbs x ≤ 2 ^ 31) × (ltZ (pos 0) y ≡ true) × (natAbs y ≤ 2 ^ 31)
 
+-- said of any divisor d, and of any step k that is not above 1, since that is all that it takes
 pub record AllFit (x y : ℤ) : Type 0 where
   pub divisor : 0 < ofZ w64 y
   pub whole : SFits w64 (quotZ x y)

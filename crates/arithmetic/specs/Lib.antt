@@ -6,5 +6,5 @@ pub mod Arithmetic
 -- Their laws, and computed examples
 pub mod Laws
 pub mod Rounding
-pub mod Order
+pub mod Monotone
 pub mod Examples

@@ -59,6 +59,9 @@ nearest-above a {b} h = by-tests (ltb b (2 * (a % b))) (ltb (2 * (a % b)) b) (a 
     there : natAbs (pos a -ℤ pos ((a / b + 1) * b)) ≡ apart a ((a / b + 1) * b)
     there = difference-size a ((a / b + 1) * b)
 
+    half : ltb b (2 * (a % b)) ≡ false → ltb (2 * (a % b)) b ≡ false → 2 * (a % b) ≡ b
+    half m l = omega (arith, ltb-false b (2 * (a % b)) m, ltb-false (2 * (a % b)) b l)
+
     by-tests : (more less : Bool) (odd : ℕ) → ltb b (2 * (a % b)) ≡ more → ltb (2 * (a % b)) b ≡ less → a / b % 2 ≡ odd
         → NearestAbove a b (cond more (a / b + 1) (cond less (a / b) (a / b + odd)))
     by-tests true less odd m l o =
@@ -67,12 +70,8 @@ nearest-above a {b} h = by-tests (ltb b (2 * (a % b))) (ltb (2 * (a % b)) b) (a 
     by-tests false true odd m l o =
         let low = ltb-true (2 * (a % b)) b l in
         record { near = omega (arith, here, whole); even = λ e. absurd (omega (arith, here, whole)) }
-    by-tests false false zero m l o =
-        let half : 2 * (a % b) ≡ b = omega (arith, ltb-false b (2 * (a % b)) m, ltb-false (2 * (a % b)) b l) in
-        rw (add-zero (a / b)) (record { near = omega (arith, here, whole, half); even = λ e. o })
-    by-tests false false (suc zero) m l o =
-        let half : 2 * (a % b) ≡ b = omega (arith, ltb-false b (2 * (a % b)) m, ltb-false (2 * (a % b)) b l) in
-        record { near = omega (arith, there, whole, next, half); even = λ e. omega (arith, o) }
+    by-tests false false zero m l o = rw (add-zero (a / b)) (record { near = omega (arith, here, whole, half m l); even = λ e. o })
+    by-tests false false (suc zero) m l o = record { near = omega (arith, there, whole, next, half m l); even = λ e. omega (arith, o) }
     by-tests false false (suc (suc odd)) m l o = absurd (omega (arith, o))
 
 -- To a greater dividend no lesser number is nearest; so to one dividend only one is.

@@ -59,7 +59,7 @@ fn nearest(x: i64, y: i64) -> i64
     quotient
 }
 
-// [4.3] 0 for divisor 0; by a divisor below zero both signs turn. The one quotient beyond the range is -2147483648 by -1.
+// [4.3] 0 for divisor 0. For a divisor below zero both numbers turn their signs. The one quotient beyond the range is -2147483648 by -1.
 pub fn div(x: i32, y: i32) -> i32
     ensures { λ r. ⌜ r ≡ quotient x y ⌝ }
 {

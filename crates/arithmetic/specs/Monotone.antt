@@ -1,5 +1,5 @@
--- [4.3] For each divisor the quotient keeps the order of dividends, and turns it where the divisor is below zero. Nothing here is a definition to
--- believe; assumes nothing.
+-- [4.3] For each divisor the quotient is monotone in the dividend: rising, or falling where the divisor is below zero. Nothing here is a
+-- definition to believe; assumes nothing.
 use mathlib.Core.Bool.{Bool, true, false, cond}
 use mathlib.Core.Path.{_≡_, refl}
 use Prim.Native.Nat.{ℕ, zero, suc, _≤_, _<_, zero-le}
