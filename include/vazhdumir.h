@@ -17,7 +17,13 @@
  *
  * Store. A store is lent as bytes; each cell is four of them, the lowest first, in two's complement [9.11]. One to three bytes left over are not
  * touched. The cells of the inputs come first, then those of the output, then those of the regions; a region begins right behind those open
- * around it, and its cells are given back when its command ends [7.5].
+ * around it, and its cells are given back when its command ends. Each round of a `par` has its own cells for the regions inside it, those of
+ * round 0 first [7.5].
+ *
+ * Cores. A run entry does all rounds itself, one after the other [9.5]. Firmware that deals the steps of a plan's loops out to several cores may
+ * let them overlap: a core may stop between any two writes of its round while others go on, if each `set` with its readings is one step that
+ * nobody comes between [9.12], and if what follows a `par` waits until all its rounds have ended [9.13]. On a store of at least the need the whole
+ * store and the writes are then those of order 0 [9.14]. Loops written by hand carry no such promise.
  *
  * Machine. The library is for x86-64, where size_t has 64 bits; of the C library it uses memset alone. Nothing is allocated.
  *
@@ -99,8 +105,9 @@ uint64_t vazhdumir_check_loops(const uint8_t *loops, size_t loops_len);
 uint64_t vazhdumir_read_loops(const uint8_t *loops, size_t loops_len, uint8_t *kinds, size_t kinds_len, int32_t *numbers,
                               size_t numbers_len);
 
-/* The cells that a text of loops needs [7.4]: those of the inputs, of the output, and the most of regions that are open together. The same
- * questions as its check. Value: the cells. */
+/* The cells that a text of loops needs [7.4]: those of the inputs, of the output, and the most of regions that are open together; a `par,n`
+ * needs n times the cells of its command. The same questions as its check. Value: the cells, which may be more than 32 bits hold, up to
+ * 17,592,186,081,280: keep them in a uint64_t. */
 uint64_t vazhdumir_need(const uint8_t *loops, size_t loops_len);
 
 /* Runs a text of loops on a store, every `par` in the order named [9.10]: 0 forward, 1 backward, 2 the even rounds and then the odd

@@ -14,13 +14,15 @@
 //   value      the output cells behind a run of the translated loops, in each of the three orders
 //   need       vazhdumir_need
 //   run        vazhdumir_run, and vazhdumir_read_loops with vazhdumir_run_rows
+//   mixings    the stepper of the tests (stepper.rs), from the rows that vazhdumir_read_loops puts; the ends of vazhdumir_run, in each of
+//              the three orders, are among those of the mixings
 //   fill       the runner, of loops that copy the input cells to the output
 //   runner     the runner
 //   look up    vazhdumir_look_up, and vazhdumir_look_up_in with the built-in words for themselves; where words are given, the latter
 //              with these
 // Of a words text, the check asks every entry that takes one, and both programs, with a plan and loops in those words. Where words are
 // given beside a plan or loops, the entries that take them answer ([16.7]), and the programs with that `words.txt` ([16.8]).
-use std::collections::BTreeMap;
+use std::collections::{BTreeMap, BTreeSet};
 use std::path::{Path, PathBuf};
 use std::process::Command;
 
@@ -29,6 +31,8 @@ mod entries;
 mod process;
 #[allow(dead_code)]
 mod reference;
+#[allow(dead_code)]
+mod stepper;
 #[allow(dead_code)]
 mod wording;
 
@@ -212,15 +216,22 @@ fn made(words: Option<&[u8]>, plan: &[u8], bytes: usize) -> Result<Vec<u8>, Stri
     if refused(&answer) { Err(answer) } else { Ok(lent) }
 }
 
-// A text of loops in a table of so many rows; or the refusal.
-fn table(words: Option<&[u8]>, loops: &[u8], rows: usize) -> Result<(Vec<u8>, Vec<i32>), String> {
+type Table = (Vec<u8>, Vec<i32>);
+
+// What is read into a table of so many rows; or the refusal.
+fn read_into(rows: usize, read: impl Fn(&mut [u8], &mut [i32]) -> String) -> Result<Table, String> {
     let (mut kinds, mut numbers) = (vec![0; rows], vec![0; rows]);
-    let answer = entries::read_loops_in(words, loops, &mut kinds, &mut numbers);
+    let answer = read(&mut kinds, &mut numbers);
     if refused(&answer) {
         return Err(answer);
     }
     let put = answer.parse().unwrap();
     Ok((kinds[..put].to_vec(), numbers[..put].to_vec()))
+}
+
+// A text of loops in a table of so many rows; or the refusal.
+fn table(words: Option<&[u8]>, loops: &[u8], rows: usize) -> Result<Table, String> {
+    read_into(rows, |kinds, numbers| entries::read_loops_in(words, loops, kinds, numbers))
 }
 
 fn translate(words: Option<&[u8]>, example: &Example) -> Result<String, String> {
@@ -261,6 +272,30 @@ fn ran(example: &Example, run: impl Fn(&[u8], u32, &mut [u8]) -> String) -> Stri
 
 fn run_table(words: Option<&[u8]>, loops: &[u8], order: u32, store: &mut [u8]) -> String {
     table(words, loops, 4096).map_or_else(|refusal| refusal, |(kinds, numbers)| entries::run_rows(&kinds, &numbers, order, store))
+}
+
+// How many mixings loops have, and the ends that these lead to.
+fn mixed((kinds, numbers): Table, store: &[i32]) -> (usize, BTreeSet<Vec<i32>>) {
+    let loops = stepper::unfold(&kinds, &numbers, stepper::Layout::Own);
+    let mixings = loops.mixings();
+    (mixings.len(), mixings.iter().map(|mixing| loops.end(mixing, store)).collect())
+}
+
+fn mixings((count, ends): (usize, BTreeSet<Vec<i32>>)) -> String {
+    format!("{count} mixings: {}", ends.iter().map(joined).collect::<Vec<_>>().join(" / "))
+}
+
+// The mixings of the rows that the library reads; or the order in which its run has an end that no mixing has.
+fn library_mixings(words: Option<&[u8]>, loops: &[u8], store: &[i32]) -> Result<String, String> {
+    let found = mixed(table(words, loops, 4096)?, store);
+    for order in 0..3 {
+        let mut bytes = stored(store);
+        entries::run_in(words, loops, order, &mut bytes);
+        if !found.1.contains(&held(&bytes)) {
+            return Err(format!("order {order} ends with {}", joined(held(&bytes))));
+        }
+    }
+    Ok(mixings(found))
 }
 
 // A plan and loops that pass, in the words of a words text.
@@ -325,6 +360,7 @@ fn library(example: &Example) -> Option<String> {
             let text = ran(example, |loops, order, store| entries::run_in(words, loops, order, store));
             alike(vec![text, ran(example, |loops, order, store| run_table(words, loops, order, store))])
         }
+        ("loops", "mixings") => either(library_mixings(words, &example.text("loops"), &held(&example.store()))),
         _ => return None,
     })
 }
@@ -430,6 +466,11 @@ fn second(example: &Example) -> String {
         "command" => command(&reply(&["translate"])),
         "value" => reply(&["value", &given("inputs")]),
         "run" => ran(example, |loops, order, store| reference::run_text_in(words, loops, order, store)),
+        "mixings" => {
+            let loops = example.text("loops");
+            let rows = read_into(4096, |kinds, numbers| reference::read_loops_in(words, &loops, kinds, numbers));
+            rows.map_or_else(|refusal| refusal, |rows| mixings(mixed(rows, &held(&example.store()))))
+        }
         "fill" => reply(&["values", &given("input cells")]),
         "runner" => on_one_line(&reference::runner_in(words, &example.text("loops"), &example.text("values"))),
         _ => panic!("{}: nobody answers {asked}", example.name),

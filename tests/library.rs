@@ -1,6 +1,7 @@
 // The static library beside the second implementation: random plans, whole and damaged, are checked and translated by both; what is
 // translated is run by the library in its three orders ([9.10]) on a random store, and the output is compared with the plan's value
-// ([9.8]) as the second implementation finds it from the formulas. Damaged loops are checked by both.
+// ([9.8]) as the second implementation finds it from the formulas, the whole store with that of order 0 ([9.14]). Damaged loops are checked
+// by both.
 //
 //   library COUNT
 #[allow(dead_code)]
@@ -52,6 +53,7 @@ fn run(plan: &[u8], loops: &[u8], numbers: &mut plans::Numbers) {
     let list: Vec<String> = cells[..inputs].iter().map(|c| c.to_string()).collect();
     let value = reference::reply(&["value".into(), list.join(",")], plan);
     let value: Vec<i32> = value.split_whitespace().map(|v| v.parse().unwrap()).collect();
+    let mut forward = Vec::new();
     for order in 0..3 {
         let mut store = before.clone();
         same("writes", plan, entries::run(loops, order, &mut store), counts[3].into());
@@ -59,6 +61,11 @@ fn run(plan: &[u8], loops: &[u8], numbers: &mut plans::Numbers) {
         assert_eq!(after[inputs..inputs + value.len()], value, "order {order} of\n{}", String::from_utf8_lossy(plan));
         assert_eq!(after[..inputs], cells[..inputs], "an input has changed");
         assert_eq!(store[4 * need..], before[4 * need..], "a cell past the need has changed");
+        if order == 0 {
+            forward = store;
+        } else {
+            assert!(store == forward, "order {order} leaves another store than order 0, of\n{}", String::from_utf8_lossy(plan));
+        }
     }
     let mut short = before[..4 * need - 1].to_vec();
     same("a store too short", plan, entries::run(loops, 0, &mut short), "no,14,0".into());
@@ -82,5 +89,5 @@ fn main() {
             texts += 1;
         }
     }
-    println!("{texts} texts answered alike by the library and the second implementation; {runs} runs give the plan's value and writes");
+    println!("{texts} texts answered alike by the library and the second implementation; {runs} runs give the plan's value and writes, each plan's the same whole store");
 }

@@ -58,19 +58,20 @@ module _ (ks : List ℕ) (ns : List ℤ) (es cs : List ℕ) (E : Ends ks es) (F 
 
 -- ---- writes and rooms
 
-capped-product : (n w : ℕ) → min (n * min w 16777217) 16777217 ≡ min (n * w) 16777217
-capped-product zero w = omega (arith, zero-mul w, zero-mul (min w 16777217))
-capped-product (suc n) w = go (leb w 16777217) refl
+-- a product is capped alike from a capped factor
+capped-product : (m n x : ℕ) → min (n * min x m) m ≡ min (n * x) m
+capped-product m zero x = omega (arith, zero-mul x, zero-mul (min x m))
+capped-product m (suc n) x = go (leb x m) refl
   where
-    go : (b : Bool) → leb w 16777217 ≡ b → min (suc n * min w 16777217) 16777217 ≡ min (suc n * w) 16777217
+    go : (b : Bool) → leb x m ≡ b → min (suc n * min x m) m ≡ min (suc n * x) m
     go true e =
-        let l = leb-true w 16777217 e in
-        let m : min w 16777217 ≡ w = omega arith in
-        ap (λ (x : ℕ). min (suc n * x) 16777217) m
+        let l = leb-true x m e in
+        let f : min x m ≡ x = omega arith in
+        ap (λ (y : ℕ). min (suc n * y) m) f
     go false e =
-        let l = leb-false w 16777217 e in
-        let m : min w 16777217 ≡ 16777217 = omega arith in
-        ap (λ (x : ℕ). min (suc n * x) 16777217) m ∙ (omega (arith, suc-mul n 16777217, suc-mul n w))
+        let l = leb-false x m e in
+        let f : min x m ≡ m = omega arith in
+        ap (λ (y : ℕ). min (suc n * y) m) f ∙ (omega (arith, suc-mul n m, suc-mul n x))
 
 module _ (ks : List ℕ) (ns : List ℤ) (es : List ℕ) (E : Ends ks es) where
   looped-writes : (kind : LoopKind) (n m x y : ℕ) → figureBy (loopWord kind) n m x y ≡ cappedWrites (n * x)
@@ -86,13 +87,13 @@ module _ (ks : List ℕ) (ns : List ℤ) (es : List ℕ) (E : Ends ks es) where
       (λ at p v x y. refl)
       (λ at c d. let e : cappedWrites (cappedWrites (commandWrites c) + cappedWrites (commandWrites d)) ≡ cappedWrites
       (commandWrites c + commandWrites d) = omega arith in e)
-      (λ at kind n c y. looped-writes kind n (getD ms at 0) (cappedWrites (commandWrites c)) y ∙ capped-product n (commandWrites c))
+      (λ at kind n c y. looped-writes kind n (getD ms at 0) (cappedWrites (commandWrites c)) y ∙ capped-product 16777217 n (commandWrites c))
       (λ at n c y. refl)
 
-  looped-room : (kind : LoopKind) (n x y : ℕ) → roomBy (loopWord kind) n x y ≡ x
-  unfolding roomBy
-  looped-room LoopKind.parallel n x y = refl
-  looped-room LoopKind.sequential n x y = refl
+  looped-room : (kind : LoopKind) (n : ℕ) (c : Command) (y : ℕ) → roomBy (loopWord kind) n (cappedRoom (room c)) y ≡ cappedRoom (room (loop kind n c))
+  unfolding roomBy room
+  looped-room LoopKind.parallel n c y = capped-product 281474976710656 n (room c)
+  looped-room LoopKind.sequential n c y = refl
 
   pub room-there : (rs : List ℕ) → Rooms ks ns es rs → (at : ℕ) (x : Command) → Stand ks ns at (commandRows x)
       → getD rs at 0 ≡ cappedRoom (room x)
@@ -101,5 +102,5 @@ module _ (ks : List ℕ) (ns : List ℤ) (es : List ℕ) (E : Ends ks es) where
       command-column ks ns es rs E (λ (p : ℕ). roomBy) (R .rule) (λ (x : Command). cappedRoom (room x))
       (λ at p v x y. refl)
       (λ at c d. let e : max (cappedRoom (room c)) (cappedRoom (room d)) ≡ cappedRoom (max (room c) (room d)) = omega arith in e)
-      (λ at kind n c y. looped-room kind n (cappedRoom (room c)) y)
+      (λ at kind n c y. looped-room kind n c y)
       (λ at n c y. let e : cappedRoom (n + cappedRoom (room c)) ≡ cappedRoom (n + room c) = omega arith in e)

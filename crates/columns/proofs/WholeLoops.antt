@@ -4,27 +4,26 @@ use mathlib.Core.Bool.{Bool, true, false, cond}
 use mathlib.Core.Path.{_≡_, refl, sym, ap, ap₂, subst, _∙_}
 use mathlib.Core.List.{List, [], _∷_, _++_, append-nil}
 use mathlib.Core.Option.{Option, none, some}
-use Prim.Native.Nat.{ℕ, suc, _+_, _-_, _*_, _≤_}
+use Prim.Native.Nat.{ℕ, suc, _+_, _≤_}
 use native.Mathlib.Omega.{arith}
 use lib.Dec.{eqb}
 use lib.IntN.{ℤ, pos}
-use lib.ListN.{length, getD, length-append}
+use lib.ListN.{length, getD}
 use Rattle.refusals.specs.declared.Refusal.{Refusal}
 use Rattle.refusals.specs.declared.Refusal.the-variants.{OffsetBound}
 use Rattle.words.specs.Kinds.{Row, rowsOf, word-loops, word-cells, word-for, word-par, word-new}
 use Rattle.words.specs.Laws.{rows-length}
-use Rattle.meaning.specs.Loops.{Command, Loops, seq, loop, new}
+use Rattle.meaning.specs.Loops.{Loops}
 use Rattle.meaning.specs.Rows.{commandRows, allCellsRows, loopsRows}
 use Rattle.meaning.specs.Counts.{commandWrites}
-use Rattle.meaning.specs.Layout.{room, allCells, need}
-use Rattle.syntax.specs.InRange.{CommandInRange, LoopsInRange}
+use Rattle.meaning.specs.Layout.{allCells, need}
 use Rattle.bounds.specs.Bounds.{askCommand, askBounds}
 use Rattle.columns.specs.declared.Asked.{Asked}
 use Rattle.columns.specs.declared.Asked.the-variants.{Passed, Refused}
 use Rattle.columns.specs.Table.{Stand}
 use Rattle.columns.specs.Ends.{Ends}
 use Rattle.columns.specs.Names.{closing, opensBy, pushIf, framed, inForce, numbersOf, Named}
-use Rattle.columns.specs.Figures.{cappedWrites, Figures, Rooms}
+use Rattle.columns.specs.Figures.{cappedWrites, cappedRoom, Figures, Rooms}
 use Rattle.columns.specs.Asking.{isAccess, noAt, firstFrom, noOn}
 use Rattle.columns.specs.Whole.{askedOn, asking}
 use Rattle.columns.proofs.Tables as table
@@ -61,16 +60,6 @@ framed-zero : (a b : ℕ) (ks es : List ℕ) → framed a b ks es 0 ≡ []
 unfolding framed
 framed-zero a b ks es = refl
 
--- ---- the room of loops in range is told as it is
-
-command-room : (K k r : ℕ) (x : Command) → CommandInRange K k r x → room x ≤ length (commandRows x) * 4096
-unfolding room commandRows
-command-room K k r (Command.assignment p v) h = omega arith
-command-room K k r (seq c d) h =
-    omega (arith, command-room K k r c (h .0), command-room K k r d (h .1), length-append (commandRows c) (commandRows d))
-command-room K k r (loop kind n b) h = omega (arith, command-room K (k + 1) r b (h .2))
-command-room K k r (new n b) h = omega (arith, command-room K k (r + 1) b (h .2), h .0)
-
 -- ---- the answer
 
 -- from the line of the first "no"
@@ -86,7 +75,7 @@ told-on line w c = go (eqb line 0)
     go true = refl
     go false = refl
 
-told-asking : (w c : ℕ) (o : Option Refusal) → told (cappedWrites w) c o ≡ asking w c o
+told-asking : (w c : ℕ) (o : Option Refusal) → told (cappedWrites w) (cappedRoom c) o ≡ asking w c o
 told-asking w c none = refl
 told-asking w c (some q) = refl
 
@@ -95,8 +84,8 @@ pub asking-refused : (w c : ℕ) (o : Option Refusal) (q : Refusal) → Refused 
 asking-refused w c none q e = absurd (let z : _≡_ {A = ℕ} 0 1 = cc in omega arith)
 asking-refused w c (some p) q e = let x : p ≡ q = cc in ap some x
 
-pub asking-passed : (v n w c : ℕ) (o : Option Refusal) → Passed v n ≡ asking w c o → (o ≡ none) × (v ≡ cappedWrites w) × (n ≡ c)
-asking-passed v n w c none e = let x : v ≡ cappedWrites w = cc in let y : n ≡ c = cc in (refl, x, y)
+pub asking-passed : (v n w c : ℕ) (o : Option Refusal) → Passed v n ≡ asking w c o → (o ≡ none) × (v ≡ cappedWrites w) × (n ≡ cappedRoom c)
+asking-passed v n w c none e = let x : v ≡ cappedWrites w = cc in let y : n ≡ cappedRoom c = cc in (refl, x, y)
 asking-passed v n w c (some p) e = absurd (let z : _≡_ {A = ℕ} 0 1 = cc in omega arith)
 
 module _ (ks : List ℕ) (ns : List ℤ) (es ms fs rs : List ℕ) (E : Ends ks es) (N : Named ks ns es ms) (F : Figures ks ns es ms fs)
@@ -167,21 +156,17 @@ module _ (ks : List ℕ) (ns : List ℤ) (es ms fs rs : List ℕ) (E : Ends ks e
 
   -- ---- the need
 
-  need-here : LoopsInRange L → (q c v : ℕ) → q ≡ 2 + length (L .inputs) → c ≡ allCells (L .inputs) + L .output → v ≡ getD rs q 0 → c + v ≡ need L
+  need-here : (q c v : ℕ) → q ≡ 2 + length (L .inputs) → c ≡ allCells (L .inputs) + L .output → v ≡ cappedRoom (c + getD rs q 0) → v ≡ cappedRoom (need L)
   unfolding need
-  need-here h q c v i f g =
-      let s = command-here q i in
-      let t = room-there ks ns es E rs R q (L .command) s in
-      let u = command-room (length (L .inputs)) 0 0 (L .command) (h .command) in
-      omega (arith, t, u, g, f, s .within)
+  need-here q c v i f g = let t = room-there ks ns es E rs R q (L .command) (command-here q i) in omega (arith, t, g, f)
 
-  pub answered : LoopsInRange L → (ins : List ℕ) (out q line w c v : ℕ) → ins ≡ L .inputs → out ≡ L .output → q ≡ 2 + length (L .inputs)
-      → firstFrom (noAt ks ns ms fs ins out) 0 (length ks) ≡ noOn line → w ≡ getD fs q 0 → c ≡ allCells ins + out → v ≡ getD rs q 0
-      → askedOn line w (c + v) ≡ asking (commandWrites (L .command)) (need L) (askBounds L)
-  answered h ins out q line w c v a b i f x y z =
-      told-on line w (c + v)
+  pub answered : (ins : List ℕ) (out q line w c v : ℕ) → ins ≡ L .inputs → out ≡ L .output → q ≡ 2 + length (L .inputs)
+      → firstFrom (noAt ks ns ms fs ins out) 0 (length ks) ≡ noOn line → w ≡ getD fs q 0 → c ≡ allCells ins + out → v ≡ cappedRoom (c + getD rs q 0)
+      → askedOn line w v ≡ asking (commandWrites (L .command)) (need L) (askBounds L)
+  answered ins out q line w c v a b i f x y z =
+      told-on line w v
       ∙ ap₂ (λ (m n : ℕ). told m n (noOn line)) (x ∙ writes-there ks ns es E ms fs F q (L .command) (command-here q i))
-      (need-here h q c v i (y ∙ ap₂ (λ (l : List ℕ) (o : ℕ). allCells l + o) a b) z)
-      ∙ ap (told (cappedWrites (commandWrites (L .command))) (need L))
+      (need-here q c v i (y ∙ ap₂ (λ (l : List ℕ) (o : ℕ). allCells l + o) a b) z)
+      ∙ ap (told (cappedWrites (commandWrites (L .command))) (cappedRoom (need L)))
       (sym f ∙ ap₂ (λ (l : List ℕ) (o : ℕ). firstFrom (noAt ks ns ms fs l o) 0 (length ks)) a b ∙ asked-whole q i)
       ∙ told-asking (commandWrites (L .command)) (need L) (askBounds L)

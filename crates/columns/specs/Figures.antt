@@ -1,5 +1,5 @@
 -- The figure of a row, an offset's bound ([10.20]) or a command's writes ([7.1]), and the room of a command's regions ([7.4]): the rules
--- that the pass keeps at every row. Definitions only; assumes nothing.
+-- that the passes keep at every row. Definitions only; assumes nothing.
 use mathlib.Core.Bool.{Bool, cond, _||_}
 use mathlib.Core.Path.{_≡_}
 use mathlib.Core.List.{List}
@@ -50,14 +50,16 @@ figureAt ks ns m p x y = figureBy (getD ks p 0) (asNatural (getD ns p (pos 0))) 
 
 -- ---- the room
 
--- 4,294,967,295 stands for every greater room
+-- 2^48 stands for every greater room, and for every greater need
 abbrev pub cappedRoom : ℕ → ℕ
-cappedRoom x = min x 4294967295
+cappedRoom x = min x 281474976710656
 
 -- [7.4] the room of a command's row, x and y being those of its operands
 unfoldable pub roomBy : ℕ → ℕ → ℕ → ℕ → ℕ
 roomBy k n x y =
-    cond (eqb k word-set) 0 (cond (eqb k word-seq) (max x y) (cond (eqb k word-new) (cappedRoom (n + x)) x))
+    cond (eqb k word-set) 0
+    (cond (eqb k word-seq) (max x y)
+    (cond (eqb k word-new) (cappedRoom (n + x)) (cond (eqb k word-par) (cappedRoom (n * x)) x)))
 
 abbrev pub roomAt : List ℕ → List ℤ → ℕ → ℕ → ℕ → ℕ
 roomAt ks ns p x y = roomBy (getD ks p 0) (asNatural (getD ns p (pos 0))) x y

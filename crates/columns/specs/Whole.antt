@@ -13,22 +13,20 @@ use Rattle.meaning.specs.Loops.{Loops}
 use Rattle.meaning.specs.Rows.{loopsRows}
 use Rattle.meaning.specs.Counts.{commandWrites}
 use Rattle.meaning.specs.Layout.{need}
-use Rattle.syntax.specs.InRange.{LoopsInRange}
 use Rattle.bounds.specs.Bounds.{askBounds}
 use Rattle.columns.specs.declared.Asked.{Asked}
 use Rattle.columns.specs.declared.Asked.the-variants.{Passed, Refused}
-use Rattle.columns.specs.Figures.{cappedWrites}
+use Rattle.columns.specs.Figures.{cappedWrites, cappedRoom}
 
 -- the answer with the "no" on a line, 0 being none
 abbrev pub askedOn : ℕ → ℕ → ℕ → Asked
 askedOn line writes cells = cond (eqb line 0) (Passed writes cells) (Refused (OffsetBound line))
 
--- the answer with the first "no"
+-- the answer with the first "no"; neither number is told beyond its cap
 abbrev pub asking : ℕ → ℕ → Option Refusal → Asked
-asking writes cells none = Passed (cappedWrites writes) cells
+asking writes cells none = Passed (cappedWrites writes) (cappedRoom cells)
 asking writes cells (some q) = Refused q
 
 -- [10.9], [7.1], [7.4] of the loops whose rows fill a table
 abbrev pub AsksLoops : List ℕ → List ℤ → Asked → Type 0
-AsksLoops ks ns r =
-    (L : Loops) → rowsOf ks ns ≡ loopsRows L → LoopsInRange L → r ≡ asking (commandWrites (L .command)) (need L) (askBounds L)
+AsksLoops ks ns r = (L : Loops) → rowsOf ks ns ≡ loopsRows L → r ≡ asking (commandWrites (L .command)) (need L) (askBounds L)

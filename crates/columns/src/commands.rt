@@ -1,7 +1,7 @@
-// What a command's row adds to the writes and to the room of its operands.
+// What a command's row adds to the writes of its operands.
 ghost use mathlib.Core.Path.{_≡_};
-ghost use Prim.Native.Nat.{min, max, _+_, _≤_};
-ghost use Rattle.columns.specs.Figures.{writesBy, isCommand, figureBy, roomBy};
+ghost use Prim.Native.Nat.{min, _≤_};
+ghost use Rattle.columns.specs.Figures.{writesBy, isCommand, figureBy};
 use crate::offsets::row_bound;
 use words::kinds::*;
 
@@ -60,43 +60,4 @@ pub fn row_figure(kind: u8, n: usize, named: usize, first: usize, second: usize)
         return row_writes(kind, n, first, second);
     }
     row_bound(kind, n, named, first, second)
-}
-
-// A sum of cells, 4,294,967,295 standing for every greater one.
-fn capped_sum(x: usize, y: usize) -> usize
-    requires { ⌜ (x ≤ 4294967295) × (y ≤ 4294967295) ⌝ }
-    ensures { λ r. ⌜ (r ≡ min (x + y) 4294967295) × (r ≤ 4294967295) ⌝ }
-{
-    if 4294967295 < x + y {
-        return 4294967295;
-    }
-    x + y
-}
-
-// The greater of two rooms.
-fn greater(x: usize, y: usize) -> usize
-    requires { ⌜ (x ≤ 4294967295) × (y ≤ 4294967295) ⌝ }
-    ensures { λ r. ⌜ (r ≡ max x y) × (r ≤ 4294967295) ⌝ }
-{
-    if x < y {
-        return y;
-    }
-    x
-}
-
-// [7.4] The room of a command's regions.
-pub fn row_room(kind: u8, n: usize, first: usize, second: usize) -> usize
-    requires { ⌜ (n ≤ 2147483648) × (first ≤ 4294967295) × (second ≤ 4294967295) ⌝ }
-    ensures { λ r. ⌜ (r ≡ roomBy kind n first second) × (r ≤ 4294967295) ⌝ }
-{
-    if kind == WORD_SET {
-        return 0;
-    }
-    if kind == WORD_SEQ {
-        return greater(first, second);
-    }
-    if kind == WORD_NEW {
-        return capped_sum(n, first);
-    }
-    first
 }

@@ -18,6 +18,12 @@ fn wide_count(x: u32) -> usize
     x as usize
 }
 
+fn wide_room(x: u64) -> usize
+    ensures { λ r. ⌜ r ≡ x ⌝ }
+{
+    x as usize
+}
+
 // A column of counts, and the numbers of a table, at a row that they have.
 pub fn count(counts: &[u32], i: usize) -> usize
     requires { ⌜ i < length (now counts) ⌝ }
@@ -49,6 +55,16 @@ pub fn count_at(counts: &[u32], i: usize) -> usize
 {
     if i < counts.len() {
         return wide_count(counts[i]);
+    }
+    0
+}
+
+// A column of rooms.
+pub fn cells_at(rooms: &[u64], i: usize) -> usize
+    ensures { λ r. ⌜ r ≡ getD (now (rooms .entry)) i 0 ⌝ }
+{
+    if i < rooms.len() {
+        return wide_room(rooms[i]);
     }
     0
 }

@@ -1,15 +1,14 @@
-// The bounds of offsets, the writes and the rooms of commands, and question 9: one pass from the last row to the first.
+// The bounds of offsets, the writes of commands, and question 9: one pass from the last row to the first.
 ghost use mathlib.Core.Bool.{cond};
 ghost use mathlib.Core.Path.{_≡_};
 ghost use Prim.Native.Nat.{_+_, _≤_, _<_};
 ghost use lib.ListN.{length, getD};
 ghost use Rattle.syntax.specs.Ranges.{cellNumbers};
 ghost use Rattle.columns.specs.Ends.{Ends};
-ghost use Rattle.columns.specs.Figures.{figureAt, roomAt, Figures, Rooms};
+ghost use Rattle.columns.specs.Figures.{figureAt, Figures};
 ghost use Rattle.columns.specs.Asking.{noAt, firstFrom, noOn};
 use crate::accesses::is_refused;
 use crate::commands::row_figure;
-use crate::commands::row_room;
 use crate::entries::count;
 use crate::entries::count_at;
 use crate::entries::number;
@@ -43,17 +42,6 @@ fn figure_at(kinds: &[u8], numbers: &[i32], ends: &[u16], figures: &[u32], q: us
     )
 }
 
-// The room of row q.
-fn room_at(kinds: &[u8], numbers: &[i32], ends: &[u16], rooms: &[u32], q: usize) -> usize
-    requires { ⌜ (length (now kinds) ≡ length (now numbers)) × (q < length (now kinds)) × (q ≤ 4095) ⌝ }
-    ensures { λ r. ⌜ (r ≡ roomAt (now (kinds .entry)) (now (numbers .entry)) q (getD (now (rooms .entry)) (q + 1) 0)
-        (getD (now (rooms .entry)) (getD (now (ends .entry)) (q + 1) 0) 0)) × (r ≤ 4294967295) ⌝ }
-{
-    let first = count_at(rooms, q + 1);
-    let second = count_at(rooms, row_at(ends, q + 1));
-    row_room(kinds[q], number(numbers, q), first, second)
-}
-
 // Whether row q is answered "no".
 fn no_at(
     kinds: &[u8],
@@ -76,8 +64,8 @@ fn no_at(
     )
 }
 
-// Puts at every offset's row its bound, at every command's row its writes and its room. Before, `figures` has at `ctr` and `loc` rows the
-// number of the row that they name. The line of the first "no", or 0.
+// Puts at every offset's row its bound, at every command's row its writes. Before, `figures` has at `ctr` and `loc` rows the number of the
+// row that they name. The line of the first "no", or 0.
 pub fn fill(
     kinds: &[u8],
     numbers: &[i32],
@@ -85,13 +73,11 @@ pub fn fill(
     inputs: &[i32],
     output: usize,
     figures: &mut [u32],
-    rooms: &mut [u32],
 ) -> usize
     requires { ⌜ (length (now kinds) ≡ length (now numbers)) × (length (now kinds) ≤ 4096) × Ends (now kinds) (now ends) ⌝ }
-    requires long { ⌜ (length (now kinds) ≤ length (now figures)) × (length (now kinds) ≤ length (now rooms)) ⌝ }
-    ensures kept { λ _. ⌜ (length (now (figures .exit)) ≡ length (now (figures .entry))) × (length (now (rooms .exit)) ≡ length (now (rooms .entry))) ⌝ }
+    requires long { ⌜ length (now kinds) ≤ length (now figures) ⌝ }
+    ensures kept { λ _. ⌜ length (now (figures .exit)) ≡ length (now (figures .entry)) ⌝ }
     ensures figures { λ _. ⌜ Figures (now (kinds .entry)) (now (numbers .entry)) (now (ends .entry)) (now (figures .entry)) (now (figures .exit)) ⌝ }
-    ensures rooms { λ _. ⌜ Rooms (now (kinds .entry)) (now (numbers .entry)) (now (ends .entry)) (now (rooms .exit)) ⌝ }
     ensures line { λ r. ⌜ firstFrom (noAt (now (kinds .entry)) (now (numbers .entry)) (now (figures .entry)) (now (figures .exit)) (cellNumbers (now (inputs .entry))) output)
         0 (length (now (kinds .entry))) ≡ noOn r ⌝ }
 {
@@ -101,10 +87,8 @@ pub fn fill(
         q -= 1;
         let refused = no_at(kinds, numbers, figures, inputs, output, q);
         let figure = figure_at(kinds, numbers, ends, figures, q);
-        let room = room_at(kinds, numbers, ends, rooms, q);
         line = first_line(refused, q, line);
         figures[q] = figure as u32;
-        rooms[q] = room as u32;
     }
     line
 }

@@ -6,6 +6,7 @@ ghost use lib.ListN.{length};
 ghost use Rattle.meaning.specs.Layout.{allCells};
 ghost use Rattle.syntax.specs.Ranges.{cellNumbers};
 ghost use Rattle.columns.specs.Whole.{askedOn, AsksLoops};
+use crate::entries::cells_at;
 use crate::entries::count_at;
 use refusals::Refusal;
 use syntax::ranges;
@@ -17,8 +18,10 @@ pub mod entries;
 mod figures;
 pub mod names;
 mod offsets;
+pub mod rooms;
 
-// The writes of loops, 16,777,217 standing for every number above 16,777,216, and the cells that they need; or the first "no" to question 9.
+// The writes of loops, 16,777,217 standing for every number above 16,777,216, and the cells that they need, 2^48 standing for every greater
+// number; or the first "no" to question 9.
 pub enum Asked {
     Passed { writes: usize, need: usize },
     Refused(Refusal),
@@ -56,7 +59,7 @@ fn ask_with(
     counters: &mut [u16],
     regions: &mut [u16],
     figures: &mut [u32],
-    rooms: &mut [u32],
+    rooms: &mut [u64],
 ) -> Asked
     requires { ⌜ (length (now kinds) ≡ length (now numbers)) × (length (now kinds) ≤ 4096) × (suc (length (now kinds)) ≤ length (now ends)) ⌝ }
     requires long { ⌜ (length (now kinds) ≤ length (now counters)) × (length (now kinds) ≤ length (now regions))
@@ -75,20 +78,13 @@ fn ask_with(
     let output = ranges::natural(numbers[end]);
     ends::fill(kinds, ends);
     names::fill(kinds, numbers, ends, counters, regions, figures);
-    let line = figures::fill(
-        kinds,
-        numbers,
-        ends,
-        &numbers[1..end],
-        output,
-        figures,
-        rooms,
-    );
+    let line = figures::fill(kinds, numbers, ends, &numbers[1..end], output, figures);
+    rooms::fill(kinds, numbers, ends, rooms);
     let cells = all_cells(&numbers[1..end]) + output;
     answer(
         line,
         count_at(figures, command),
-        cells + count_at(rooms, command),
+        rooms::capped_sum(cells, cells_at(rooms, command)),
     )
 }
 
@@ -101,7 +97,7 @@ fn ask_short(kinds: &[u8], numbers: &[i32]) -> Asked
     let mut counters = [0u16; 128];
     let mut regions = [0u16; 128];
     let mut figures = [0u32; 128];
-    let mut rooms = [0u32; 128];
+    let mut rooms = [0u64; 128];
     ask_with(
         kinds,
         numbers,
@@ -125,7 +121,7 @@ pub fn ask_loops(kinds: &[u8], numbers: &[i32]) -> Asked
     let mut counters = [0u16; 4096];
     let mut regions = [0u16; 4096];
     let mut figures = [0u32; 4096];
-    let mut rooms = [0u32; 4096];
+    let mut rooms = [0u64; 4096];
     ask_with(
         kinds,
         numbers,

@@ -144,7 +144,7 @@ cards =
     ("P1", translated example, made (text exampleLoops) 25 4 4)
     ∷ eachOrder "P1" example (numbers (4 ∷ 5 ∷ 0 ∷ 0 ∷ [])) (finished 4 (numbers (9 ∷ [])))
     -- [15.2] P2 to P10
-    ++ eachOrder "P2" groups (numbers (10 ∷ 11 ∷ 12 ∷ 13 ∷ 14 ∷ 15 ∷ 0 ∷ 0 ∷ 0 ∷ 0 ∷ []))
+    ++ eachOrder "P2" groups (numbers (10 ∷ 11 ∷ 12 ∷ 13 ∷ 14 ∷ 15 ∷ 0 ∷ 0 ∷ 0 ∷ 0 ∷ 0 ∷ 0 ∷ []))
     (finished 12 (numbers (21 ∷ 25 ∷ 29 ∷ [])))
     ++ ("P3", checked "plan,1 arr,7 num,0 split,3 in,0", refused 7 4)
     ∷ ("P4", checked "plan,1 arr,2 num,0 idx,1 in,0", passes)

@@ -100,6 +100,11 @@ P2 =
     (Term.map LoopKind.parallel (Term.split 2 (Term.input 0))
     (Term.reduce (Term.literal (pos 0)) (Term.variable 0) total))
 
+-- [7.4] 6 cells of the input, 3 of the output, and one for the total of each of the 3 rounds
+p2-need : need (translation P2) ≡ 12
+unfolding need room translation writeTerm useTerm writeMap useReduce assign useWritten
+p2-need = refl
+
 p2-value : flatten (value clamped32 (listOf (10 ∷ 11 ∷ 12 ∷ 13 ∷ 14 ∷ 15 ∷ []) ∷ []) (P2 .term) [])
     ≡ numbers (21 ∷ 25 ∷ 29 ∷ [])
 unfolding value operate sum clamp

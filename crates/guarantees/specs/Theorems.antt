@@ -1,8 +1,9 @@
--- The three demands and the twins, proved. The proofs stand in Laws.
+-- The three demands, the twins and the mixings of any loops, proved. The proofs stand in Laws.
 use mathlib.Core.Path.{_≡_, refl, sym, ap, _∙_, subst}
 use mathlib.Core.List.{List}
 use Prim.Native.Nat.{ℕ}
 use native.Mathlib.Omega.{arith}
+use lib.IntN.{ℤ}
 use lib.ListN.{length}
 use Rattle.refusals.specs.declared.Answer.the-variants.{Told, Refused}
 use Rattle.words.specs.Kinds.{Row, rowsOf}
@@ -19,11 +20,16 @@ use Rattle.lines.specs.declared.Limits.{Limits}
 use Rattle.meaning.specs.Terms.{Plan}
 use Rattle.meaning.specs.Loops.{Loops}
 use Rattle.meaning.specs.Layout.{need, regionsFrom}
+use Rattle.meaning.specs.Numbers.{clamped32}
 use Rattle.meaning.specs.Runs.{startOf}
+use Rattle.meaning.specs.NamedOrders.{forward}
 use Rattle.meaning.specs.Rows.{loopsRows}
 use Rattle.meaning.specs.Counts.{planWrites}
 use Rattle.meaning.specs.Limits.{TouchesBelow}
 use Rattle.meaning.specs.Translation.{translation}
+use Rattle.meaning.specs.Theorems.{named-run}
+use Rattle.mixing.specs.Mixing.{forwardRun}
+use Rattle.mixing.specs.Theorems.{mixing-is-cores, run-is-mixing, mixing-without-races}
 use Rattle.syntax.specs.Theorems.{loops-unique}
 use Rattle.typing.specs.Questions.{ask, AllYes}
 use Rattle.typing.specs.EntryQuestions.{readQuestions}
@@ -35,9 +41,11 @@ use Rattle.loops.specs.Check.{checkTable, checkLoopsText}
 use Rattle.loops.specs.TextTheorems as texts
 use Rattle.loops.specs.TableTheorems as tables
 use Rattle.guarantees.specs.Told.{toldWrites, toldNeed}
+use Rattle.guarantees.specs.Runs.{runInOrder}
 use Rattle.guarantees.specs.Demand1.{Demand1}
 use Rattle.guarantees.specs.Demand2.{TellsOf, Safe, Demand2}
 use Rattle.guarantees.specs.Demand3.{Demand3}
+use Rattle.guarantees.specs.Mixings.{Mixings}
 use Rattle.guarantees.specs.Demands.{DemandsFor, Demands}
 use Rattle.guarantees.specs.Laws.PlanEntries as plans
 use Rattle.guarantees.specs.Laws.LoopsEntries as entries
@@ -139,6 +147,17 @@ module _ (ws : List (List ℕ)) (good : Good ws) where
         delivered ws good t y,
       )
 
+mixings-forward : (L : Loops) (s : List ℤ) → forwardRun clamped32 L s ≡ runInOrder 0 L s
+unfolding forward
+mixings-forward L s = named-run clamped32 forward L s
+
+pub mixings : Mixings
+mixings = record {
+  cores = mixing-is-cores;
+  run-mixed = run-is-mixing clamped32;
+  without-races = λ L free l m s. mixing-without-races clamped32 L free s l m ∙ mixings-forward L s;
+}
+
 for-good-words : (ws : List (List ℕ)) → Good ws → DemandsFor ws
 for-good-words ws good = (demand-1 ws good, demand-2 ws good, demand-3 ws good)
 
@@ -148,4 +167,5 @@ demands = record {
   built-in = for-good-words words words-good;
   own = λ w yes. for-good-words (ownWords w) (twins w .good yes);
   twins = twins;
+  mixings = mixings;
 }

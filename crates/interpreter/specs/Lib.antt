@@ -5,5 +5,6 @@ pub mod Orders
 -- What the contracts of parts say besides
 pub mod Exact
 pub mod Control
+pub mod Shifts
 pub mod Frames
 pub mod Interpreter

@@ -3,7 +3,7 @@ use mathlib.Core.Bool.{Bool, true, false, cond}
 use mathlib.Core.Path.{_≡_, sym, ap, ap₂, _∙_}
 use mathlib.Core.List.{List}
 use mathlib.Core.Option.{Option, none}
-use Prim.Native.Nat.{ℕ, _-_, _≤_, _<_, min}
+use Prim.Native.Nat.{ℕ, _≤_, _<_}
 use native.Mathlib.Omega.{arith}
 use borrow.Author.Tests.{le-leb, lt-leb}
 use lib.Dec.{leb}
@@ -16,6 +16,7 @@ use Rattle.meaning.specs.Loops.{Loops}
 use Rattle.meaning.specs.Rows.{loopsRows}
 use Rattle.meaning.specs.Layout.{need}
 use Rattle.meaning.specs.Counts.{commandWrites}
+use Rattle.meaning.specs.Theorems.{need-few}
 use Rattle.syntax.specs.InRange.{LoopsInRange}
 use Rattle.syntax.specs.Walk.{walkTable}
 use Rattle.syntax.specs.Reading.{loopsOf}
@@ -27,12 +28,14 @@ use Rattle.columns.specs.declared.Asked.{Asked}
 use Rattle.columns.specs.declared.Asked.the-variants.{Passed, Refused}
 use Rattle.bounds.specs.Bounds.{askBounds}
 use Rattle.loops.specs.Check.{askWrites, unless, checkLoops, afterAnswer, checkLoopsRows}
+use Rattle.loops.specs.Laws.Passing.{loops-pass}
+use Rattle.columns.specs.Figures.{cappedWrites, cappedRoom}
 use Rattle.columns.specs.Whole.{asking}
 use Rattle.columns.proofs.WholeLoops.{asking-refused, asking-passed}
 
 -- ---- the loops' answer, from the command's
 
-module _ (L : Loops) (w : Asked) (g : w ≡ asking (commandWrites (L .command)) (need L) (askBounds L)) where
+module _ (L : Loops) (w : Asked) (g : w ≡ asking (commandWrites (L .command)) (need L) (askBounds L)) (h : LoopsInRange L) where
   pub limits-refused : (q : Refusal) → w ≡ Refused q → checked.Refused q ≡ checkLoops L
   unfolding checkLoops
   limits-refused q f =
@@ -40,7 +43,7 @@ module _ (L : Loops) (w : Asked) (g : w ≡ asking (commandWrites (L .command)) 
       ap (λ (o : Option Refusal). unless o (askWrites L)) (sym a)
 
   module _ (v c : ℕ) (f : w ≡ Passed v c) where
-    passed : (askBounds L ≡ none) × (v ≡ min (commandWrites (L .command)) 16777217) × (c ≡ need L)
+    passed : (askBounds L ≡ none) × (v ≡ cappedWrites (commandWrites (L .command))) × (c ≡ cappedRoom (need L))
     passed = asking-passed v c (commandWrites (L .command)) (need L) (askBounds L) (sym f ∙ g)
 
     asked : (b : Bool) → leb (commandWrites (L .command)) 16777216 ≡ b
@@ -55,10 +58,13 @@ module _ (L : Loops) (w : Asked) (g : w ≡ asking (commandWrites (L .command)) 
         let m : 16777216 < commandWrites (L .command) = omega (arith, l, passed .1) in
         asked false (lt-leb (commandWrites (L .command)) 16777216 m)
 
+    -- so few writes leave the need below its cap
     pub limits-passes : v ≤ 16777216 → checked.Passes v c ≡ checkLoops L
     limits-passes l =
         let m : v ≡ commandWrites (L .command) = omega (arith, l, passed .1) in
-        ap₂ checked.Passes m (passed .2) ∙ asked true (le-leb (commandWrites (L .command)) 16777216 (omega (arith, l, m)))
+        let few = need-few L (loops-pass L h (passed .0)) (omega (arith, l, m)) in
+        let n : c ≡ need L = omega (arith, few, passed .2) in
+        ap₂ checked.Passes m n ∙ asked true (le-leb (commandWrites (L .command)) 16777216 (omega (arith, l, m)))
 
 -- ---- a table's answer, from the walk's
 

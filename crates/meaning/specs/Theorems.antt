@@ -3,7 +3,7 @@ use mathlib.Core.Path.{_≡_, refl, sym, _∙_, subst}
 use mathlib.Core.Logic.{_↔_, _⊎_}
 use mathlib.Core.List.{List, [], map, List·Permᴰ}
 use mathlib.Core.Option.{some}
-use Prim.Native.Nat.{ℕ, _+_, _≤_}
+use Prim.Native.Nat.{ℕ, _+_, _≤_, _<_}
 use native.Mathlib.Omega.{arith}
 use native.Mathlib.Nat.{le-refl, zero-add}
 use lib.ListN.{length, take, drop, replicate, length-replicate}
@@ -22,7 +22,6 @@ use Rattle.meaning.specs.NamedOrders.{forward, always}
 use Rattle.meaning.specs.Steps.{steps, doStep}
 use Rattle.meaning.specs.Translation.{translation}
 use Rattle.meaning.specs.Counts.{commandWrites, planWrites}
-use Rattle.meaning.specs.Rows.{loopsRows}
 use Rattle.meaning.specs.Limits.{LoopsPass, PlanWithin, TouchesBelow}
 use Rattle.meaning.specs.Demand3.{datumAt, planValue, Outcome, Demand3}
 use Rattle.meaning.specs.Laws.Typing.{well-typed}
@@ -36,7 +35,7 @@ use Rattle.meaning.specs.Laws.Runs.{run-choice, choice-run}
 use Rattle.meaning.specs.Laws.Arbiters.{arbiterOf, arbiter-fair, run-by-arbiter, run-by-name}
 use Rattle.meaning.specs.Laws.Steps.{run-does-steps, run-writes, run-length}
 use Rattle.meaning.specs.Laws.Safety.{loops-touch-below, beyond-kept}
-use Rattle.meaning.specs.Laws.Needs.{need-by-rows, need-reached}
+use Rattle.meaning.specs.Laws.Needs.{need-by-writes, need-reached}
 use Rattle.meaning.specs.Laws.PassingPlans.{translation-passes}
 
 -- [5.1] The relation of Figure 3 and the type check find the same types.
@@ -161,9 +160,9 @@ demand-3-on-cells = demand-3 clamped32
 pub safe-loops : (L : Loops) → LoopsPass L → TouchesBelow (need L) (L .command) (startOf L) (regionsFrom L)
 safe-loops L h = loops-touch-below L h
 
--- [7.4] Loops of at most 4,096 rows [13.5] that pass need at most 4,096 × 4,096 cells.
-pub need-few : (L : Loops) → LoopsPass L → length (loopsRows L) ≤ 4096 → need L ≤ 16777216
-need-few L h few = omega (arith, need-by-rows L h)
+-- [7.4] Loops that pass and make at most 16,777,216 writes [13.15] need fewer than 2^45 cells.
+pub need-few : (L : Loops) → LoopsPass L → commandWrites (L .command) ≤ 16777216 → need L < 35184372088832
+need-few L h few = omega (arith, need-by-writes L h)
 
 -- [7.4] The need is not a cell too great: where there are regions, one of them ends right before it.
 pub need-taken : (L : Loops) → LoopsPass L → (need L ≡ regionsFrom L) ⊎ EndsBefore (need L) (L .command) (regionsFrom L)

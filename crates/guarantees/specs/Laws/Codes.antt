@@ -1,4 +1,4 @@
--- What is told to C is what the library's entries tell: every value is far below 2^56. Assumes nothing.
+-- What is told to C is what the library's entries tell: every value is far below 2^56, a need below 2^45. Assumes nothing.
 use mathlib.Core.Bool.{Bool, true, false, cond}
 use mathlib.Core.Path.{_≡_, refl, sym, ap, ap₂, _∙_, subst}
 use mathlib.Core.List.{List, []}
@@ -21,7 +21,6 @@ use Rattle.lines.specs.declared.Heads.the-variants.{Words}
 use Rattle.meaning.specs.Numbers.{clamped32}
 use Rattle.meaning.specs.Loops.{Loops}
 use Rattle.meaning.specs.Counts.{commandWrites}
-use Rattle.meaning.specs.Rows.{loopsRows}
 use Rattle.meaning.specs.Theorems.{writes-of-run, need-few}
 use Rattle.syntax.specs.Reading.{loopsOf}
 use Rattle.syntax.specs.Theorems.{loops-read}
@@ -101,7 +100,7 @@ writes-code : (a : Checked) → ((w n : ℕ) → a ≡ loops.Passes w n → w �
 writes-code (loops.Passes w n) h = value-code w (omega (arith, h w n refl))
 writes-code (loops.Refused q) h = refusal-code q
 
-need-code : (a : Checked) → ((w n : ℕ) → a ≡ loops.Passes w n → n ≤ 16777216) → toldCode (answerCode (needOf a)) ≡ cut (toldNeed a)
+need-code : (a : Checked) → ((w n : ℕ) → a ≡ loops.Passes w n → n < 35184372088832) → toldCode (answerCode (needOf a)) ≡ cut (toldNeed a)
 need-code (loops.Passes w n) h = value-code n (omega (arith, h w n refl))
 need-code (loops.Refused q) h = refusal-code q
 
@@ -112,10 +111,10 @@ module _ (ws : List (List ℕ)) (good : Good ws) where
   few-rows : (t : List ℕ) (w n : ℕ) → checkLoopsText ws t ≡ loops.Passes w n → length (textRows ws t) ≤ 4096
   few-rows t w n e = read-few (headOf ws Words) loopsLimits t (length (textRows ws t)) (text-passes-exactly ws t w n .0 e .0)
 
-  need-small : (t : List ℕ) (w n : ℕ) → checkLoopsText ws t ≡ loops.Passes w n → n ≤ 16777216
+  need-small : (t : List ℕ) (w n : ℕ) → checkLoopsText ws t ≡ loops.Passes w n → n < 35184372088832
   need-small t w n e =
       let a = text-passes-exactly ws t w n .0 e .1 in
-      let few : length (loopsRows (a .loops)) ≤ 4096 = subst (λ (R : List Row). length R ≤ 4096) (a .rows) (few-rows t w n e) in
+      let few : commandWrites (a .loops .command) ≤ 16777216 = omega (arith, a .writes, a .writesFew) in
       omega (arith, need-few (a .loops) (a .passes) few, a .needs)
 
   -- the writes of a run of rows that pass

@@ -19,6 +19,7 @@ use Rattle.meaning.specs.Counts.{planWrites}
 use Rattle.meaning.specs.Demand3.{planValue}
 use Rattle.meaning.specs.Laws.Typing.{well-typed}
 use Rattle.meaning.specs.Theorems as meaning
+use Rattle.mixing.specs.Theorems.{demand-3-mixing, mixing-as-run}
 use Rattle.syntax.specs.Reading.{planOf, loopsOf}
 use Rattle.syntax.specs.Theorems.{loops-read}
 use Rattle.interpreter.specs.Orders.{runOf}
@@ -37,7 +38,7 @@ use Rattle.guarantees.specs.Ways.{MadeText, MadeTable}
 use Rattle.guarantees.specs.Runs.{runNamed}
 use Rattle.guarantees.specs.Demand3.{RanRightly, Delivered}
 use Rattle.guarantees.specs.Laws.Codes.{need-loops-c, run-text-c, run-rows-c}
-use Rattle.guarantees.specs.Laws.PrintedRuns.{come-to, every, printed-run}
+use Rattle.guarantees.specs.Laws.PrintedRuns.{come-to, every, mixings-leave, printed-run}
 use Rattle.guarantees.specs.Laws.Made.{Yes, the-plan, made-text, made-table, back, text-passes, rows-pass}
 use Rattle.words.specs.Good.{Good}
 
@@ -66,13 +67,15 @@ module _ (ws : List (List ℕ)) (good : Good ws) where
 
       ran-rightly : outcome r (storeOf c′ b′) ≡ finished st → RanRightly P c b (toldAnswer r) c′ b′
       ran-rightly e =
-          let o = every ws good t y (storeOf c b) long st (run-is-run L order (storeOf c b)) in
+          let runs = run-is-run L order (storeOf c b) in
+          let o = every ws good t y (storeOf c b) long st runs in
           let answer = ap (λ (x : Ran). x .answer) e in
           let store : storeOf c′ b′ ≡ st .store = ap (λ (x : Ran). x .store) e in
           record {
             told = ap toldAnswer answer ∙ ap Told.value (o .writesCounted);
             outcome = come-to ws good P (storeOf c b) (storeOf c′ b′) st store o;
             others = f;
+            mixings = mixings-leave ws good t y (storeOf c b) (storeOf c′ b′) long st runs store;
           }
 
       pub text-run : {u : List ℕ} → MadeText ws t u → order ≤ 2 → RunsText ws u order c b r c′ b′ → RanRightly P c b (toldAnswer r) c′ b′
@@ -97,7 +100,8 @@ module _ (ws : List (List ℕ)) (good : Good ws) where
     -- ---- what C is told
 
     told-c : (c c′ : List ℤ) (b b′ : List ℕ) (a r : Told) → r ≡ cut a → RanRightly P c b a c′ b′ → RanRightly P c b r c′ b′
-    told-c c c′ b b′ a r e h = record { told = e ∙ ap cut (h .told); outcome = h .outcome; others = h .others }
+    told-c c c′ b b′ a r e h =
+        record { told = e ∙ ap cut (h .told); outcome = h .outcome; others = h .others; mixings = h .mixings }
 
     need-told : {u : List ℕ} → MadeText ws t u → (r : Answer) → TellsNeed ws u r → toldAnswer r ≡ Told.value (need L)
     need-told {u} M r e =
@@ -110,6 +114,8 @@ module _ (ws : List (List ℕ)) (good : Good ws) where
       run-taken = λ π fair s. meaning.no-order-left-out clamped32 π fair L s;
       run-outcome = λ π fair s long. every ws good t y s long (runNamed π L s) (meaning.no-order-left-out clamped32 π fair L s);
       no-other-run = λ s st r. meaning.no-other-run clamped32 L s st r;
+      mixing-outcome = λ l m s long. demand-3-mixing clamped32 P (T .type) (T .well-typed) s long l m;
+      mixing-as-run = λ l m s long st r. mixing-as-run clamped32 P (T .type) (T .well-typed) s l m st r;
       need-told = λ u M r e. need-told M r e;
       need-told-c = λ u M r e. let a = need-loops-c ws good u r e in a .2 ∙ ap cut (need-told M (a .0) (a .1));
       text-run = λ u M order few c c′ b b′ r long f e. text-run order c c′ b b′ r long f M few e;

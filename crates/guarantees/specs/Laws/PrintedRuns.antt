@@ -1,5 +1,6 @@
--- Demand 3 of the runner: it prints the lines of the plan's value and of the writes counted from the plan. Assumes nothing.
-use mathlib.Core.Path.{_≡_, refl, sym, ap, _∙_, subst}
+-- Demand 3 of the runner: it prints the lines of the plan's value and of the writes counted from the plan; and that every mixing leaves what
+-- a run left. Assumes nothing.
+use mathlib.Core.Path.{_≡_, refl, sym, ap, ap₂, _∙_, subst}
 use mathlib.Core.List.{List, _++_, map}
 use Prim.Native.Nat.{ℕ, _≤_}
 use native.Mathlib.Omega.{arith}
@@ -23,9 +24,9 @@ use Rattle.meaning.specs.Counts.{planWrites}
 use Rattle.meaning.specs.Demand3.{planValue, Outcome}
 use Rattle.meaning.specs.Laws.Orders.{upFrom-length}
 use Rattle.meaning.specs.Theorems.{demand-3-on-cells}
+use Rattle.mixing.specs.Theorems.{mixing-as-run}
 use Rattle.syntax.specs.Reading.{planOf, loopsOf}
 use Rattle.syntax.specs.Theorems.{loops-read}
-use Rattle.interpreter.specs.Orders.{runOf}
 use Rattle.typing.specs.Questions.{Question, AllYes}
 use Rattle.typing.specs.Laws.Questions.{yes-append, yes-parts, end-asked}
 use Rattle.loops.specs.declared.Checked.the-variants as loops
@@ -40,7 +41,7 @@ use Rattle.guarantees.specs.Questions.{loopsDoor, loopsQuestions, storeR
 use Rattle.guarantees.specs.Runs.{runInOrder}
 use Rattle.guarantees.specs.Ways.{MadeText}
 use Rattle.guarantees.specs.Demand1.{TextLeft, ShowsRun}
-use Rattle.guarantees.specs.Demand3.{inputCount, PrintedRightly}
+use Rattle.guarantees.specs.Demand3.{inputCount, MixingsLeave, PrintedRightly}
 use Rattle.guarantees.specs.Laws.Doors.{loops-check-asks}
 use Rattle.guarantees.specs.Laws.LoopsEntries.{run-in-order}
 use Rattle.guarantees.specs.Laws.Programs.{print-run}
@@ -77,6 +78,14 @@ module _ (ws : List (List ℕ)) (good : Good ws) where
         let T : TextPlan ws t P = the-plan ws good t (y .door) (y .typed) in
         demand-3-on-cells P (T .type) (T .well-typed) s long .1
 
+    -- every mixing leaves what a run left
+    pub mixings-leave : (s s′ : List ℤ) → need L ≤ length s → (st : State clamped32) → RunOf clamped32 L s st → s′ ≡ st .store
+        → MixingsLeave P s s′
+    mixings-leave s s′ long st run e l m =
+        let T : TextPlan ws t P = the-plan ws good t (y .door) (y .typed) in
+        mixing-as-run clamped32 P (T .type) (T .well-typed) s l m st run
+        ∙ ap₂ (λ (x : List ℤ) (w : ℕ). record { store = x; writes = w }) (sym e) (every s long st run .writesCounted)
+
     module _ (v : List ℕ) (s : List ℤ) (long : need L ≤ length s) where
       abbrev held : List ℤ
       held = withValues v (inputCount P) s
@@ -91,13 +100,17 @@ module _ (ws : List (List ℕ)) (good : Good ws) where
       abbrev end : State clamped32
       end = runInOrder 0 L held
 
+      runs : RunOf clamped32 L held end
+      runs = subst (RunOf clamped32 L held) (run-in-order ws good 0 L held) (run-is-run L 0 held)
+
       ended : Outcome clamped32 P held end
-      ended = subst (Outcome clamped32 P held) (run-in-order ws good 0 L held) (every held held-long (runOf L 0 held) (run-is-run L 0 held))
+      ended = every held held-long end runs
 
       -- what the runner showed of the loops x, which are those of the plan
       shown : (s′ : List ℤ) (text : List ℕ) (x : Loops) → x ≡ L → ShowsRun v s s′ text x
           → (text ≡ finishedText (flatten (planValue clamped32 P held)) (planWrites P))
           × Outcome clamped32 P held (record { store = s′; writes = planWrites P })
+          × MixingsLeave P held s′
       unfolding translation
       shown s′ text x same h =
           let g : ShowsRun v s s′ text L = subst (ShowsRun v s s′ text) same h in (
@@ -105,6 +118,7 @@ module _ (ws : List (List ℕ)) (good : Good ws) where
                 ∙ ap (λ (w : ℕ). finishedText (outputCells L (end .store)) w) (ended .writesCounted)
                 ∙ ap (λ (z : List ℤ). finishedText z (planWrites P)) (ended .outputHolds),
             come-to P held s′ end (g .0) ended,
+            mixings-leave held s′ held-long end runs (g .0),
           )
 
       pub printed-run : {u : List ℕ} → MadeText ws t u → (s′ : List ℤ) (l l′ : List ℕ) (r : Answer) → PrintsRun ws u v s l r s′ l′
@@ -131,4 +145,5 @@ module _ (ws : List (List ℕ)) (good : Good ws) where
             a .0 ∙ ap (λ (z : List ℕ). Told.value (length z)) (d .0),
             subst (λ (z : List ℕ). TextLeft z l l′) (d .0) (a .1 .0),
             d .1,
+            d .2,
           )

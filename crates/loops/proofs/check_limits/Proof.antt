@@ -8,21 +8,21 @@ returns : tie.Need-returns
 returns c =
     let ask-loops = c .before .before .before .before .ask-loops in
     let asked2 = c .before .before .asked2 in
-    λ L e h. limits.limits-many L (ask-loops .result) (ask-loops .ensures L e h) (asked2 .given .0 .0) (asked2 .given .0 .1 .0)
+    λ L e h. limits.limits-many L (ask-loops .result) (ask-loops .ensures L e) h (asked2 .given .0 .0) (asked2 .given .0 .1 .0)
     (asked2 .given .1) (c .if1 .taken)
 
 returns-2 : tie.Need-returns-2
 returns-2 c =
     let ask-loops = c .before .before .before .ask-loops in
     let asked = c .before .asked in
-    λ L e h. limits.limits-refused L (ask-loops .result) (ask-loops .ensures L e h) _ (asked .given .1)
+    λ L e h. limits.limits-refused L (ask-loops .result) (ask-loops .ensures L e) h _ (asked .given .1)
 
 returns-3 : tie.Need-returns-3
 returns-3 c =
     let ask-loops = c .before .before .before .before .ask-loops in
     let asked2 = c .before .before .asked2 in
     let if1 = c .if1 in
-    λ L e h. limits.limits-passes L (ask-loops .result) (ask-loops .ensures L e h) (asked2 .given .0 .0) (asked2 .given .0 .1 .0)
+    λ L e h. limits.limits-passes L (ask-loops .result) (ask-loops .ensures L e) h (asked2 .given .0 .0) (asked2 .given .0 .1 .0)
     (asked2 .given .1) (if1 .left)
 
 pub check-limits-spec : {M : Type 1} → statement M

@@ -1,9 +1,9 @@
--- The laws of the layout, and all that the proofs use of it: the rooms of a command's parts lie inside its own, and
--- a `new`'s own cells lie outside its body's room. A room is its first cell and how many cells it has.
+-- The laws of the layout, and all that the proofs use of it: the rooms of a command's parts lie inside its own, a `new`'s own cells lie
+-- outside its body's room, and the rooms of two rounds of a `par` have no cell in common. A room is its first cell and how many cells it has.
 use mathlib.Core.Path.{_≡_, refl}
 use mathlib.Core.List.{List, [], _∷_, map}
-use Prim.Native.Nat.{ℕ, zero, suc, _+_, _≤_, _<_}
-use native.Mathlib.Nat.{not-suc-le-zero, le-of-suc-le-suc}
+use Prim.Native.Nat.{ℕ, zero, suc, _+_, _*_, _≤_, _<_}
+use native.Mathlib.Nat.{not-suc-le-zero, le-of-suc-le-suc, suc-mul, mul-le-mul-right}
 use lib.ListN.{length, getD}
 use native.Mathlib.Decide.{decLt}
 use native.Mathlib.Omega.{arith}
@@ -78,7 +78,17 @@ second-inside a c d = record { from = omega arith; below = omega arith }
 pub round-inside : (a : ℕ) (kind : LoopKind) (n : ℕ) (b : Command) (i : ℕ)
     → i < n → Part (roundRoom a kind n b i) (room b) a (room (loop kind n b))
 unfolding roundRoom room
-round-inside a kind n b i h = record { from = omega arith; below = omega arith }
+round-inside a LoopKind.parallel n b i h =
+    let fit : suc i * room b ≤ n * room b = mul-le-mul-right (room b) h in
+    record { from = omega arith; below = omega (arith, fit, suc-mul i (room b)) }
+round-inside a LoopKind.sequential n b i h = record { from = omega arith; below = omega arith }
+
+pub rounds-apart : (a n : ℕ) (b : Command) (i j : ℕ) → i < j
+    → Apart (roundRoom a LoopKind.parallel n b i) (room b) (roundRoom a LoopKind.parallel n b j) (room b)
+unfolding roundRoom
+rounds-apart a n b i j h =
+    let fit : suc i * room b ≤ j * room b = mul-le-mul-right (room b) h in
+    Apart.before (omega (arith, fit, suc-mul i (room b)))
 
 pub region-inside : (a c : ℕ) (b : Command) → Part (regionRoom a c b) c a (room (new c b))
 unfolding regionRoom room

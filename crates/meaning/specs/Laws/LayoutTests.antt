@@ -26,11 +26,12 @@ keep o v = Command.assignment (Place.region 0 (Offset.literal o)) (Value.literal
 abbrev putOut : Command
 putOut = Command.assignment (Place.output (Offset.literal 0)) (Value.region 0 (Offset.literal 0))
 
--- [7.4] Side by side the greater counts, whichever comes first; one in the other both; an unused one too; in a loop once.
+-- [7.4] Side by side the greater counts, whichever comes first; one in the other both; an unused one too; in a `for` once, in a `par` once
+-- a round, around a `par` once.
 needs : map (λ (c : Command). need (oneCell c))
     (seq (new 5 clear) (new 7 clear) ∷ seq (new 7 clear) (new 5 clear) ∷ new 5 (new 7 clear) ∷ new 2 (seq (new 3 clear) (new 4 clear))
-    ∷ loop LoopKind.sequential 9 (new 5 clear) ∷ [])
-    ≡ 8 ∷ 8 ∷ 13 ∷ 7 ∷ 6 ∷ []
+    ∷ loop LoopKind.sequential 9 (new 5 clear) ∷ loop LoopKind.parallel 9 (new 5 clear) ∷ new 5 (loop LoopKind.parallel 9 clear) ∷ [])
+    ≡ 8 ∷ 8 ∷ 13 ∷ 7 ∷ 6 ∷ 46 ∷ 6 ∷ []
 unfolding need room
 needs = refl
 

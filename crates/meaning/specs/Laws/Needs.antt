@@ -1,48 +1,65 @@
--- [7.4] Loops that pass need at most 4,096 cells for each of their rows; and the need is no cell greater than a region asks for.
+-- [7.4] How many cells loops that pass need at most, by their writes; and the need is no cell greater than a region asks for.
 use mathlib.Core.Bool.{Bool, true, false}
-use mathlib.Core.Path.{_≡_, refl, subst}
+use mathlib.Core.Path.{_≡_, refl, ap, subst, _∙_}
 use mathlib.Core.List.{List, [], _∷_}
 use mathlib.Core.Logic.{_⊎_, inl, inr}
-use Prim.Native.Nat.{ℕ, suc, _+_, _*_, _≤_, _<_, suc-le-suc}
+use Prim.Native.Nat.{ℕ, suc, _+_, _*_, _-_, _≤_, _<_, suc-le-suc}
+use native.Mathlib.Nat.{mul-zero, one-mul, suc-mul, mul-suc, mul-add, add-mul, mul-left-comm, mul-le-mul-left, mul-le-mul-right}
 use native.Mathlib.Omega.{arith}
-use lib.ListN.{length, length-append}
+use lib.ListN.{length}
 use borrow.Author.Tests.{leb-true, leb-false}
 use lib.Dec.{leb}
-use lib.IntN.{pos}
-use Rattle.words.specs.Kinds.{Row, word-cells}
 use Rattle.meaning.specs.Terms.{LoopKind}
 use Rattle.meaning.specs.Loops.{Command, Loops, seq, loop, new}
 use Rattle.meaning.specs.Layout.{room, firstRoom, secondRoom, roundRoom, regionRoom, bodyRoom, EndsBefore, allCells, regionsFrom, need}
 use Rattle.meaning.specs.Runs.{entry}
-use Rattle.meaning.specs.Rows.{commandRows, allCellsRows, loopsRows}
+use Rattle.meaning.specs.Counts.{commandWrites}
 use Rattle.meaning.specs.Limits.{IsCount, CommandPasses, LoopsPass}
 
-pub room-by-rows : (ins : List ℕ) (out : ℕ) (ns rs : List ℕ) (c : Command) → CommandPasses ins out ns rs c
-    → room c ≤ 4096 * length (commandRows c)
-unfolding room commandRows CommandPasses
-room-by-rows ins out ns rs (Command.assignment p v) h = omega arith
-room-by-rows ins out ns rs (seq c d) h =
-    let a = room-by-rows ins out ns rs c (h .0) in
-    let b = room-by-rows ins out ns rs d (h .1) in
-    omega (arith, a, b, length-append (commandRows c) (commandRows d))
-room-by-rows ins out ns rs (loop kind n b) h = let a = room-by-rows ins out (n ∷ ns) rs b (h .2) in omega (arith, a)
-room-by-rows ins out ns rs (new c b) h =
-    let a = room-by-rows ins out ns (c ∷ rs) b (h .2) in omega (arith, a, h .0 .1)
+rounds-by-writes : (m : ℕ) (kind : LoopKind) (n : ℕ) (b : Command) → 1 ≤ n → (1 ≤ commandWrites b) × (room b ≤ m * commandWrites b)
+    → (1 ≤ n * commandWrites b) × (room (loop kind n b) ≤ m * (n * commandWrites b))
+unfolding room
+rounds-by-writes m kind n b l h = go kind
+  where
+    a-round : commandWrites b ≤ n * commandWrites b
+    a-round = let r = mul-le-mul-right (commandWrites b) l in omega (arith, r, one-mul (commandWrites b))
 
-pub cells-by-rows : (cs : List ℕ) → ((k : ℕ) → k < length cs → IsCount (entry cs k))
-    → allCells cs ≤ 4096 * length (allCellsRows cs)
-unfolding allCellsRows
-cells-by-rows [] h = omega arith
-cells-by-rows (c ∷ cs) h =
-    let a = cells-by-rows cs (λ k l. h (suc k) (suc-le-suc l)) in omega (arith, a, h 0 (omega arith) .1)
+    go : (k : LoopKind) → (1 ≤ n * commandWrites b) × (room (loop k n b) ≤ m * (n * commandWrites b))
+    go LoopKind.parallel =
+        (omega (arith, h .0, a-round), let r = mul-le-mul-left n (h .1) in omega (arith, r, mul-left-comm n m (commandWrites b)))
+    go LoopKind.sequential = (omega (arith, h .0, a-round), let r = mul-le-mul-left m a-round in omega (arith, h .1, r))
 
-pub need-by-rows : (L : Loops) → LoopsPass L → need L ≤ 4096 * length (loopsRows L)
-unfolding need loopsRows
-need-by-rows L h =
-    let a = cells-by-rows (L .inputs) (h .inputCells) in
-    let b = room-by-rows (L .inputs) (L .output) [] [] (L .command) (h .passes) in
-    let rows : List Row = (word-cells, pos (L .output)) ∷ commandRows (L .command) in
-    omega (arith, a, b, h .outputCells .1, length-append (allCellsRows (L .inputs)) rows)
+-- A region is open for at least one write, and at most 256 are open around one another.
+pub room-by-writes : (ins : List ℕ) (out : ℕ) (ns rs : List ℕ) (c : Command) → CommandPasses ins out ns rs c
+    → (1 ≤ commandWrites c) × (room c ≤ 4096 * (256 - length rs) * commandWrites c)
+unfolding room CommandPasses
+room-by-writes ins out ns rs (Command.assignment p v) h = (omega arith, omega arith)
+room-by-writes ins out ns rs (seq c d) h =
+    let a = room-by-writes ins out ns rs c (h .0) in
+    let b = room-by-writes ins out ns rs d (h .1) in
+    (omega (arith, a .0), omega (arith, a .1, b .1, mul-add (4096 * (256 - length rs)) (commandWrites c) (commandWrites d)))
+room-by-writes ins out ns rs (loop kind n b) h =
+    rounds-by-writes (4096 * (256 - length rs)) kind n b (h .0 .0) (room-by-writes ins out (n ∷ ns) rs b (h .2))
+room-by-writes ins out ns rs (new c b) h =
+    let a = room-by-writes ins out ns (c ∷ rs) b (h .2) in
+    let w : ℕ = commandWrites b in
+    let one-less : 256 - length rs ≡ suc (256 - length (c ∷ rs)) = omega (arith, h .1) in
+    let more : 4096 * (256 - length rs) * w ≡ 4096 * (256 - length (c ∷ rs)) * w + 4096 * w =
+    ap (λ (m : ℕ). 4096 * m * w) one-less ∙ ap (λ (m : ℕ). m * w) (mul-suc 4096 (256 - length (c ∷ rs)))
+    ∙ add-mul (4096 * (256 - length (c ∷ rs))) 4096 w in
+    (a .0, omega (arith, a .0, a .1, h .0 .1, more))
+
+pub cells-few : (cs : List ℕ) → ((k : ℕ) → k < length cs → IsCount (entry cs k)) → allCells cs ≤ 4096 * length cs
+cells-few [] h = omega arith
+cells-few (c ∷ cs) h = let a = cells-few cs (λ k l. h (suc k) (suc-le-suc l)) in omega (arith, a, h 0 (omega arith) .1)
+
+-- nine times 4,096 cells for the inputs and the output, and 256 times 4,096 for each write
+pub need-by-writes : (L : Loops) → LoopsPass L → need L ≤ 36864 + 1048576 * commandWrites (L .command)
+unfolding need
+need-by-writes L h =
+    let a = cells-few (L .inputs) (h .inputCells) in
+    let b = room-by-writes (L .inputs) (L .output) [] [] (L .command) (h .passes) in
+    omega (arith, a, b .1, h .outputCells .1, h .inputsFew)
 
 -- ---- Reached
 
@@ -66,10 +83,22 @@ reached-seq c d a h g = go (leb (room d) (room c)) refl
     go true e = first (let l = leb-true (room d) (room c) e in omega (arith, l)) h
     go false e = second (let l = leb-false (room d) (room c) e in omega (arith, l)) g
 
-reached-loop : (kind : LoopKind) (n : ℕ) (b : Command) (a : ℕ) → 1 ≤ n → Reached b a → Reached (loop kind n b) a
+-- of a `par` in its last round, of a `for` in every one
+reached-loop : (kind : LoopKind) (n : ℕ) (b : Command) (a : ℕ) → 1 ≤ n → ((e : ℕ) → Reached b e) → Reached (loop kind n b) a
 unfolding room roundRoom
-reached-loop kind n b a l (inl z) = inl z
-reached-loop kind n b a l (inr x) = inr (0, l, x)
+reached-loop LoopKind.parallel n b a l h = go (h (a + (n - 1) * room b))
+  where
+    last : a + (n - 1) * room b + room b ≡ a + n * room b
+    last = let e : suc (n - 1) ≡ n = omega (arith, l) in let f = suc-mul (n - 1) (room b) in omega (arith, f, ap (λ (m : ℕ). m * room b) e)
+
+    go : Reached b (a + (n - 1) * room b) → Reached (loop LoopKind.parallel n b) a
+    go (inl z) = inl (ap (λ (m : ℕ). n * m) z ∙ mul-zero n)
+    go (inr x) = inr (n - 1, omega (arith, l), subst (λ (e : ℕ). EndsBefore e b (a + (n - 1) * room b)) last x)
+reached-loop LoopKind.sequential n b a l h = go (h a)
+  where
+    go : Reached b a → Reached (loop LoopKind.sequential n b) a
+    go (inl z) = inl z
+    go (inr x) = inr (0, l, x)
 
 reached-new : (c : ℕ) (b : Command) (a : ℕ) → Reached b (a + c) → Reached (new c b) a
 unfolding room regionRoom bodyRoom
@@ -81,7 +110,7 @@ room-reached : (ins : List ℕ) (out : ℕ) (ns rs : List ℕ) (c : Command) (a 
 unfolding CommandPasses room
 room-reached ins out ns rs (Command.assignment p v) a h = inl refl
 room-reached ins out ns rs (seq c d) a h = reached-seq c d a (room-reached ins out ns rs c a (h .0)) (room-reached ins out ns rs d a (h .1))
-room-reached ins out ns rs (loop kind n b) a h = reached-loop kind n b a (h .0 .0) (room-reached ins out (n ∷ ns) rs b a (h .2))
+room-reached ins out ns rs (loop kind n b) a h = reached-loop kind n b a (h .0 .0) (λ e. room-reached ins out (n ∷ ns) rs b e (h .2))
 room-reached ins out ns rs (new c b) a h = reached-new c b a (room-reached ins out ns (c ∷ rs) b (a + c) (h .2))
 
 pub need-reached : (L : Loops) → LoopsPass L → (need L ≡ regionsFrom L) ⊎ EndsBefore (need L) (L .command) (regionsFrom L)

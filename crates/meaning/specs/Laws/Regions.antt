@@ -2,13 +2,15 @@
 use mathlib.Core.Path.{_≡_}
 use mathlib.Core.Logic.{_⊎_, inl, inr, ⊎-elim}
 use mathlib.Core.List.{List, _∷_}
-use Prim.Native.Nat.{ℕ, _+_}
+use Prim.Native.Nat.{ℕ, _+_, _<_}
+use native.Mathlib.Decide.{decLt}
+use native.Mathlib.Omega.{arith}
 use lib.ListN.{length}
 use Rattle.meaning.specs.Types.{DataType, cells}
 use Rattle.meaning.specs.Paths.{Path}
 use Rattle.meaning.specs.Expressions.{Expression}
 use Rattle.meaning.specs.Laws.Layout.{Inside, Outside, Part, Apart, part-trans, inside-part, outside-part}
-use Rattle.meaning.specs.Laws.Layout.{apart-outside}
+use Rattle.meaning.specs.Laws.Layout.{apart-outside, not-both}
 use Rattle.meaning.specs.Laws.Paths.{PathOf, cellOf}
 use Rattle.meaning.specs.Laws.Levels.{extends-push}
 use Rattle.meaning.specs.Laws.Holds.{Setting, StateOf, Contents, cellAt, CellSet, innermost-region}
@@ -19,6 +21,15 @@ use Rattle.meaning.specs.Laws.Claims.{AfterUse}
 -- the cells of S, and the n cells from a on
 abbrev pub Added : CellSet → ℕ → ℕ → CellSet
 Added S a n x = S x ⊎ Inside a n x
+
+-- Where all of the m cells from b on are outside the n cells from r on, all of these are outside those.
+pub outside-too : {b m r n : ℕ} → ((x : ℕ) → Inside b m x → Outside r n x) → (x : ℕ) → Inside r n x → Outside b m x
+outside-too {b} {m} apart x h = go (decLt x b) (decLt x (b + m))
+  where
+    go : Dec (x < b) → Dec (x < b + m) → Outside b m x
+    go (yes l) d = Outside.before l
+    go (no l) (no k) = Outside.after (omega arith)
+    go (no l) (yes k) = absurd (not-both h (apart x (record { from = omega arith; below = k })))
 
 -- In a whole room, N cells from a on, lie the region at b, of type t, and the room of the body, m cells from e on;
 -- they are apart. In the body's room lies that of the continuation, n cells from x on. The region holds f.

@@ -5,7 +5,6 @@ use mathlib.Core.Logic.{inl, inr, ⊎-elim}
 use mathlib.Core.List.{List, _∷_}
 use Prim.Native.Nat.{ℕ, zero, suc, _+_, _*_, _≤_, _<_}
 use native.Mathlib.Nat.{suc-mul}
-use native.Mathlib.Decide.{decLt}
 use native.Mathlib.Omega.{arith}
 use lib.ListN.{length}
 use Rattle.meaning.specs.Types.{DataType, isNumber, cells, array}
@@ -18,7 +17,7 @@ use Rattle.meaning.specs.Expressions.{Expression, Acceptor}
 use Rattle.meaning.specs.Translation.{assign, Write, bodyInto, roundByNext, reduceRound}
 use Rattle.meaning.specs.Counts.{roundWrites}
 use Rattle.meaning.specs.Laws.Layout.{Inside, Outside, Part, part-trans, inside-part, outside-part}
-use Rattle.meaning.specs.Laws.Layout.{apart-outside, not-both, outside-none, first-inside, region-inside}
+use Rattle.meaning.specs.Laws.Layout.{apart-outside, outside-none, first-inside, region-inside}
 use Rattle.meaning.specs.Laws.Layout.{body-inside, region-apart}
 use Rattle.meaning.specs.Laws.Paths.{PathOf, cellOf}
 use Rattle.meaning.specs.Laws.Levels.{Extends, extends-trans, extends-push}
@@ -30,7 +29,7 @@ use Rattle.meaning.specs.Laws.Into.{whole-inside, whole-apart, into-regi
 use Rattle.meaning.specs.Laws.Wrote.{Wrote}
 use Rattle.meaning.specs.Laws.Assign.{assign-wrote}
 use Rattle.meaning.specs.Laws.Claims.{Precondition, precondition-on, precondition-push, WritesRightly}
-use Rattle.meaning.specs.Laws.Regions.{Added}
+use Rattle.meaning.specs.Laws.Regions.{Added, outside-too}
 
 -- the value after the rounds from i on, j of them: f the total, fa the array, Fb the body's value
 abbrev pub reduced : (W : Setting) → (List (Contents W) → Contents W) → List (Contents W) → Contents W → ℕ → ℕ
@@ -151,13 +150,7 @@ module _ (W : Setting) (writeB : Write) (Γ : List DataType) (z e : DataType) (k
           (apart-outside (region-apart r (cells z) (seq writeNext assignNext)) h)
 
       total-clear : (x : ℕ) → Inside q (cells z) x → Outside b (cells z) x
-      total-clear x h = go (decLt x b) (decLt x (b + cells z))
-        where
-          go : Dec (x < b) → Dec (x < b + cells z) → Outside b (cells z) x
-          go (yes l) d = Outside.before l
-          go (no l) (no m) = Outside.after (omega arith)
-          go (no l) (yes m) =
-              absurd (not-both (inside-part next-part h) (apart x (record { from = omega arith; below = m })))
+      total-clear x h = outside-too apart x (inside-part next-part h)
 
       -- the cells relied on, the total's among them, are outside the round's room
       free : (x : ℕ) → Added S b (cells z) x → Outside r (room byNext) x
