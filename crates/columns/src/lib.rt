@@ -17,7 +17,7 @@ pub mod ends;
 pub mod entries;
 mod figures;
 pub mod names;
-mod offsets;
+pub mod offsets;
 pub mod rooms;
 
 // The writes of loops, 16,777,217 standing for every number above 16,777,216, and the cells that they need, 2^48 standing for every greater

@@ -33,7 +33,7 @@ fn quotient(bound: usize, n: usize) -> usize
     bound / n
 }
 
-fn lesser(x: usize, y: usize) -> usize
+pub fn lesser(x: usize, y: usize) -> usize
     ensures { λ r. ⌜ r ≡ min x y ⌝ }
 {
     if x < y {

@@ -65,6 +65,15 @@ outside-none a x = go (decLt x a)
     go (yes h) = Outside.before h
     go (no h) = Outside.after (omega arith)
 
+-- Where all of the m cells from b on are outside the n cells from r on, all of these are outside those.
+pub outside-too : {b m r n : ℕ} → ((x : ℕ) → Inside b m x → Outside r n x) → (x : ℕ) → Inside r n x → Outside b m x
+outside-too {b} {m} apart x h = go (decLt x b) (decLt x (b + m))
+  where
+    go : Dec (x < b) → Dec (x < b + m) → Outside b m x
+    go (yes l) d = Outside.before l
+    go (no l) (no k) = Outside.after (omega arith)
+    go (no l) (yes k) = absurd (not-both h (apart x (record { from = omega arith; below = k })))
+
 -- The laws
 
 pub first-inside : (a : ℕ) (c d : Command) → Part (firstRoom a c d) (room c) a (room (seq c d))

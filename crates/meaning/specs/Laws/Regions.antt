@@ -2,15 +2,13 @@
 use mathlib.Core.Path.{_≡_}
 use mathlib.Core.Logic.{_⊎_, inl, inr, ⊎-elim}
 use mathlib.Core.List.{List, _∷_}
-use Prim.Native.Nat.{ℕ, _+_, _<_}
-use native.Mathlib.Decide.{decLt}
-use native.Mathlib.Omega.{arith}
+use Prim.Native.Nat.{ℕ, _+_}
 use lib.ListN.{length}
 use Rattle.meaning.specs.Types.{DataType, cells}
 use Rattle.meaning.specs.Paths.{Path}
 use Rattle.meaning.specs.Expressions.{Expression}
 use Rattle.meaning.specs.Laws.Layout.{Inside, Outside, Part, Apart, part-trans, inside-part, outside-part}
-use Rattle.meaning.specs.Laws.Layout.{apart-outside, not-both}
+use Rattle.meaning.specs.Laws.Layout.{apart-outside}
 use Rattle.meaning.specs.Laws.Paths.{PathOf, cellOf}
 use Rattle.meaning.specs.Laws.Levels.{extends-push}
 use Rattle.meaning.specs.Laws.Holds.{Setting, StateOf, Contents, cellAt, CellSet, innermost-region}
@@ -22,17 +20,25 @@ use Rattle.meaning.specs.Laws.Claims.{AfterUse}
 abbrev pub Added : CellSet → ℕ → ℕ → CellSet
 Added S a n x = S x ⊎ Inside a n x
 
--- Where all of the m cells from b on are outside the n cells from r on, all of these are outside those.
-pub outside-too : {b m r n : ℕ} → ((x : ℕ) → Inside b m x → Outside r n x) → (x : ℕ) → Inside r n x → Outside b m x
-outside-too {b} {m} apart x h = go (decLt x b) (decLt x (b + m))
-  where
-    go : Dec (x < b) → Dec (x < b + m) → Outside b m x
-    go (yes l) d = Outside.before l
-    go (no l) (no k) = Outside.after (omega arith)
-    go (no l) (yes k) = absurd (not-both h (apart x (record { from = omega arith; below = k })))
+-- In a whole room, N cells from a on, lie the region at b, of type t, and the room of the body, m cells from e on; they are apart. In the
+-- body's room lies that of the continuation, n cells from x on. So the region's cells are new ones of the whole room, and outside the
+-- continuation's.
+pub region-onward : {S : CellSet} {a N b e m x n : ℕ} (t : DataType)
+    → Part b (cells t) a N → Part e m a N → Apart b (cells t) e m → Part x n e m
+    → ((y : ℕ) → S y → Outside a N y)
+    → Part x n a N
+    × ((y : ℕ) → Added S b (cells t) y → S y ⊎ Inside a N y)
+    × ((y : ℕ) → Added S b (cells t) y → Outside x n y)
+region-onward t region body apart onward free = (
+  part-trans onward body,
+  λ y. ⊎-elim (λ sy. inl sy) (λ i. inr (inside-part region i)),
+  λ y.
+      ⊎-elim
+      (λ sy. outside-part (part-trans onward body) (free y sy))
+      (λ i. outside-part onward (apart-outside apart i)),
+)
 
--- In a whole room, N cells from a on, lie the region at b, of type t, and the room of the body, m cells from e on;
--- they are apart. In the body's room lies that of the continuation, n cells from x on. The region holds f.
+-- And the region holds f.
 pub region-after-use : {W : Setting} {cs rs : List ℕ} {S : CellSet} {a N b e m x n k : ℕ} {st st′ : StateOf W}
     {f : Contents W} (t : DataType)
     → Part b (cells t) a N → Part e m a N → Apart b (cells t) e m → Part x n e m
@@ -44,13 +50,10 @@ pub region-after-use : {W : Setting} {cs rs : List ℕ} {S : CellSet} {a N b e m
     → AfterUse W cs rs S a N st k (Expression.region (length rs) t) t f (b ∷ rs) (Added S b (cells t)) x n st′
 region-after-use {W} {cs} {rs} {b} {e} {m} {x} {n} t region body apart onward free written kept same counted = record {
   extends = extends-push b rs;
-  part = part-trans onward body;
+  part = region-onward t region body apart onward free .0;
   more = λ y sy. inl sy;
-  only = λ y. ⊎-elim (λ sy. inl sy) (λ i. inr (inside-part region i));
-  free = λ y.
-      ⊎-elim
-      (λ sy. outside-part (part-trans onward body) (free y sy))
-      (λ i. outside-part onward (apart-outside apart i));
+  only = region-onward t region body apart onward free .1;
+  free = region-onward t region body apart onward free .2;
   kept = kept;
   sameLength = same;
   counted = counted;

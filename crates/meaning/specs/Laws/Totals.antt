@@ -29,7 +29,8 @@ use Rattle.meaning.specs.Laws.Into.{whole-inside, whole-apart, into-regi
 use Rattle.meaning.specs.Laws.Wrote.{Wrote}
 use Rattle.meaning.specs.Laws.Assign.{assign-wrote}
 use Rattle.meaning.specs.Laws.Claims.{Precondition, precondition-on, precondition-push, WritesRightly}
-use Rattle.meaning.specs.Laws.Regions.{Added, outside-too}
+use Rattle.meaning.specs.Laws.Regions.{Added}
+use Rattle.meaning.specs.Laws.Layout.{outside-too}
 
 -- the value after the rounds from i on, j of them: f the total, fa the array, Fb the body's value
 abbrev pub reduced : (W : Setting) → (List (Contents W) → Contents W) → List (Contents W) → Contents W → ℕ → ℕ

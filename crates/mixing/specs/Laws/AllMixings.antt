@@ -29,15 +29,16 @@ unfoldable pub whereNone : {A : Type 0} → ℕ → List A → List A
 whereNone zero l = l
 whereNone (suc k) l = []
 
+-- the same step in greater work, f saying what is left of that
+abbrev pub stepIn : (Work → Work) → Next → Next
+stepIn f g = (g .0, f (g .1))
+
 unfoldable pub nexts : Work → List Next
 nexts Work.nothing = []
 nexts (Work.one s) = (s, Work.nothing) ∷ []
 nexts (Work.then v w) =
-    map (λ (g : Next). (g .0, Work.then (g .1) w)) (nexts v)
-    ++ whereNone (stepsLeft v) (map (λ (g : Next). (g .0, Work.then v (g .1))) (nexts w))
-nexts (Work.beside v w) =
-    map (λ (g : Next). (g .0, Work.beside (g .1) w)) (nexts v)
-    ++ map (λ (g : Next). (g .0, Work.beside v (g .1))) (nexts w)
+    map (stepIn (λ u. Work.then u w)) (nexts v) ++ whereNone (stepsLeft v) (map (stepIn (λ u. Work.then v u)) (nexts w))
+nexts (Work.beside v w) = map (stepIn (λ u. Work.beside u w)) (nexts v) ++ map (stepIn (λ u. Work.beside v u)) (nexts w)
 
 -- what is made of each, one after the other
 unfoldable pub flat : {A B : Type 0} → (A → List B) → List A → List B
@@ -134,6 +135,11 @@ goes-one (Work.beside v w) s left g =
 
 -- The next steps
 
+-- w is a part of greater work, of which f says what is left
+listed-in : (f : Work → Work) (w : Work) (P : Next → Type 0) (s : SetStep) (left : Work)
+    → ((Q : Next → Type 0) → Q (s, left) → Some Q (nexts w)) → P (s, f left) → Some P (map (stepIn f) (nexts w))
+listed-in f w P s left h p = map-some P (stepIn f) (nexts w) (h (λ x. P (stepIn f x)) p)
+
 goes-listed : (w : Work) (s : SetStep) (left : Work) → Goes w s left
     → (P : Next → Type 0) → P (s, left) → Some P (nexts w)
 unfolding nexts
@@ -143,29 +149,29 @@ goes-listed (Work.one u) s left g P p =
 goes-listed (Work.then v w) s left g P p =
     ⊎-elim
     (λ h.
-    some-left P (map (λ (x : Next). (x .0, Work.then (x .1) w)) (nexts v)) _
-    (map-some P (λ (x : Next). (x .0, Work.then (x .1) w)) (nexts v)
-    (goes-listed v s (h .0) (h .1) (λ x. P (x .0, Work.then (x .1) w)) (subst (λ (x : Work). P (s, x)) (h .2) p))))
+    some-left P (map (stepIn (λ u. Work.then u w)) (nexts v)) _
+    (listed-in (λ u. Work.then u w) v P s (h .0) (goes-listed v s (h .0) (h .1)) (subst (λ (x : Work). P (s, x)) (h .2) p)))
     (λ h.
-    some-right P (map (λ (x : Next). (x .0, Work.then (x .1) w)) (nexts v)) _
+    some-right P (map (stepIn (λ u. Work.then u w)) (nexts v)) _
     (where-none-some P (stepsLeft v) _ (ended-none v (h .1))
-    (map-some P (λ (x : Next). (x .0, Work.then v (x .1))) (nexts w)
-    (goes-listed w s (h .0) (h .2) (λ x. P (x .0, Work.then v (x .1))) (subst (λ (x : Work). P (s, x)) (h .3) p)))))
+    (listed-in (λ u. Work.then v u) w P s (h .0) (goes-listed w s (h .0) (h .2)) (subst (λ (x : Work). P (s, x)) (h .3) p))))
     g
 goes-listed (Work.beside v w) s left g P p =
     ⊎-elim
     (λ h.
-    some-left P (map (λ (x : Next). (x .0, Work.beside (x .1) w)) (nexts v)) _
-    (map-some P (λ (x : Next). (x .0, Work.beside (x .1) w)) (nexts v)
-    (goes-listed v s (h .0) (h .1) (λ x. P (x .0, Work.beside (x .1) w)) (subst (λ (x : Work). P (s, x)) (h .2) p))))
+    some-left P (map (stepIn (λ u. Work.beside u w)) (nexts v)) _
+    (listed-in (λ u. Work.beside u w) v P s (h .0) (goes-listed v s (h .0) (h .1)) (subst (λ (x : Work). P (s, x)) (h .2) p)))
     (λ h.
-    some-right P (map (λ (x : Next). (x .0, Work.beside (x .1) w)) (nexts v)) _
-    (map-some P (λ (x : Next). (x .0, Work.beside v (x .1))) (nexts w)
-    (goes-listed w s (h .0) (h .1) (λ x. P (x .0, Work.beside v (x .1))) (subst (λ (x : Work). P (s, x)) (h .2) p))))
+    some-right P (map (stepIn (λ u. Work.beside u w)) (nexts v)) _
+    (listed-in (λ u. Work.beside v u) w P s (h .0) (goes-listed w s (h .0) (h .1)) (subst (λ (x : Work). P (s, x)) (h .2) p)))
     g
 
 abbrev Going : (Next → Type 0) → Work → Type 0
 Going P w = (s : SetStep) × (left : Work) × Goes w s left × P (s, left)
+
+going-in : (f : Work → Work) (w : Work) (P : Next → Type 0) → ((Q : Next → Type 0) → Some Q (nexts w) → Going Q w)
+    → Some P (map (stepIn f) (nexts w)) → Going (λ x. P (stepIn f x)) w
+going-in f w P h k = h (λ x. P (stepIn f x)) (some-map P (stepIn f) (nexts w) k)
 
 listed-goes : (w : Work) (P : Next → Type 0) → Some P (nexts w) → Going P w
 unfolding nexts
@@ -174,26 +180,22 @@ listed-goes (Work.one s) P h = ⊎-elim (λ p. (s, Work.nothing, (refl, refl), p
 listed-goes (Work.then v w) P h =
     ⊎-elim
     (λ k.
-    let r : Going (λ x. P (x .0, Work.then (x .1) w)) v =
-    listed-goes v (λ x. P (x .0, Work.then (x .1) w)) (some-map P (λ (x : Next). (x .0, Work.then (x .1) w)) (nexts v) k) in
+    let r = going-in (λ u. Work.then u w) v P (listed-goes v) k in
     (r .0, Work.then (r .1) w, inl (r .1, r .2, refl), r .3))
     (λ k.
     let m = some-where-none P (stepsLeft v) _ k in
-    let r : Going (λ x. P (x .0, Work.then v (x .1))) w =
-    listed-goes w (λ x. P (x .0, Work.then v (x .1))) (some-map P (λ (x : Next). (x .0, Work.then v (x .1))) (nexts w) (m .1)) in
+    let r = going-in (λ u. Work.then v u) w P (listed-goes w) (m .1) in
     (r .0, Work.then v (r .1), inr (r .1, none-ended v (m .0), r .2, refl), r .3))
-    (some-append P (map (λ (x : Next). (x .0, Work.then (x .1) w)) (nexts v)) _ h)
+    (some-append P (map (stepIn (λ u. Work.then u w)) (nexts v)) _ h)
 listed-goes (Work.beside v w) P h =
     ⊎-elim
     (λ k.
-    let r : Going (λ x. P (x .0, Work.beside (x .1) w)) v =
-    listed-goes v (λ x. P (x .0, Work.beside (x .1) w)) (some-map P (λ (x : Next). (x .0, Work.beside (x .1) w)) (nexts v) k) in
+    let r = going-in (λ u. Work.beside u w) v P (listed-goes v) k in
     (r .0, Work.beside (r .1) w, inl (r .1, r .2, refl), r .3))
     (λ k.
-    let r : Going (λ x. P (x .0, Work.beside v (x .1))) w =
-    listed-goes w (λ x. P (x .0, Work.beside v (x .1))) (some-map P (λ (x : Next). (x .0, Work.beside v (x .1))) (nexts w) k) in
+    let r = going-in (λ u. Work.beside v u) w P (listed-goes w) k in
     (r .0, Work.beside v (r .1), inr (r .1, r .2, refl), r .3))
-    (some-append P (map (λ (x : Next). (x .0, Work.beside (x .1) w)) (nexts v)) _ h)
+    (some-append P (map (stepIn (λ u. Work.beside u w)) (nexts v)) _ h)
 
 -- All ways
 

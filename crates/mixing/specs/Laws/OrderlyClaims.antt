@@ -20,7 +20,7 @@ use Rattle.meaning.specs.Laws.Paths.{PathOf, cellOf}
 use Rattle.meaning.specs.Laws.Levels.{Extends, extends-refl, extends-trans, extends-push}
 use Rattle.meaning.specs.Laws.Holds.{Setting, environment, CellSet, innermost-region}
 use Rattle.meaning.specs.Laws.Into.{Into, into-on, whole-inside, into-region}
-use Rattle.meaning.specs.Laws.Regions.{Added}
+use Rattle.meaning.specs.Laws.Regions.{Added, region-onward}
 use Rattle.mixing.specs.Laws.ReadsOnly.{ReadsOnly, reads-on, reads-region}
 use Rattle.mixing.specs.Laws.Orderly.{Orderly, orderly-seq, orderly-new, assign-orderly}
 
@@ -174,13 +174,10 @@ pub handed-region : {W : Setting} {cs rs : List ℕ} {S : CellSet} {a N b e m x 
     → Handed W cs rs S a N (Expression.region (length rs) t) t (b ∷ rs) (Added S b (cells t)) x n
 handed-region {W} {cs} {rs} {S} {a} {N} {b} t region body apart onward free = record {
   extends = extends-push b rs;
-  part = part-trans onward body;
+  part = region-onward t region body apart onward free .0;
   more = λ y sy. inl sy;
-  only = λ y. ⊎-elim (λ sy. inl sy) (λ i. inr (inside-part region i));
-  free = λ y.
-      ⊎-elim
-      (λ sy. outside-part (part-trans onward body) (free y sy))
-      (λ i. outside-part onward (apart-outside apart i));
+  only = region-onward t region body apart onward free .1;
+  free = region-onward t region body apart onward free .2;
   reads = reads-region (length rs) b (innermost-region b rs) (λ p ok. inr (whole-inside b t p ok));
 }
 

@@ -20,7 +20,8 @@ use Rattle.meaning.specs.Laws.Levels.{Extends, extends-refl, extends-trans, ext
 use Rattle.meaning.specs.Laws.Holds.{Setting, environment, CellSet, RegionIs, innermost-counter, innermost-region}
 use Rattle.meaning.specs.Laws.Holds.{region-extends}
 use Rattle.meaning.specs.Laws.Into.{whole-inside, into-region}
-use Rattle.meaning.specs.Laws.Regions.{Added, outside-too}
+use Rattle.meaning.specs.Laws.Regions.{Added}
+use Rattle.meaning.specs.Laws.Layout.{outside-too}
 use Rattle.mixing.specs.Laws.ReadsOnly.{ReadsOnly, reads-on, reads-index, reads-region}
 use Rattle.mixing.specs.Laws.Orderly.{Orderly, orderly-seq, orderly-new, orderly-for, assign-orderly}
 use Rattle.mixing.specs.Laws.OrderlyClaims.{Footing, footing-on, footing-push, Allows, allows-part, UsesOrderly}
