@@ -95,8 +95,8 @@ impl Grower {
                 self.command(depth - 1);
             }
             3 | 4 => {
-                let word = *self.numbers.one_of(&["for", "par", "par"]);
-                let rounds = 1 + self.numbers.below(4);
+                let word = *self.numbers.one_of(&["for", "par", "par", "lanes"]);
+                let rounds = if word == "lanes" { *self.numbers.one_of(&[2, 2, 4, 8]) } else { 1 + self.numbers.below(4) };
                 self.put(word, rounds);
                 self.counters += 1;
                 self.command(depth - 1);
@@ -113,7 +113,7 @@ impl Grower {
     }
 }
 
-// The text of loops; most are accepted, some are refused for a name or an offset.
+// The text of loops; most are accepted, some are refused for a name, an offset or a `lanes` inside another.
 pub fn loops(seed: u64) -> Vec<u8> {
     let mut g = Grower { numbers: Numbers::new(seed), inputs: 0, counters: 0, regions: 0, rows: Vec::new() };
     g.inputs = g.numbers.below(3);

@@ -238,10 +238,10 @@ impl Worded {
 // [16.8] What may stand under the name words.txt, about as long as it may be ([13.18]) and longer.
 fn words_files() -> Vec<Found> {
     let built_in = wording::text(&wording::built_in());
-    let mut own: wording::Own = (0..38).map(|kind| [&[b'z', b'a' + kind % 26, b'a' + kind / 26], &b"zzzzz"[..]].concat()).collect();
+    let mut own: wording::Own = (0..44).map(|kind| [&[b'z', b'a' + kind % 26, b'a' + kind / 26], &b"zzzzz"[..]].concat()).collect();
     own[6].truncate(3);
     let longest = wording::text(&own);
-    assert_eq!(longest.len(), 511);
+    assert_eq!(longest.len(), 598);
     let german = std::fs::read("examples/german.words").unwrap();
     let mut files = vec![Absent, Link, Text(built_in.clone()), Text(longest.clone()), Text(german.clone()), Folder, Text(Vec::new())];
     let change = |from: &str, to: &str| {
@@ -253,12 +253,12 @@ fn words_files() -> Vec<Found> {
     // Each mistake in how the lines are written, and two own words alike.
     for (from, to) in [
         ("num,zahl\narr,reihe\n", "arr,reihe\nnum,zahl\n"),
-        ("rest,rest\n", ""),
-        ("rest,rest\n", "rest,rest"),
-        ("rest,rest\n", "rest,rest\r\n"),
-        ("rest,rest\n", "plan,other\n"),
-        ("rest,rest\n", "rest,rest\n\n"),
-        ("rest,rest\n", "rest,rest\nplan,other\n"),
+        ("lanes,spuren\n", ""),
+        ("lanes,spuren\n", "lanes,spuren"),
+        ("lanes,spuren\n", "lanes,spuren\r\n"),
+        ("lanes,spuren\n", "plan,other\n"),
+        ("lanes,spuren\n", "lanes,spuren\n\n"),
+        ("lanes,spuren\n", "lanes,spuren\nplan,other\n"),
         ("num,zahl", "num, zahl"),
         ("num,zahl", "num,zahl "),
         ("num,zahl", " num,zahl"),
@@ -279,8 +279,8 @@ fn words_files() -> Vec<Found> {
     ] {
         files.push(change(from, to));
     }
-    files.extend([512, 607, 608, 609, 610, 1216, 4096, 70000].map(|size| behind(&longest, &vec![b'a'; size - longest.len()])));
-    files.extend([512, 608, 609].map(|size| behind(&longest, &vec![b'\n'; size - longest.len()])));
+    files.extend([599, 607, 608, 609, 610, 1216, 4096, 70000].map(|size| behind(&longest, &vec![b'a'; size - longest.len()])));
+    files.extend([599, 608, 609].map(|size| behind(&longest, &vec![b'\n'; size - longest.len()])));
     files.push(behind(&built_in, &built_in));
     files.push(behind(&german, &[0]));
     files

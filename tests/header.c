@@ -24,6 +24,6 @@ int main(void) {
     if (vazhdumir_run_rows(kinds, 6, numbers, 6, 0, store, 3) >> 56 != VAZHDUMIR_REFUSAL_STORE_SIZE) return 2;
     if (vazhdumir_run_rows(kinds, 6, numbers, 6, 0, store, 4) != 1) return 3;
     if (listed != 65536 + 2 || vazhdumir_listed(listed) != 1 || vazhdumir_compared(listed) - 1 != VAZHDUMIR_WORD_NUM) return 6;
-    if (unlisted != 38 || vazhdumir_listed(unlisted) != 0 || vazhdumir_compared(unlisted) != 38 || nothing != unlisted) return 7;
+    if (unlisted != 44 || vazhdumir_listed(unlisted) != 0 || vazhdumir_compared(unlisted) != 44 || nothing != unlisted) return 7;
     return store[0] == 2 && store[1] == 1 ? 0 : 4;
 }

@@ -30,6 +30,7 @@ enum Type {
     Number,
     Array(u64, Box<Type>),
     Pair(Box<Type>, Box<Type>),
+    Vector(u64),
 }
 
 struct Grower {
@@ -48,9 +49,14 @@ impl Grower {
         *self.numbers.one_of(&[1, 1, 2, 2, 3, 4, 6])
     }
 
+    fn a_width(&mut self) -> u64 {
+        *self.numbers.one_of(&[2, 2, 4])
+    }
+
     fn a_type(&mut self, depth: u64) -> Type {
-        match self.numbers.below(if depth == 0 { 1 } else { 4 }) {
+        match self.numbers.below(if depth == 0 { 1 } else { 5 }) {
             0 => Type::Number,
+            4 => Type::Vector(self.a_width()),
             1 => {
                 let (first, second) = (self.a_type(depth - 1), self.a_type(depth - 1));
                 Type::Pair(Box::new(first), Box::new(second))
@@ -65,6 +71,7 @@ impl Grower {
     fn spell(&mut self, t: &Type) {
         match t {
             Type::Number => self.put("num", 0),
+            Type::Vector(w) => self.put("vec", *w),
             Type::Array(n, element) => {
                 self.put("arr", *n);
                 self.spell(element);
@@ -115,6 +122,34 @@ impl Grower {
                 self.leaf(second);
             }
             Type::Array(n, element) => self.map_over(*n, element, 0),
+            Type::Vector(w) => self.first_vector(*w),
+        }
+    }
+
+    // The first vector of this width, 2 or 4, of the twelve numbers of input 0.
+    fn first_vector(&mut self, w: u64) {
+        self.put("idx", 0);
+        self.put("asvec", w);
+        self.put("in", 0);
+    }
+
+    // A vector: a map of the lanes of another, or one of the vectors of an array of numbers.
+    fn made_vector(&mut self, w: u64, budget: u64) {
+        match self.numbers.below(3) {
+            0 | 1 if self.variables.len() < 15 => {
+                self.put("mapvec", 0);
+                self.term(&Type::Vector(w), budget / 2);
+                self.variables.push(Type::Number);
+                self.term(&Type::Number, budget / 2);
+                self.variables.pop();
+            }
+            _ => {
+                let length = self.a_length();
+                let k = self.numbers.below(length);
+                self.put("idx", k);
+                self.put("asvec", w);
+                self.term(&Type::Array(length * w, Box::new(Type::Number)), budget);
+            }
         }
     }
 
@@ -152,6 +187,12 @@ impl Grower {
         let rest = budget - 1;
         match self.numbers.below(10) {
             0 => self.leaf(t),
+            4 if *t == Type::Number => {
+                let width = self.a_width();
+                let k = self.numbers.below(width);
+                self.put("at", k);
+                self.term(&Type::Vector(width), rest);
+            }
             1 => {
                 let other = self.a_type(1);
                 let first = self.numbers.below(2) == 0;
@@ -203,6 +244,7 @@ impl Grower {
                 self.term(second, budget / 2);
             }
             Type::Array(n, element) => self.made_array(*n, element, budget),
+            Type::Vector(w) => self.made_vector(*w, budget),
         }
     }
 
@@ -216,6 +258,15 @@ impl Grower {
             (1, Type::Array(m, inner)) => {
                 self.put("split", *m);
                 self.term(&Type::Array(n * m, inner.clone()), budget);
+            }
+            (1, Type::Vector(w)) => {
+                self.put("asvec", *w);
+                self.term(&Type::Array(n * w, Box::new(Type::Number)), budget);
+            }
+            (3, Type::Number) if n % 2 == 0 => {
+                let width = if n % 4 == 0 { self.a_width() } else { 2 };
+                self.put("asscal", 0);
+                self.term(&Type::Array(n / width, Box::new(Type::Vector(width))), budget);
             }
             (2, _) => {
                 let groups = *self.numbers.one_of(&[1, 2, 3]);
@@ -234,7 +285,7 @@ pub fn text(rows: &[(&'static str, i64)]) -> Vec<u8> {
     rows.iter().map(|(word, number)| format!("{word},{number}\n")).collect::<String>().into_bytes()
 }
 
-// A plan's text; most are accepted, some are refused by their size.
+// A plan's text; most are accepted, some are refused by their size or for a `lanes` inside another.
 pub fn plan(seed: u64) -> Vec<u8> {
     let mut g = Grower { numbers: Numbers::new(seed), inputs: Vec::new(), variables: Vec::new(), rows: Vec::new() };
     g.inputs = vec![Type::Array(12, Box::new(Type::Number)), Type::Array(60, Box::new(Type::Number))];

@@ -10,7 +10,7 @@ const DEPTH: usize = 4_084;
 
 // Each with the KiB that the header promises to be enough.
 const SHAPES: [(&str, usize); 5] =
-    [("seq to the right", 512), ("seq to the left", 512), ("neg", 512), ("times", 512), ("add to the left", 832)];
+    [("seq to the right", 512), ("seq to the left", 512), ("neg", 512), ("times", 512), ("add to the left", 864)];
 
 const ENTRIES: [&str; 3] = ["check", "need", "run"];
 

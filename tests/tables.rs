@@ -75,7 +75,7 @@ impl Table {
     }
 
     fn random(numbers: &mut Numbers) -> Table {
-        let most = *numbers.one_of(&[256, 38, 38, 39]);
+        let most = *numbers.one_of(&[256, 44, 44, 45]);
         let mut length = || *numbers.one_of(&[0, 1, 2, 3, 5, 8, 13, 21, 40, 4096, 4097]);
         let (k, n) = (length(), length());
         let mut table = Table { kinds: Vec::new(), numbers: Vec::new() };

@@ -41,7 +41,7 @@ fn most(kind: usize) -> u64 {
 // Own words, no two alike, each of which has as many letters as `count` says for its kind.
 fn distinct(numbers: &mut Numbers, count: impl Fn(usize, &mut Numbers) -> u64) -> Own {
     let mut own = Own::new();
-    while own.len() < 38 {
+    while own.len() < 44 {
         let length = count(own.len(), numbers);
         let word = letters(numbers, length);
         if !own.contains(&word) {
@@ -54,20 +54,20 @@ fn distinct(numbers: &mut Numbers, count: impl Fn(usize, &mut Numbers) -> u64) -
 // The built-in words in another order: `lit` gets one that is short enough.
 fn permuted(numbers: &mut Numbers) -> Own {
     let mut own = wording::built_in();
-    for place in (1..38).rev() {
+    for place in (1..44).rev() {
         own.swap(place, numbers.below(place as u64 + 1) as usize);
     }
-    let short: Vec<usize> = (0..38).filter(|kind| own[*kind].len() <= 3).collect();
+    let short: Vec<usize> = (0..44).filter(|kind| own[*kind].len() <= 3).collect();
     own.swap(LIT, *numbers.one_of(&short));
     own
 }
 
 // Words each of which begins the next: a, aa, .. and b, bb, ..; some of them are another's beginning and none is another.
 fn beginnings(numbers: &mut Numbers) -> Own {
-    let mut own: Own = (0..38).map(|i| vec![b'a' + (i / 8) as u8; 1 + i % 8]).collect();
-    let turn = numbers.below(38) as usize;
+    let mut own: Own = (0..44).map(|i| vec![b'a' + (i / 8) as u8; 1 + i % 8]).collect();
+    let turn = numbers.below(44) as usize;
     own.rotate_left(turn);
-    let short: Vec<usize> = (0..38).filter(|kind| own[*kind].len() <= 3).collect();
+    let short: Vec<usize> = (0..44).filter(|kind| own[*kind].len() <= 3).collect();
     own.swap(LIT, *numbers.one_of(&short));
     own
 }
@@ -81,7 +81,7 @@ fn good(numbers: &mut Numbers) -> Own {
         3 => distinct(numbers, |kind, _| most(kind)),
         4 => {
             let mut own = wording::built_in();
-            let kind = numbers.below(38) as usize;
+            let kind = numbers.below(44) as usize;
             while { own[kind] = letters(numbers, most(kind)); own.iter().filter(|word| **word == own[kind]).count() > 1 } {}
             own
         }
@@ -149,9 +149,9 @@ const TEXT_DAMAGES: [(&str, fn(&mut Vec<Vec<u8>>, &mut Numbers)); 16] = [
         let (one, other) = two_places(numbers);
         lines.swap(one, other);
     }),
-    ("a line dropped", |lines, numbers| drop(lines.remove(numbers.below(38) as usize))),
+    ("a line dropped", |lines, numbers| drop(lines.remove(numbers.below(44) as usize))),
     ("a line doubled", |lines, numbers| {
-        let place = numbers.below(38) as usize;
+        let place = numbers.below(44) as usize;
         lines.insert(place, lines[place].clone());
     }),
     ("a line added", |lines, _| lines.push(b"plan,other\n".to_vec())),
@@ -159,27 +159,27 @@ const TEXT_DAMAGES: [(&str, fn(&mut Vec<Vec<u8>>, &mut Numbers)); 16] = [
     ("an empty line at the end", |lines, _| lines.push(b"\n".to_vec())),
     ("a byte behind the end", |lines, numbers| lines.push(vec![*numbers.one_of(b" \r\0a,")])),
     ("the last byte missing", |lines, _| unended(&mut lines[37])),
-    ("byte 10 missing in the middle", |lines, numbers| unended(&mut lines[numbers.below(37) as usize])),
+    ("byte 10 missing in the middle", |lines, numbers| unended(&mut lines[numbers.below(43) as usize])),
     ("a built-in word twice", |lines, numbers| {
         let (one, other) = two_places(numbers);
         let own = lines[one][comma(&lines[one])..].to_vec();
         lines[one] = [&lines[other][..comma(&lines[other])], &own].concat();
     }),
     ("nothing", |lines, _| lines.clear()),
-    ("cut off", |lines, numbers| lines.truncate(numbers.below(38) as usize)),
+    ("cut off", |lines, numbers| lines.truncate(numbers.below(44) as usize)),
     ("the text twice", |lines, _| lines.extend(lines.clone())),
-    ("more than 511 bytes", |lines, numbers| {
-        let more = 512 + numbers.below(700) as usize;
+    ("more than 598 bytes", |lines, numbers| {
+        let more = 599 + numbers.below(700) as usize;
         while lines.concat().len() < more {
-            lines.push(lines[numbers.below(38) as usize].clone());
+            lines.push(lines[numbers.below(44) as usize].clone());
         }
     }),
     ("bytes without a line", |lines, numbers| *lines = vec![vec![b'a'; 600 + numbers.below(20) as usize]]),
 ];
 
 fn two_places(numbers: &mut Numbers) -> (usize, usize) {
-    let one = numbers.below(38);
-    let other = (one + 1 + numbers.below(37)) % 38;
+    let one = numbers.below(44);
+    let other = (one + 1 + numbers.below(43)) % 44;
     (one as usize, other as usize)
 }
 
@@ -220,7 +220,7 @@ fn words_text(numbers: &mut Numbers) -> Worded {
     let mut text: Vec<Vec<u8>> = wording::text(&own).split_inclusive(|byte| *byte == b'\n').map(|line| line.to_vec()).collect();
     if (8..12).contains(&choice) || choice == 18 {
         let (name, damage) = numbers.one_of(&LINE_DAMAGES);
-        damage(&mut text[numbers.below(38) as usize], numbers);
+        damage(&mut text[numbers.below(44) as usize], numbers);
         (what, answer) = (name, "no,16,0");
     }
     if (12..16).contains(&choice) || choice == 19 {
@@ -338,7 +338,7 @@ fn longest(words: &mut Tally) {
     let mut numbers = Numbers::new(3);
     let own = distinct(&mut numbers, |kind, _| most(kind));
     let text = wording::text(&own);
-    assert_eq!(text.len(), 511, "the longest words text that is accepted");
+    assert_eq!(text.len(), 598, "the longest words text that is accepted");
     let plan = |lines: usize| format!("plan,0\n{}{}", "add,0\n".repeat(lines / 2 - 1), "lit,-2147483648\n".repeat(lines / 2)).into_bytes();
     for lines in [254, 256, 258] {
         words.plan("long plans", Some(&text), &wording::worded(&plan(lines), &own), 65536);
@@ -403,14 +403,14 @@ struct Searches {
 
 impl Searches {
     // Searches for a word, changed. What is lent lies in front of the rest of the word, if it is its beginning: if more were read, it would
-    // be found. [17.2] A hit tells one of 38 places, and a miss all 38 rows.
+    // be found. [17.2] A hit tells one of 44 places, and a miss all 44 rows.
     fn one(&mut self, what: &str, words: Option<&[u8]>, own: &Own, kind: usize, change: &Change) -> String {
         let changed = change.2(&own[kind], kind);
         let behind = own[kind].strip_prefix(&changed[..]).unwrap_or(b"");
         let answer = self.tally.look_up(what, words, &[&changed[..], behind].concat()[..changed.len()]);
         let ended = match answer.parse::<u64>() {
-            Ok(65537..=65574) => "hit",
-            Ok(38) => "miss",
+            Ok(65537..=65580) => "hit",
+            Ok(44) => "miss",
             Ok(number) => panic!("{what}, {}: no search tells {number}", change.0),
             Err(_) => "refused",
         };
@@ -426,7 +426,7 @@ impl Searches {
 
     // Every word under accepted words, as it is and with every change.
     fn every(&mut self, what: &str, words: Option<&[u8]>, own: &Own) {
-        for kind in 0..38 {
+        for kind in 0..44 {
             self.placed(what, words, own, kind);
             for change in &CHANGES[1..] {
                 self.one(what, words, own, kind, change);
@@ -452,11 +452,11 @@ impl Searches {
     // Under a words text: each word, if it is accepted; some changed ones, which the plain entry is asked as well.
     fn under(&mut self, worded: &Worded, numbers: &mut Numbers) {
         let (words, accepted) = (Some(worded.text()), worded.answer == "no,1,0");
-        for kind in (0..38).filter(|_| accepted) {
+        for kind in (0..44).filter(|_| accepted) {
             self.placed(worded.what, words, &worded.own, kind);
         }
         for _ in 0..10 {
-            let (kind, change) = (numbers.below(38) as usize, numbers.one_of(&CHANGES));
+            let (kind, change) = (numbers.below(44) as usize, numbers.one_of(&CHANGES));
             let answer = self.one(worded.what, words, &worded.own, kind, change);
             assert!(accepted || answer == worded.answer, "{}: {answer}", worded.what);
             self.one("plain", None, &worded.own, kind, change);

@@ -7,7 +7,7 @@ use borrow.Author.Tests.{ne-eqb}
 use lib.IntN.{ℤ, pos}
 use lib.ListN.{length}
 use Rattle.words.specs.Kinds.{word-in, word-var, word-lit, word-join, word-seq, word-for, word-new}
-use Rattle.meaning.specs.Types.{DataType, number, array, cells, levels, arrayLength, element}
+use Rattle.meaning.specs.Types.{DataType, number, array, vector, cells, levels, arrayLength, element}
 use Rattle.meaning.specs.Expressions.{Expression, Acceptor}
 use Rattle.meaning.specs.Translation.{assign}
 use Rattle.meaning.specs.Rows.{commandRows}
@@ -19,7 +19,8 @@ use Rattle.emission.specs.Nodes.{nodeOf}
 use Rattle.emission.specs.Table.{Table, table, putRow, putRows}
 use Rattle.emission.specs.References.{expressionAt, acceptorAt}
 use Rattle.emission.specs.Growth.{Pushed}
-use Rattle.clauses.specs.Clauses.{numberOver, regionRows, mapLoop, mapRows, nextRows, enteredRows, NodeUsed, VariableUsed, LeafUsed, ReductionPushed, ReductionBegun, InRound, ReductionEntered}
+use Rattle.clauses.specs.Clauses.{nodeKind, numberBy, numberOver, regionRows, mapLoop, mapRows, nextRows, enteredRows}
+use Rattle.clauses.specs.Clauses.{NodeUsed, VariableUsed, LeafUsed, ReductionPushed, ReductionBegun, InRound, ReductionEntered}
 use Rattle.emission.specs.Laws.Readings.{reads-on}
 use Rattle.clauses.specs.Laws.{reduction-grown, total-writes}
 use Rattle.clauses.specs.declared.State.{State}
@@ -27,25 +28,15 @@ use Rattle.clauses.specs.declared.Translated.{Translated}
 
 -- ---- types
 
-no-length : (t : DataType) → ((n : ℕ) (s : DataType) → t ≡ array n s → ⊥) → 0 ≡ arrayLength t
-no-length number h = refl
-no-length (array n s) h = absurd (h n s refl)
-no-length (DataType.pair s t) h = refl
-
 no-group : (t : DataType) → ((n : ℕ) (s : DataType) → t ≡ array n s → ⊥) → 0 ≡ arrayLength (element t)
 no-group number h = refl
 no-group (array n s) h = absurd (h n s refl)
 no-group (DataType.pair s t) h = refl
+no-group (vector w) h = refl
 
 module _ (Y : List ℕ) (i : ℕ) where
-  pub length-none : ((n : ℕ) (t : DataType) → typeAt Y i ≡ array n t → ⊥) → 0 ≡ arrayLength (typeAt Y i)
-  length-none h = no-length (typeAt Y i) h
-
   pub group-none : ((n : ℕ) (t : DataType) → typeAt Y i ≡ array n t → ⊥) → 0 ≡ arrayLength (element (typeAt Y i))
   group-none h = no-group (typeAt Y i) h
-
-  pub length-some : (n : ℕ) (t : DataType) → typeAt Y i ≡ array n t → n ≡ arrayLength (typeAt Y i)
-  length-some n t e = sym (ap arrayLength e)
 
   pub group-some : (n r : ℕ) (t : DataType) → typeAt Y i ≡ array n t → r ≡ arrayLength t → r ≡ arrayLength (element (typeAt Y i))
   group-some n r t e h = h ∙ sym (ap (λ (s : DataType). arrayLength (element s)) e)
@@ -75,16 +66,17 @@ module _ (T U : List ℕ) (k n t row : ℕ) (s : State) (r : Translated) where
   pub leaf-literal : (k ≡ word-var → ⊥) → (k ≡ word-in → ⊥) → Pushed T U (s .len) (nodeOf word-lit 0 row 0 0) → NodeUsed s r → LeafUsed T U k n t row s r
   leaf-literal e f h u = record { input = λ x. absurd (f x); variable = λ x. absurd (e x); literal = λ x. (h, u) }
 
-pub number-join : (k n r : ℕ) (t : DataType) → k ≡ word-join → r ≡ arrayLength (element t) → r ≡ numberOver k n t
-number-join k n r t e h = rw e h
+-- m is the kind of the node that k makes
+pub number-join : (k m n r : ℕ) (t : DataType) → m ≡ nodeKind k → m ≡ word-join → r ≡ arrayLength (element t) → r ≡ numberOver k n t
+number-join k m n r t p e h = let q : r ≡ numberBy m n t = rw e h in q ∙ ap (λ (i : ℕ). numberBy i n t) p
 
-pub number-else : (k n : ℕ) (t : DataType) → (k ≡ word-join → ⊥) → n ≡ numberOver k n t
-number-else k n t h = rw (ne-eqb k word-join h) refl
+pub number-else : (k m n : ℕ) (t : DataType) → m ≡ nodeKind k → (m ≡ word-join → ⊥) → n ≡ numberOver k n t
+number-else k m n t p h = let q : n ≡ numberBy m n t = rw (ne-eqb m word-join h) refl in q ∙ ap (λ (i : ℕ). numberBy i n t) p
 
 -- ---- nodes
 
-pub pushed-as : {T U : List ℕ} {m : ℕ} (k k′ P : ℕ) → k ≡ k′ → Pushed T U m (nodeOf k 0 0 P 0) → Pushed T U m (nodeOf k′ 0 0 P 0)
-pushed-as {T} {U} {m} k k′ P e p = subst (λ (i : ℕ). Pushed T U m (nodeOf i 0 0 P 0)) e p
+pub pushed-as : {T U : List ℕ} {m : ℕ} (k k′ n P : ℕ) → k ≡ k′ → Pushed T U m (nodeOf k 0 n P 0) → Pushed T U m (nodeOf k′ 0 n P 0)
+pushed-as {T} {U} {m} k k′ n P e p = subst (λ (i : ℕ). Pushed T U m (nodeOf i 0 n P 0)) e p
 
 -- ---- rows
 

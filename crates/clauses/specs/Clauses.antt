@@ -8,7 +8,8 @@ use lib.Dec.{eqb}
 use lib.IntN.{pos}
 use lib.ListN.{getD, set}
 use Rattle.words.specs.Kinds.{word-in, word-var, word-lit, word-mappar, word-zip, word-pair, word-split, word-join}
-use Rattle.words.specs.Kinds.{word-fst, word-snd, word-seq, word-for, word-par, word-new, word-loc, word-ctr}
+use Rattle.words.specs.Kinds.{word-fst, word-snd, word-idx, word-seq, word-for, word-par, word-new, word-loc, word-ctr}
+use Rattle.words.specs.Kinds.{word-asvec, word-asscal, word-mapvec, word-at, word-lanes}
 use Rattle.words.specs.Groups.{isMap}
 use Rattle.meaning.specs.Types.{DataType, isNumber, cells, arrayLength, element}
 use Rattle.meaning.specs.Expressions.{Expression, Acceptor}
@@ -27,13 +28,21 @@ use Rattle.clauses.specs.declared.Translated.{Translated}
 abbrev pub regionNode : ℕ → ℕ
 regionNode k = cond (isMap k) 1 0
 
--- [6.22] The number of a node over one operand of type t: of a `join` the length of a group, else that of its row
-abbrev pub numberOver : ℕ → ℕ → DataType → ℕ
-numberOver k n t = cond (eqb k word-join) (arrayLength (element t)) n
+-- [18.12] The word of arrays whose node a word of vectors makes: of `asvec`, `asscal` and `at`
+abbrev pub nodeKind : ℕ → ℕ
+nodeKind k = cond (eqb k word-asvec) word-split (cond (eqb k word-asscal) word-join (cond (eqb k word-at) word-idx k))
 
--- [6.7] The loop that a map becomes
+-- [6.22] The number of a node over one operand of type t: of a `join` the length of a group, [18.13] of an `asscal` the width, else that of
+-- its row
+abbrev pub numberBy : ℕ → ℕ → DataType → ℕ
+numberBy k n t = cond (eqb k word-join) (arrayLength (element t)) n
+
+abbrev pub numberOver : ℕ → ℕ → DataType → ℕ
+numberOver k n t = numberBy (nodeKind k) n t
+
+-- [6.7] The loop that a map becomes, [18.12] a `mapvec` a `lanes`
 abbrev pub mapLoop : ℕ → ℕ
-mapLoop k = cond (eqb k word-mappar) word-par word-for
+mapLoop k = cond (eqb k word-mappar) word-par (cond (eqb k word-mapvec) word-lanes word-for)
 
 -- [6.9] `zip` and `pair`, and the places of their operands
 abbrev pub isPaired : ℕ → Bool
@@ -45,12 +54,18 @@ firstPart k = cond (eqb k word-zip) zip-first word-fst
 abbrev pub secondPart : ℕ → ℕ
 secondPart k = cond (eqb k word-zip) zip-second word-snd
 
--- [6.10], [6.22] `split` and `join`, and the place of their operand
+-- [6.10], [6.22] `split` and `join`, [18.12] `asvec` and `asscal`, and the place of their operand
+abbrev pub isGrouping : ℕ → Bool
+isGrouping k = cond (eqb k word-split) true (eqb k word-join)
+
 abbrev pub isRegrouped : ℕ → Bool
-isRegrouped k = cond (eqb k word-split) true (eqb k word-join)
+isRegrouped k = isGrouping (nodeKind k)
+
+abbrev pub groupingBack : ℕ → ℕ
+groupingBack k = cond (eqb k word-split) word-join word-split
 
 abbrev pub regroupedBy : ℕ → ℕ
-regroupedBy k = cond (eqb k word-split) word-join word-split
+regroupedBy k = groupingBack (nodeKind k)
 
 -- ---- rows
 

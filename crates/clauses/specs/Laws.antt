@@ -7,7 +7,7 @@ use native.Mathlib.Omega.{arith}
 use lib.IntN.{ℤ}
 use Rattle.words.specs.Kinds.{word-loc, word-ctr}
 use Rattle.words.specs.Groups.{oneOf}
-use Rattle.meaning.specs.Types.{DataType, number, array}
+use Rattle.meaning.specs.Types.{DataType, number, array, vector}
 use Rattle.meaning.specs.Loops.{Offset}
 use Rattle.meaning.specs.Expressions.{Expression, Acceptor}
 use Rattle.type_table.specs.Table.{typeAt}
@@ -22,6 +22,7 @@ pub body-region-few : (t : DataType) (r : ℕ) → bodyRegion t r ≤ r + 1
 body-region-few number r = omega arith
 body-region-few (array n t) r = omega arith
 body-region-few (DataType.pair s t) r = omega arith
+body-region-few (vector w) r = omega arith
 
 module _ (T U : List ℕ) (p a c r g len : ℕ) (R : ReductionPushed T U p a c r g len) where
   between-grown : Grown (R .one) U (len + 1)

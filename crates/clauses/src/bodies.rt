@@ -17,12 +17,15 @@ use emission::references::push_stored;
 use emission::rows::put_count;
 use words::kinds::*;
 
-// [6.7] The loop that a map becomes.
+// [6.7] The loop that a map becomes, [18.12] a `mapvec` a `lanes`.
 fn map_loop(kind: u8) -> u8
     ensures { λ r. ⌜ r ≡ mapLoop kind ⌝ }
 {
     if kind == WORD_MAPPAR {
         return WORD_PAR;
+    }
+    if kind == WORD_MAPVEC {
+        return WORD_LANES;
     }
     WORD_FOR
 }

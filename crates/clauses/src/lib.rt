@@ -7,8 +7,10 @@ ghost use Rattle.words.specs.Kinds.{word-in, word-var};
 ghost use Rattle.meaning.specs.Types.{arrayLength, element as elementType};
 ghost use Rattle.type_table.specs.Table.{typeAt, Sound};
 ghost use Rattle.emission.specs.Table.{table};
-ghost use Rattle.clauses.specs.Clauses.{numberOver, regionRows};
+ghost use Rattle.clauses.specs.Clauses.{nodeKind, numberOver, regionRows};
 ghost use Rattle.clauses.specs.Clauses.{NodeUsed, LeafUsed, OverOne, OverTwo, RegionOpened, RegionUsed, AfterUse, Later};
+use emission::elements::ElementsShape;
+use emission::elements::as_elements;
 use emission::references::push;
 use emission::references::push_stored;
 use emission::rows::put_count;
@@ -39,19 +41,25 @@ pub struct Translated {
     pub to: usize,
 }
 
-// The length of the type at a place; 0 where it is no array.
+// The length of the type at a place, [18.13] of a vector its width; 0 where it is neither.
 pub fn array_length(types: &[u64], place: usize) -> u16
     requires { ⌜ Sound (now types) (length (now types)) × (place < length (now types)) ⌝ }
     ensures { λ r. ⌜ r ≡ arrayLength (typeAt (now (types .entry)) place) ⌝ }
 {
-    let array = type_table::as_array(types, place);
-    let ArrayShape::Array { length, element } = array else {
+    let elements = as_elements(types, place);
+    let ElementsShape::Elements {
+        length,
+        element,
+        word,
+    } = elements
+    else {
         return 0;
     };
     length as u16
 }
 
-// [6.22] The length of its elements: of a `join`'s operand the length of a group, by which an index is divided ([14.4]).
+// [6.22] The length of its elements: of a `join`'s operand the length of a group, [18.13] of an `asscal`'s the width, by which an index is
+// divided ([14.4]).
 pub fn group_length(types: &[u64], place: usize) -> u16
     requires { ⌜ Sound (now types) (length (now types)) × (place < length (now types)) ⌝ }
     ensures { λ r. ⌜ r ≡ arrayLength (elementType (typeAt (now (types .entry)) place)) ⌝ }
@@ -63,12 +71,29 @@ pub fn group_length(types: &[u64], place: usize) -> u16
     array_length(types, element)
 }
 
-// [6.22] The number of the node of a term with one operand, whose type is at a place: a `join` has the length of a group.
+// [18.12] The word of arrays whose node a word of vectors makes: `split` for `asvec`, `join` for `asscal`, `idx` for `at`.
+pub fn node_kind(kind: u8) -> u8
+    ensures { λ r. ⌜ r ≡ nodeKind kind ⌝ }
+{
+    if kind == WORD_ASVEC {
+        return WORD_SPLIT;
+    }
+    if kind == WORD_ASSCAL {
+        return WORD_JOIN;
+    }
+    if kind == WORD_AT {
+        return WORD_IDX;
+    }
+    kind
+}
+
+// [6.22] The number of the node of a term with one operand, whose type is at a place: a `join` has the length of a group, [18.13] an `asscal`
+// the width.
 pub fn node_number(kind: u8, number: usize, types: &[u64], place: usize) -> u16
     requires { ⌜ Sound (now types) (length (now types)) × (place < length (now types)) × (number < 65536) ⌝ }
     ensures { λ r. ⌜ r ≡ numberOver kind number (typeAt (now (types .entry)) place) ⌝ }
 {
-    if kind == WORD_JOIN {
+    if node_kind(kind) == WORD_JOIN {
         return group_length(types, place);
     }
     number as u16
@@ -119,12 +144,12 @@ pub fn leaf(
     node_used(state)
 }
 
-// [6.15] A node over the one that was used.
+// [6.15] A node over the one that was used, [18.12] of a word of vectors that of the word of arrays.
 pub fn over_one(references: &mut [u64; 1024], kind: u8, number: u16, one: Translated) -> Translated
     requires { ⌜ (one .value < one .len) × (one .len < 1024) × (one .rows ≤ 65535) × (length (now references) ≡ 1024) ⌝ }
-    ensures { λ r. ⌜ OverOne (now (references .entry)) (now (references .exit)) kind number one r ⌝ }
+    ensures { λ r. ⌜ OverOne (now (references .entry)) (now (references .exit)) (nodeKind kind) number one r ⌝ }
 {
-    push(references, one.len, kind, number, one.value, 0);
+    push(references, one.len, node_kind(kind), number, one.value, 0);
     Translated {
         rows: 1 + one.rows,
         value: one.len,

@@ -1,4 +1,5 @@
-// The clauses of writing a term whose operands are written into parts of its place: `zip` and `pair` [6.9], `split` and `join` [6.10].
+// The clauses of writing a term whose operands are written into parts of its place: `zip` and `pair` [6.9], `split` and `join` [6.10],
+// [18.12] `asvec` and `asscal`.
 ghost use mathlib.Core.Path.{_≡_};
 ghost use Prim.Native.Nat.{_<_};
 ghost use lib.IntN.{pos};
@@ -8,6 +9,7 @@ ghost use Rattle.emission.specs.Table.{table, putRow};
 ghost use Rattle.clauses.specs.Clauses.{isPaired, isRegrouped, firstPart, secondPart, regroupedBy, IntoPart};
 use crate::State;
 use crate::Translated;
+use crate::node_kind;
 use emission::references::ZIP_FIRST;
 use emission::references::ZIP_SECOND;
 use emission::references::push;
@@ -28,10 +30,11 @@ pub fn is_paired(kind: u8) -> bool
 pub fn is_regrouped(kind: u8) -> bool
     ensures { λ r. ⌜ r ≡ isRegrouped kind ⌝ }
 {
-    if kind == WORD_SPLIT {
+    let own = node_kind(kind);
+    if own == WORD_SPLIT {
         return true;
     }
-    kind == WORD_JOIN
+    own == WORD_JOIN
 }
 
 // The kind of the place of a `zip`'s or a `pair`'s first operand.
@@ -54,11 +57,11 @@ pub fn second_part(kind: u8) -> u8
     WORD_SND
 }
 
-// [6.22] The kind of the place of a `split`'s or a `join`'s operand.
+// [6.22] The kind of the place of a `split`'s or a `join`'s operand, [18.13] of an `asvec`'s or an `asscal`'s.
 pub fn regrouped(kind: u8) -> u8
     ensures { λ r. ⌜ r ≡ regroupedBy kind ⌝ }
 {
-    if kind == WORD_SPLIT {
+    if node_kind(kind) == WORD_SPLIT {
         return WORD_JOIN;
     }
     WORD_SPLIT

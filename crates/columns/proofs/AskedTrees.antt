@@ -12,7 +12,7 @@ use lib.ListN.{length, getD, length-append}
 use Rattle.arithmetic.specs.Arithmetic.{Operation}
 use Rattle.refusals.specs.declared.Refusal.{Refusal}
 use Rattle.refusals.specs.declared.Refusal.the-variants.{OffsetBound}
-use Rattle.words.specs.Kinds.{Row, word-for, word-par, word-new}
+use Rattle.words.specs.Kinds.{Row}
 use Rattle.meaning.specs.Terms.{LoopKind}
 use Rattle.meaning.specs.Loops.{Offset, Place, Value, Command, plus, times, over, rest, seq, loop, new}
 use Rattle.meaning.specs.Rows.{offsetRows, valueRows, placeRows, commandRows, operationWord, loopWord}
@@ -23,7 +23,8 @@ use Rattle.columns.specs.Table.{Stand}
 use Rattle.columns.specs.Ends.{Ends}
 use Rattle.bounds.specs.Bounds.{everyRowBounded, askOffset, firstNo, askValue, askPlace, askSet, askCommand}
 use Rattle.bounds.specs.Laws.{row-bounded}
-use Rattle.columns.specs.Names.{opensBy, inForce, numbersOf, Named}
+use Rattle.words.specs.Groups.{oneOf}
+use Rattle.columns.specs.Names.{counterWords, regionWords, opensBy, inForce, numbersOf, Named}
 use Rattle.columns.specs.Figures.{Figures}
 use Rattle.columns.specs.Asking.{cellsBy, isAccess, noBy, noAt, firstFrom}
 use Rattle.columns.proofs.Tables as table
@@ -94,13 +95,13 @@ module _ (ks : List ℕ) (ns : List ℤ) (es ms fs : List ℕ) (E : Ends ks es) 
 
     -- a place or a reading
     access : (at k n cells : ℕ) (z : ℤ) (cs : List ℕ) (o : Offset) → Stand ks ns at ((k, z) ∷ offsetRows o) → 1 ≤ k → isAccess k ≡ true
-        → opensBy word-for word-par k ≡ false → getD es at 0 ≡ at + suc (length (offsetRows o))
-        → numbersOf ns (inForce word-for word-par ks es at) ≡ cs → cellsBy k (asNatural z) (getD ms at 0) ins out ≡ cells
+        → opensBy counterWords k ≡ false → getD es at 0 ≡ at + suc (length (offsetRows o))
+        → numbersOf ns (inForce counterWords ks es at) ≡ cs → cellsBy k (asNatural z) (getD ms at 0) ins out ≡ cells
         → firstFrom bad at (suc (length (offsetRows o))) ≡ askOffset (counterBound cs) cells (at + 1) o
     unfolding firstFrom askOffset noBy wholeBound
     access at k n cells z cs o s h a p e f g =
         let v = offset-bound ks ns es ms fs E F N (at + 1) cs o (table.next s)
-        (ap (numbersOf ns) (one-first ks ns es E word-for word-par at k z (offsetRows o) false s h p (offset-rows o) e) ∙ f) in
+        (ap (numbersOf ns) (one-first ks ns es E counterWords at k z (offsetRows o) false s h p (offset-rows o) e) ∙ f) in
         ap (λ (t : Option Refusal). cond (bad at) (some (OffsetBound (at + 1))) t) (offset-quiet (at + 1) o (table.next s))
         ∙ ap (λ (b : Bool). cond (cond b
         (cond (ltb 65535 (getD fs (at + 1) 0)) true
@@ -122,27 +123,27 @@ module _ (ks : List ℕ) (ns : List ℤ) (es ms fs : List ℕ) (E : Ends ks es) 
 
     -- what is in force: the rounds of the loops and the cells of the regions
     pub record InForce (at : ℕ) (cs rs : List ℕ) : Type 0 where
-      pub loops : numbersOf ns (inForce word-for word-par ks es at) ≡ cs
-      pub rooms : numbersOf ns (inForce word-new word-new ks es at) ≡ rs
+      pub loops : numbersOf ns (inForce counterWords ks es at) ≡ cs
+      pub rooms : numbersOf ns (inForce regionWords ks es at) ≡ rs
 
-    same-first : (at k : ℕ) (z : ℤ) (xs : List Row) (cs rs : List ℕ) → Stand ks ns at ((k, z) ∷ xs) → 1 ≤ k → opensBy word-for word-par k ≡ false
-        → opensBy word-new word-new k ≡ false → 1 ≤ length xs → getD es at 0 ≡ at + suc (length xs) → InForce at cs rs → InForce (at + 1) cs rs
+    same-first : (at k : ℕ) (z : ℤ) (xs : List Row) (cs rs : List ℕ) → Stand ks ns at ((k, z) ∷ xs) → 1 ≤ k → opensBy counterWords k ≡ false
+        → opensBy regionWords k ≡ false → 1 ≤ length xs → getD es at 0 ≡ at + suc (length xs) → InForce at cs rs → InForce (at + 1) cs rs
     same-first at k z xs cs rs s h a b l e i = record {
-      loops = ap (numbersOf ns) (one-first ks ns es E word-for word-par at k z xs false s h a l e) ∙ i .loops;
-      rooms = ap (numbersOf ns) (one-first ks ns es E word-new word-new at k z xs false s h b l e) ∙ i .rooms;
+      loops = ap (numbersOf ns) (one-first ks ns es E counterWords at k z xs false s h a l e) ∙ i .loops;
+      rooms = ap (numbersOf ns) (one-first ks ns es E regionWords at k z xs false s h b l e) ∙ i .rooms;
     }
 
-    same-second : (at k : ℕ) (z : ℤ) (xs ys : List Row) (cs rs : List ℕ) → Stand ks ns at ((k, z) ∷ (xs ++ ys)) → 1 ≤ k → opensBy word-for word-par k ≡ false
-        → opensBy word-new word-new k ≡ false → 1 ≤ length ys → getD es at 0 ≡ at + suc (length (xs ++ ys)) → getD es (at + 1) 0 ≡ at + 1 + length xs
+    same-second : (at k : ℕ) (z : ℤ) (xs ys : List Row) (cs rs : List ℕ) → Stand ks ns at ((k, z) ∷ (xs ++ ys)) → 1 ≤ k → opensBy counterWords k ≡ false
+        → opensBy regionWords k ≡ false → 1 ≤ length ys → getD es at 0 ≡ at + suc (length (xs ++ ys)) → getD es (at + 1) 0 ≡ at + 1 + length xs
         → InForce at cs rs → InForce (at + 1 + length xs) cs rs
     same-second at k z xs ys cs rs s h a b l e f i = record {
-      loops = ap (numbersOf ns) (two-second ks ns es E word-for word-par at k z xs ys (at + 1 + length xs) s h a l e f refl) ∙ i .loops;
-      rooms = ap (numbersOf ns) (two-second ks ns es E word-new word-new at k z xs ys (at + 1 + length xs) s h b l e f refl) ∙ i .rooms;
+      loops = ap (numbersOf ns) (two-second ks ns es E counterWords at k z xs ys (at + 1 + length xs) s h a l e f refl) ∙ i .loops;
+      rooms = ap (numbersOf ns) (two-second ks ns es E regionWords at k z xs ys (at + 1 + length xs) s h b l e f refl) ∙ i .rooms;
     }
 
     operating : (o : Operation) → (1 ≤ operationWord o) × (isAccess (operationWord o) ≡ false)
-        × (opensBy word-for word-par (operationWord o) ≡ false) × (opensBy word-new word-new (operationWord o) ≡ false)
-    unfolding isAccess opensBy
+        × (opensBy counterWords (operationWord o) ≡ false) × (opensBy regionWords (operationWord o) ≡ false)
+    unfolding isAccess oneOf
     operating Operation.addition = (omega arith, refl, refl, refl)
     operating Operation.subtraction = (omega arith, refl, refl, refl)
     operating Operation.multiplication = (omega arith, refl, refl, refl)
@@ -152,7 +153,7 @@ module _ (ks : List ℕ) (ns : List ℤ) (es ms fs : List ℕ) (E : Ends ks es) 
 
     pub ask-value : (at : ℕ) (cs rs : List ℕ) (v : Value) → Stand ks ns at (valueRows v) → InForce at cs rs
         → firstFrom bad at (length (valueRows v)) ≡ askValue ins (counterBound cs) (entry rs) (at + 1) v
-    unfolding valueRows askValue isAccess cellsBy opensBy
+    unfolding valueRows askValue isAccess cellsBy oneOf
     ask-value at cs rs (Value.input k o) s i =
         access at _ k (entry ins k) _ cs o s (omega arith) refl refl (E .value ns at (Value.input k o) s) (i .loops) refl
     ask-value at cs rs (Value.region d o) s i =
@@ -178,22 +179,23 @@ module _ (ks : List ℕ) (ns : List ℤ) (es ms fs : List ℕ) (E : Ends ks es) 
 
     pub ask-place : (at : ℕ) (cs rs : List ℕ) (p : Place) → Stand ks ns at (placeRows p) → InForce at cs rs
         → firstFrom bad at (length (placeRows p)) ≡ askPlace out (counterBound cs) (entry rs) (at + 1) p
-    unfolding placeRows askPlace isAccess cellsBy opensBy
+    unfolding placeRows askPlace isAccess cellsBy oneOf
     ask-place at cs rs (Place.output o) s i =
         access at _ 0 out _ cs o s (omega arith) refl refl (E .place ns at (Place.output o) s) (i .loops) refl
     ask-place at cs rs (Place.region d o) s i =
         access at _ d (entry rs d) _ cs o s (omega arith) refl refl (E .place ns at (Place.region d o) s) (i .loops)
         (N .region at (inside ks at _ (table.kind s) (omega arith)) (table.kind s) ∙ ap₂ entry (i .rooms) (ap asNatural (table.number s)))
 
-    looping : (kind : LoopKind) → (1 ≤ loopWord kind) × (isAccess (loopWord kind) ≡ false) × (opensBy word-for word-par (loopWord kind) ≡ true)
-        × (opensBy word-new word-new (loopWord kind) ≡ false)
-    unfolding isAccess opensBy
+    looping : (kind : LoopKind) → (1 ≤ loopWord kind) × (isAccess (loopWord kind) ≡ false) × (opensBy counterWords (loopWord kind) ≡ true)
+        × (opensBy regionWords (loopWord kind) ≡ false)
+    unfolding isAccess oneOf
     looping LoopKind.parallel = (omega arith, refl, refl, refl)
     looping LoopKind.sequential = (omega arith, refl, refl, refl)
+    looping LoopKind.lanes = (omega arith, refl, refl, refl)
 
     pub ask-command : (at : ℕ) (cs rs : List ℕ) (x : Command) → Stand ks ns at (commandRows x) → InForce at cs rs
         → firstFrom bad at (length (commandRows x)) ≡ askCommand ins out cs rs (at + 1) x
-    unfolding commandRows askCommand askSet isAccess opensBy
+    unfolding commandRows askCommand askSet isAccess oneOf
     ask-command at cs rs (Command.assignment p v) s i =
         let c = table.first (placeRows p) (valueRows v) s in
         let d = table.second (placeRows p) (valueRows v) (at + 1 + length (placeRows p)) refl s in
@@ -221,15 +223,15 @@ module _ (ks : List ℕ) (ns : List ℤ) (es ms fs : List ℕ) (E : Ends ks es) 
         let e = E .command ns at (loop kind n x) s in
         skip at _ (length (commandRows x)) (table.kind s) (p .1)
         ∙ ask-command (at + 1) (n ∷ cs) rs x (table.next s) (record {
-          loops = ap (numbersOf ns) (one-first ks ns es E word-for word-par at _ _ (commandRows x) true s (p .0) (p .2) (command-rows x) e)
+          loops = ap (numbersOf ns) (one-first ks ns es E counterWords at _ _ (commandRows x) true s (p .0) (p .2) (command-rows x) e)
               ∙ ap₂ (λ (j : ℕ) (l : List ℕ). j ∷ l) (ap asNatural (table.number s)) (i .loops);
-          rooms = ap (numbersOf ns) (one-first ks ns es E word-new word-new at _ _ (commandRows x) false s (p .0) (p .3) (command-rows x) e) ∙ i .rooms;
+          rooms = ap (numbersOf ns) (one-first ks ns es E regionWords at _ _ (commandRows x) false s (p .0) (p .3) (command-rows x) e) ∙ i .rooms;
         })
     ask-command at cs rs (new n x) s i =
         let e = E .command ns at (new n x) s in
         skip at _ (length (commandRows x)) (table.kind s) refl
         ∙ ask-command (at + 1) cs (n ∷ rs) x (table.next s) (record {
-          loops = ap (numbersOf ns) (one-first ks ns es E word-for word-par at _ _ (commandRows x) false s (omega arith) refl (command-rows x) e) ∙ i .loops;
-          rooms = ap (numbersOf ns) (one-first ks ns es E word-new word-new at _ _ (commandRows x) true s (omega arith) refl (command-rows x) e)
+          loops = ap (numbersOf ns) (one-first ks ns es E counterWords at _ _ (commandRows x) false s (omega arith) refl (command-rows x) e) ∙ i .loops;
+          rooms = ap (numbersOf ns) (one-first ks ns es E regionWords at _ _ (commandRows x) true s (omega arith) refl (command-rows x) e)
               ∙ ap₂ (λ (j : ℕ) (l : List ℕ). j ∷ l) (ap asNatural (table.number s)) (i .rooms);
         })

@@ -78,6 +78,7 @@ module _ (ks : List ℕ) (ns : List ℤ) (es : List ℕ) (E : Ends ks es) where
   unfolding figureBy isCommand writesBy
   looped-writes LoopKind.parallel n m x y = refl
   looped-writes LoopKind.sequential n m x y = refl
+  looped-writes LoopKind.lanes n m x y = refl
 
   pub writes-there : (ms fs : List ℕ) → Figures ks ns es ms fs → (at : ℕ) (x : Command) → Stand ks ns at (commandRows x)
       → getD fs at 0 ≡ cappedWrites (commandWrites x)
@@ -94,6 +95,7 @@ module _ (ks : List ℕ) (ns : List ℤ) (es : List ℕ) (E : Ends ks es) where
   unfolding roomBy room
   looped-room LoopKind.parallel n c y = capped-product 281474976710656 n (room c)
   looped-room LoopKind.sequential n c y = refl
+  looped-room LoopKind.lanes n c y = capped-product 281474976710656 n (room c)
 
   pub room-there : (rs : List ℕ) → Rooms ks ns es rs → (at : ℕ) (x : Command) → Stand ks ns at (commandRows x)
       → getD rs at 0 ≡ cappedRoom (room x)

@@ -8,7 +8,6 @@ use borrow.Author.Tests.{leb-true, leb-false, le-ltb}
 use lib.Dec.{ltb, leb}
 use lib.IntN.{ℤ, pos}
 use lib.ListN.{length, getD, length-append}
-use Rattle.words.specs.Kinds.{word-for, word-par}
 use Rattle.meaning.specs.Loops.{Offset, plus, times, over, rest}
 use Rattle.meaning.specs.Rows.{offsetRows}
 use Rattle.meaning.specs.Runs.{entry}
@@ -18,7 +17,8 @@ use Rattle.columns.specs.Table.{Stand}
 use Rattle.columns.specs.Ends.{Ends}
 use Rattle.bounds.specs.Bounds.{everyRowBounded}
 use Rattle.bounds.specs.Laws.{row-bounded}
-use Rattle.columns.specs.Names.{opensBy, inForce, numbersOf, Named}
+use Rattle.words.specs.Groups.{oneOf}
+use Rattle.columns.specs.Names.{counterWords, opensBy, inForce, numbersOf, Named}
 use Rattle.columns.specs.Figures.{cappedBound, scaledBy, boundBy, isCommand, figureBy, Figures}
 use Rattle.columns.proofs.Tables as table
 use Rattle.columns.proofs.EndTrees.{inside}
@@ -58,9 +58,9 @@ module _ (ks : List ℕ) (ns : List ℤ) (es ms fs : List ℕ) (E : Ends ks es) 
       ∙ ap₂ (λ (i j : ℕ). figureBy i j (getD ms at 0) (getD fs (at + 1) 0) (getD fs (getD es (at + 1) 0) 0)) e (ap asNatural g ∙ a)
 
   -- the bound of an offset, where the loops in force have these rounds
-  pub offset-bound : (at : ℕ) (cs : List ℕ) (o : Offset) → Stand ks ns at (offsetRows o) → numbersOf ns (inForce word-for word-par ks es at) ≡ cs
+  pub offset-bound : (at : ℕ) (cs : List ℕ) (o : Offset) → Stand ks ns at (offsetRows o) → numbersOf ns (inForce counterWords ks es at) ≡ cs
       → getD fs at 0 ≡ wholeBound (counterBound cs) o
-  unfolding offsetRows figureBy isCommand boundBy scaledBy wholeBound everyRowBounded opensBy
+  unfolding offsetRows figureBy isCommand boundBy scaledBy wholeBound everyRowBounded oneOf
   offset-bound at cs (Offset.literal v) s f =
       row-bound at _ v _ (table.kind s) (omega arith) (table.number s) refl ∙ sym (within v)
   offset-bound at cs (Offset.counter d) s f =
@@ -76,31 +76,31 @@ module _ (ks : List ℕ) (ns : List ℤ) (es ms fs : List ℕ) (E : Ends ks es) 
       row-bound at _ 0 _ (table.kind s) (omega arith) (table.number s) refl
       ∙ ap₂ (λ (i j : ℕ). cappedBound (i + j))
       (offset-bound (at + 1) cs x c (ap (numbersOf ns)
-      (one-first ks ns es E word-for word-par at _ _ (offsetRows x ++ offsetRows y) false s (omega arith) refl
+      (one-first ks ns es E counterWords at _ _ (offsetRows x ++ offsetRows y) false s (omega arith) refl
       (omega (arith, length-append (offsetRows x) (offsetRows y), offset-rows x)) w) ∙ f))
       (ap (λ (i : ℕ). getD fs i 0) e
       ∙ offset-bound (at + 1 + length (offsetRows x)) cs y d
-      (ap (numbersOf ns) (two-second ks ns es E word-for word-par at _ _ (offsetRows x) (offsetRows y) (at + 1 + length (offsetRows x)) s
+      (ap (numbersOf ns) (two-second ks ns es E counterWords at _ _ (offsetRows x) (offsetRows y) (at + 1 + length (offsetRows x)) s
       (omega arith) refl (offset-rows y) w e refl) ∙ f))
       ∙ sum-within (everyRowBounded (counterBound cs) x) (everyRowBounded (counterBound cs) y) (bound (counterBound cs) x) (bound (counterBound cs) y)
   offset-bound at cs (times n x) s f =
       row-bound at _ n _ (table.kind s) (omega arith) (table.number s) refl
       ∙ ap (λ (i : ℕ). cond (ltb 65535 i) 65536 (cappedBound (n * i)))
       (offset-bound (at + 1) cs x (table.next s)
-      (ap (numbersOf ns) (one-first ks ns es E word-for word-par at _ _ (offsetRows x) false s (omega arith) refl (offset-rows x)
+      (ap (numbersOf ns) (one-first ks ns es E counterWords at _ _ (offsetRows x) false s (omega arith) refl (offset-rows x)
       (E .offset ns at (times n x) s)) ∙ f))
       ∙ step-within (everyRowBounded (counterBound cs) x) (bound (counterBound cs) x) (λ (i : ℕ). n * i) (row-bounded (counterBound cs) x)
   offset-bound at cs (over n x) s f =
       row-bound at _ n _ (table.kind s) (omega arith) (table.number s) refl
       ∙ ap (λ (i : ℕ). cond (ltb 65535 i) 65536 (cappedBound (i / n)))
       (offset-bound (at + 1) cs x (table.next s)
-      (ap (numbersOf ns) (one-first ks ns es E word-for word-par at _ _ (offsetRows x) false s (omega arith) refl (offset-rows x)
+      (ap (numbersOf ns) (one-first ks ns es E counterWords at _ _ (offsetRows x) false s (omega arith) refl (offset-rows x)
       (E .offset ns at (over n x) s)) ∙ f))
       ∙ step-within (everyRowBounded (counterBound cs) x) (bound (counterBound cs) x) (λ (i : ℕ). i / n) (row-bounded (counterBound cs) x)
   offset-bound at cs (rest n x) s f =
       row-bound at _ n _ (table.kind s) (omega arith) (table.number s) refl
       ∙ ap (λ (i : ℕ). cond (ltb 65535 i) 65536 (cappedBound (min i (n - 1))))
       (offset-bound (at + 1) cs x (table.next s)
-      (ap (numbersOf ns) (one-first ks ns es E word-for word-par at _ _ (offsetRows x) false s (omega arith) refl (offset-rows x)
+      (ap (numbersOf ns) (one-first ks ns es E counterWords at _ _ (offsetRows x) false s (omega arith) refl (offset-rows x)
       (E .offset ns at (rest n x) s)) ∙ f))
       ∙ step-within (everyRowBounded (counterBound cs) x) (bound (counterBound cs) x) (λ (i : ℕ). min i (n - 1)) (row-bounded (counterBound cs) x)

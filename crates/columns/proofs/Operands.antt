@@ -47,14 +47,14 @@ command-rows (new n x) = omega arith
 
 module _ (ks : List ℕ) (ns : List ℤ) (es : List ℕ) (E : Ends ks es) where
   -- what is in force at the operands of a row with one, and with two
-  pub one-first : (a b at : ℕ) (k : ℕ) (z : ℤ) (rs : List Row) (o : Bool) → Stand ks ns at ((k, z) ∷ rs) → 1 ≤ k → opensBy a b k ≡ o → 1 ≤ length rs
-      → getD es at 0 ≡ at + suc (length rs) → inForce a b ks es (at + 1) ≡ pushIf o at (inForce a b ks es at)
-  one-first a b at k z rs o s h e l f =
-      force-first ks es E a b at o (ap (opensBy a b) (table.kind s) ∙ e) (inside ks at k (table.kind s) h) (omega (arith, f, l))
+  pub one-first : (ws : List ℕ) (at : ℕ) (k : ℕ) (z : ℤ) (rs : List Row) (o : Bool) → Stand ks ns at ((k, z) ∷ rs) → 1 ≤ k → opensBy ws k ≡ o → 1 ≤ length rs
+      → getD es at 0 ≡ at + suc (length rs) → inForce ws ks es (at + 1) ≡ pushIf o at (inForce ws ks es at)
+  one-first ws at k z rs o s h e l f =
+      force-first ks es E ws at o (ap (opensBy ws) (table.kind s) ∙ e) (inside ks at k (table.kind s) h) (omega (arith, f, l))
 
-  pub two-second : (a b at : ℕ) (k : ℕ) (z : ℤ) (xs ys : List Row) (i : ℕ) → Stand ks ns at ((k, z) ∷ (xs ++ ys)) → 1 ≤ k → opensBy a b k ≡ false
+  pub two-second : (ws : List ℕ) (at : ℕ) (k : ℕ) (z : ℤ) (xs ys : List Row) (i : ℕ) → Stand ks ns at ((k, z) ∷ (xs ++ ys)) → 1 ≤ k → opensBy ws k ≡ false
       → 1 ≤ length ys → getD es at 0 ≡ at + suc (length (xs ++ ys)) → getD es (at + 1) 0 ≡ at + 1 + length xs → i ≡ at + 1 + length xs
-      → inForce a b ks es i ≡ inForce a b ks es at
-  two-second a b at k z xs ys i s h e l f g j =
-      force-second ks es E a b at i (ap (opensBy a b) (table.kind s) ∙ e) (inside ks at k (table.kind s) h) (j ∙ sym g)
+      → inForce ws ks es i ≡ inForce ws ks es at
+  two-second ws at k z xs ys i s h e l f g j =
+      force-second ks es E ws at i (ap (opensBy ws) (table.kind s) ∙ e) (inside ks at k (table.kind s) h) (j ∙ sym g)
       (omega (arith, f, j, l, length-append xs ys)) (length xs) (omega (arith, j))

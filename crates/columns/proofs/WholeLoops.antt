@@ -11,7 +11,7 @@ use lib.IntN.{ℤ, pos}
 use lib.ListN.{length, getD}
 use Rattle.refusals.specs.declared.Refusal.{Refusal}
 use Rattle.refusals.specs.declared.Refusal.the-variants.{OffsetBound}
-use Rattle.words.specs.Kinds.{Row, rowsOf, word-loops, word-cells, word-for, word-par, word-new}
+use Rattle.words.specs.Kinds.{Row, rowsOf, word-loops, word-cells}
 use Rattle.words.specs.Laws.{rows-length}
 use Rattle.meaning.specs.Loops.{Loops}
 use Rattle.meaning.specs.Rows.{commandRows, allCellsRows, loopsRows}
@@ -22,7 +22,8 @@ use Rattle.columns.specs.declared.Asked.{Asked}
 use Rattle.columns.specs.declared.Asked.the-variants.{Passed, Refused}
 use Rattle.columns.specs.Table.{Stand}
 use Rattle.columns.specs.Ends.{Ends}
-use Rattle.columns.specs.Names.{closing, opensBy, pushIf, framed, inForce, numbersOf, Named}
+use Rattle.words.specs.Groups.{oneOf}
+use Rattle.columns.specs.Names.{counterWords, regionWords, closing, opensBy, pushIf, framed, inForce, numbersOf, Named}
 use Rattle.columns.specs.Figures.{cappedWrites, cappedRoom, Figures, Rooms}
 use Rattle.columns.specs.Asking.{isAccess, noAt, firstFrom, noOn}
 use Rattle.columns.specs.Whole.{askedOn, asking}
@@ -33,22 +34,22 @@ use Rattle.columns.proofs.AskedTrees as asked
 -- ---- the rows before the command
 
 module _ (ks : List ℕ) (ns : List ℤ) (es : List ℕ) where
-  next : (a b at k : ℕ) → getD ks at 0 ≡ k → opensBy a b k ≡ false → framed a b ks es at ≡ [] → framed a b ks es (suc at) ≡ []
+  next : (ws : List ℕ) (at k : ℕ) → getD ks at 0 ≡ k → opensBy ws k ≡ false → framed ws ks es at ≡ [] → framed ws ks es (suc at) ≡ []
   unfolding framed
-  next a b at k e o f = ap₂ (λ (x : Bool) (l : List ℕ). pushIf x at (closing es at l)) (ap (opensBy a b) e ∙ o) f
+  next ws at k e o f = ap₂ (λ (x : Bool) (l : List ℕ). pushIf x at (closing es at l)) (ap (opensBy ws) e ∙ o) f
 
   -- a row that opens nothing leaves an empty stack empty
-  still : (a b at k : ℕ) → getD ks at 0 ≡ k → opensBy a b k ≡ false → framed a b ks es at ≡ [] → framed a b ks es (at + 1) ≡ []
-  still a b at k e o f = subst (λ (i : ℕ). framed a b ks es i ≡ []) (let s : suc at ≡ at + 1 = omega arith in s) (next a b at k e o f)
+  still : (ws : List ℕ) (at k : ℕ) → getD ks at 0 ≡ k → opensBy ws k ≡ false → framed ws ks es at ≡ [] → framed ws ks es (at + 1) ≡ []
+  still ws at k e o f = subst (λ (i : ℕ). framed ws ks es i ≡ []) (let s : suc at ≡ at + 1 = omega arith in s) (next ws at k e o f)
 
-  front : (a b : ℕ) → opensBy a b word-cells ≡ false → (ins : List ℕ) (at : ℕ) (z : ℤ) (rest : List Row)
-      → Stand ks ns at (allCellsRows ins ++ ((word-cells, z) ∷ rest)) → framed a b ks es at ≡ []
-      → framed a b ks es (at + (length ins + 1)) ≡ []
+  front : (ws : List ℕ) → opensBy ws word-cells ≡ false → (ins : List ℕ) (at : ℕ) (z : ℤ) (rest : List Row)
+      → Stand ks ns at (allCellsRows ins ++ ((word-cells, z) ∷ rest)) → framed ws ks es at ≡ []
+      → framed ws ks es (at + (length ins + 1)) ≡ []
   unfolding allCellsRows
-  front a b o [] at z rest s f = still a b at word-cells (table.kind s) o f
-  front a b o (c ∷ ins) at z rest s f =
-      subst (λ (i : ℕ). framed a b ks es i ≡ []) (let t : at + 1 + (length ins + 1) ≡ at + (suc (length ins) + 1) = omega arith in t)
-      (front a b o ins (at + 1) z rest (table.next s) (still a b at word-cells (table.kind s) o f))
+  front ws o [] at z rest s f = still ws at word-cells (table.kind s) o f
+  front ws o (c ∷ ins) at z rest s f =
+      subst (λ (i : ℕ). framed ws ks es i ≡ []) (let t : at + 1 + (length ins + 1) ≡ at + (suc (length ins) + 1) = omega arith in t)
+      (front ws o ins (at + 1) z rest (table.next s) (still ws at word-cells (table.kind s) o f))
 
   command-stands : (ins : List ℕ) (at i : ℕ) (z : ℤ) (rest : List Row) → i ≡ at + (length ins + 1)
       → Stand ks ns at (allCellsRows ins ++ ((word-cells, z) ∷ rest)) → Stand ks ns i rest
@@ -56,9 +57,9 @@ module _ (ks : List ℕ) (ns : List ℤ) (es : List ℕ) where
   command-stands [] at i z rest e s = subst (λ (j : ℕ). Stand ks ns j rest) (let t : at + 1 ≡ i = omega (arith, e) in t) (table.next s)
   command-stands (c ∷ ins) at i z rest e s = command-stands ins (at + 1) i z rest (omega (arith, e)) (table.next s)
 
-framed-zero : (a b : ℕ) (ks es : List ℕ) → framed a b ks es 0 ≡ []
+framed-zero : (ws : List ℕ) (ks es : List ℕ) → framed ws ks es 0 ≡ []
 unfolding framed
-framed-zero a b ks es = refl
+framed-zero ws ks es = refl
 
 -- ---- the answer
 
@@ -107,11 +108,11 @@ module _ (ks : List ℕ) (ns : List ℤ) (es ms fs rs : List ℕ) (E : Ends ks e
   command-here q i =
       command-stands ks ns es (L .inputs) (0 + 1) q (pos (L .output)) (commandRows (L .command)) (omega (arith, i)) (table.next all-stand)
 
-  none-framed : (a b : ℕ) → opensBy a b word-loops ≡ false → opensBy a b word-cells ≡ false → framed a b ks es (0 + 1 + (length (L .inputs) + 1)) ≡ []
+  none-framed : (ws : List ℕ) → opensBy ws word-loops ≡ false → opensBy ws word-cells ≡ false → framed ws ks es (0 + 1 + (length (L .inputs) + 1)) ≡ []
   unfolding loopsRows
-  none-framed a b o u =
-      front ks ns es a b u (L .inputs) (0 + 1) (pos (L .output)) (commandRows (L .command)) (table.next all-stand)
-      (still ks ns es a b 0 word-loops (table.kind all-stand) o (framed-zero a b ks es))
+  none-framed ws o u =
+      front ks ns es ws u (L .inputs) (0 + 1) (pos (L .output)) (commandRows (L .command)) (table.next all-stand)
+      (still ks ns es ws 0 word-loops (table.kind all-stand) o (framed-zero ws ks es))
 
   -- ---- question 9
 
@@ -141,13 +142,13 @@ module _ (ks : List ℕ) (ns : List ℤ) (es ms fs rs : List ℕ) (E : Ends ks e
         ∙ past-cells (L .inputs) (0 + 1) q (pos (L .output)) (commandRows (L .command)) (omega (arith, i)) (table.next all-stand)
 
   asked-whole : (q : ℕ) → q ≡ 2 + length (L .inputs) → firstFrom (noAt ks ns ms fs (L .inputs) (L .output)) 0 (length ks) ≡ askBounds L
-  unfolding askBounds inForce opensBy
+  unfolding askBounds inForce oneOf
   asked-whole q i =
       all-rows (L .inputs) (L .output) q i
       ∙ asked.ask-command ks ns es ms fs E F N (L .inputs) (L .output) q [] [] (L .command) (command-here q i)
       (record {
-        loops = ap (λ (l : List ℕ). numbersOf ns (closing es q l)) (ap (framed word-for word-par ks es) at-q ∙ none-framed word-for word-par refl refl);
-        rooms = ap (λ (l : List ℕ). numbersOf ns (closing es q l)) (ap (framed word-new word-new ks es) at-q ∙ none-framed word-new word-new refl refl);
+        loops = ap (λ (l : List ℕ). numbersOf ns (closing es q l)) (ap (framed counterWords ks es) at-q ∙ none-framed counterWords refl refl);
+        rooms = ap (λ (l : List ℕ). numbersOf ns (closing es q l)) (ap (framed regionWords ks es) at-q ∙ none-framed regionWords refl refl);
       })
       ∙ ap (λ (l : ℕ). askCommand (L .inputs) (L .output) [] [] l (L .command)) (let t : q + 1 ≡ 3 + length (L .inputs) = omega (arith, i) in t)
     where

@@ -7,7 +7,7 @@ use Prim.Native.Nat.{ℕ, min, max, _+_, _*_, _-_, _/_, _≤_, _<_}
 use lib.Dec.{eqb, ltb}
 use lib.IntN.{ℤ, pos}
 use lib.ListN.{length, getD}
-use Rattle.words.specs.Kinds.{word-lit, word-ctr, word-plus, word-times, word-over, word-set, word-seq, word-for, word-par, word-new}
+use Rattle.words.specs.Kinds.{word-lit, word-ctr, word-plus, word-times, word-over, word-set, word-seq, word-for, word-par, word-new, word-lanes}
 use Rattle.syntax.specs.Ranges.{asNatural}
 
 -- ---- the figure
@@ -38,7 +38,7 @@ writesBy k n x y =
 
 -- [3.13] the words of commands
 unfoldable pub isCommand : ℕ → Bool
-isCommand k = eqb k word-set || eqb k word-seq || eqb k word-for || eqb k word-par || eqb k word-new
+isCommand k = eqb k word-set || eqb k word-seq || eqb k word-for || eqb k word-par || eqb k word-new || eqb k word-lanes
 
 -- a command's writes; of another row its bound
 unfoldable pub figureBy : ℕ → ℕ → ℕ → ℕ → ℕ → ℕ
@@ -59,7 +59,7 @@ unfoldable pub roomBy : ℕ → ℕ → ℕ → ℕ → ℕ
 roomBy k n x y =
     cond (eqb k word-set) 0
     (cond (eqb k word-seq) (max x y)
-    (cond (eqb k word-new) (cappedRoom (n + x)) (cond (eqb k word-par) (cappedRoom (n * x)) x)))
+    (cond (eqb k word-new) (cappedRoom (n + x)) (cond (eqb k word-par) (cappedRoom (n * x)) (cond (eqb k word-lanes) (cappedRoom (n * x)) x))))
 
 abbrev pub roomAt : List ℕ → List ℤ → ℕ → ℕ → ℕ → ℕ
 roomAt ks ns p x y = roomBy (getD ks p 0) (asNatural (getD ns p (pos 0))) x y

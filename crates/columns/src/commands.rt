@@ -48,7 +48,10 @@ fn is_command(kind: u8) -> bool
     if kind == WORD_PAR {
         return true;
     }
-    kind == WORD_NEW
+    if kind == WORD_NEW {
+        return true;
+    }
+    kind == WORD_LANES
 }
 
 // A command's writes; of another row its bound. `named` is the number of the row that it names.

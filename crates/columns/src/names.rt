@@ -7,9 +7,10 @@ ghost use lib.IntN.{pos};
 ghost use lib.ListN.{length, getD, drop};
 ghost use Rattle.meaning.specs.Runs.{entry as entryOf};
 ghost use Rattle.syntax.specs.Ranges.{asNatural};
-ghost use Rattle.columns.specs.Names.{closing, opensBy, numbersOf, Passed, Noted, Named};
+ghost use Rattle.columns.specs.Names.{closing, opensBy, regionWords, numbersOf, Passed, Noted, Named};
 use crate::entries::number_at;
 use crate::entries::row_at;
+use words::groups::is_loop;
 use words::kinds::*;
 
 // The rows that opened what is in force are stack[top..], innermost first: the new top without those that end at row q or before it.
@@ -51,14 +52,11 @@ fn called(numbers: &[i32], stack: &[u16], top: usize, d: usize) -> usize
     0
 }
 
-// One of two words opens a name.
-fn opens(kind: u8, a: u8, b: u8) -> bool
-    ensures { λ r. ⌜ r ≡ opensBy a b kind ⌝ }
+// Whether a row opens a region.
+fn opens_region(kind: u8) -> bool
+    ensures { λ r. ⌜ r ≡ opensBy regionWords kind ⌝ }
 {
-    if kind == a {
-        return true;
-    }
-    kind == b
+    kind == WORD_NEW
 }
 
 // Row q opens a name, or has one, whose number is put into `named`, or neither; the new top. What has ended is closed where the stack is
@@ -117,7 +115,7 @@ pub fn fill(
             ends,
             counters,
             counter,
-            opens(kind, WORD_FOR, WORD_PAR),
+            is_loop(kind),
             kind == WORD_CTR,
             q,
             named,
@@ -127,7 +125,7 @@ pub fn fill(
             ends,
             regions,
             region,
-            opens(kind, WORD_NEW, WORD_NEW),
+            opens_region(kind),
             kind == WORD_LOC,
             q,
             named,

@@ -61,6 +61,9 @@ fn row_room(kind: u8, n: usize, first: usize, second: usize) -> usize
     if kind == WORD_PAR {
         return capped_product(n, first);
     }
+    if kind == WORD_LANES {
+        return capped_product(n, first);
+    }
     first
 }
 

@@ -7,6 +7,8 @@ pub mod Filled
 pub mod Nodes
 pub mod Growth
 pub mod Readings
+-- What has elements
+pub mod Elements
 -- Paths and offsets
 pub mod PathSteps
 pub mod Indices

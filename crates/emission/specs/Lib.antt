@@ -4,6 +4,7 @@
 pub mod Table
 pub mod Nodes
 pub mod Changes
+pub mod Elements
 pub mod References
 pub mod Growth
 -- Their laws

@@ -1,5 +1,5 @@
-// [6.3] Assignment by type: a number is one `set`, an array a `par` over its elements, a pair its first part and then its second.
-// [14.7] It is `par` also where all around it goes in sequence.
+// [6.3] Assignment by type: a number is one `set`, an array a `par` over its elements, a pair its first part and then its second, [18.11] a
+// vector a `lanes` over its lanes. [14.7] An array's is `par` also where all around it goes in sequence.
 ghost use mathlib.Core.Path.{_≡_};
 ghost use Prim.Native.Nat.{_+_, _*_, _<_, _≤_};
 ghost use lib.ListN.{length};
@@ -10,12 +10,13 @@ ghost use Rattle.type_table.specs.Table.{typeAt, Sound};
 ghost use Rattle.emission.specs.Table.{table, putRows};
 ghost use Rattle.emission.specs.References.{expressionAt, acceptorAt};
 ghost use Rattle.emission.specs.Growth.{Grown, BothPushed};
+use crate::elements::ElementsShape;
+use crate::elements::as_elements;
 use crate::places::put_place;
 use crate::references::push;
 use crate::rows::MOST_ROWS;
 use crate::rows::put_count;
 use crate::values::put_value;
-use type_table::ArrayShape;
 use type_table::PairShape;
 use words::kinds::*;
 
@@ -110,9 +111,13 @@ pub fn put_assign(
     if MOST_ROWS < to {
         return to;
     }
-    let array = type_table::as_array(types, place);
-    if let ArrayShape::Array { length, element } = array {
-        let round = put_count(kinds, numbers, to, WORD_PAR, length as u16);
+    let elements = as_elements(types, place);
+    if let ElementsShape::Elements {
+        length,
+        element,
+        word,
+    } = elements {
+        let round = put_count(kinds, numbers, to, word, length as u16);
         push_both(references, len, WORD_CTR, counters, value, target);
         return put_assign(
             types,

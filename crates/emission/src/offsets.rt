@@ -10,11 +10,12 @@ ghost use Rattle.type_table.specs.Table.{typeAt, Sound};
 ghost use Rattle.emission.specs.Table.{table, putRow, putRows};
 ghost use Rattle.emission.specs.Changes.{pathOf};
 ghost use Rattle.emission.specs.Laws.Offsets.{allOffsetRows};
+use crate::elements::ElementsShape;
+use crate::elements::as_elements;
 use crate::paths::is_second;
 use crate::paths::put_index;
 use crate::rows::put_count;
 use crate::rows::put_pluses;
-use type_table::ArrayShape;
 use type_table::PairShape;
 use words::kinds::*;
 
@@ -51,8 +52,12 @@ fn count_summands(
     requires { ⌜ Sound (now types) (suc place) × (depth ≤ 1024) × (j + place ≤ 131072) ⌝ }
     ensures { λ r. ⌜ (r ≡ length (summands (typeAt (now (types .entry)) place) (drop j (pathOf (now (changes .entry)) depth)))) × (r ≤ place) ⌝ }
 {
-    let array = type_table::as_array(types, place);
-    if let ArrayShape::Array { length: _, element } = array {
+    let elements = as_elements(types, place);
+    if let ElementsShape::Elements {
+        length: _,
+        element,
+        word: _,
+    } = elements {
         return 1 + count_summands(types, changes, element, depth, j + 1);
     }
     let pair = type_table::as_pair(types, place);
@@ -81,8 +86,12 @@ fn put_summands(
     ensures { λ r. ⌜ table (now (kinds .exit)) (now (numbers .exit)) r
         ≡ putRows (allOffsetRows counters (summands (typeAt (now (types .entry)) place) (drop j (pathOf (now (changes .entry)) depth)))) (table (now (kinds .entry)) (now (numbers .entry)) to) ⌝ }
 {
-    let array = type_table::as_array(types, place);
-    if let ArrayShape::Array { length: _, element } = array {
+    let elements = as_elements(types, place);
+    if let ElementsShape::Elements {
+        length: _,
+        element,
+        word: _,
+    } = elements {
         let index = put_cells(types, kinds, numbers, element, WORD_TIMES, to);
         let next = put_index(changes, kinds, numbers, depth, j, counters, index);
         return put_summands(

@@ -13,7 +13,8 @@ use words::kinds::*;
 // Kinds of nodes that are no word, past those of every table of words: the acceptors of the two operands of a `zip` ([6.9]). The others are named by words: `in`, `loc` and
 // `out` lie in the store in some type, their numbers being an input or a region's level; the number of `lit` is its row in
 // the plan. `split` and `join` are those of what is read; where a write goes through ([6.22]), `join` stands for the place of a
-// `split`'s operand, and `split` for that of a `join`'s.
+// `split`'s operand, and `split` for that of a `join`'s. [18.12] Vectors have no nodes of their own: `asvec`, `asscal` and `at` make those of
+// `split`, `join` and `idx`.
 pub const ZIP_FIRST: u8 = 254;
 
 pub const ZIP_SECOND: u8 = 255;

@@ -1,4 +1,4 @@
--- The cards P1 to P10, [15.1] and [15.2]: one list, from the plans' texts, and one proof.
+-- The cards P1 to P10, [15.1] and [15.2], and plans with vectors: lists from the plans' texts, and one proof.
 --
 -- It is computed from the definitions that the contracts of the entries name:
 --   typing      checkPlanText: `check_text` of `plans`
@@ -161,7 +161,18 @@ cards =
     ∷ ("P10", checked "plan,0 lit,-0", refused 2 2)
     ∷ []
 
-pub cards-answered : map (λ (c : Card). answered (c .1)) cards ≡ map (λ (c : Card). c .2) cards
+-- [18.12] Plans with vectors: one lane; a map of lanes over the elements of an array; a vector total in a `mapvec` makes a `lanes` inside another,
+-- a `mapvec` that is used in front of one makes none.
+abbrev pub vectors : List Card
+vectors =
+    ("lane", translated "plan,1 vec,8 at,7 in,0", made (text "loops,1 cells,8 cells,1 set,0 out,0 lit,0 in,0 times,1 lit,7") 9 1 9)
+    ∷ eachOrder "lanes" "plan,1 arr,2 vec,2 asscal,0 mappar,0 in,0 mapvec,0 var,0 add,0 var,0 at,1 var,1"
+    (numbers (1 ∷ 2 ∷ 3 ∷ 4 ∷ 0 ∷ 0 ∷ 0 ∷ 0 ∷ [])) (finished 4 (numbers (3 ∷ 4 ∷ 7 ∷ 8 ∷ [])))
+    ++ ("inside", translated "plan,2 vec,2 arr,1 num,0 mapvec,0 in,0 at,0 redseq,0 in,0 in,1 var,0", refused 18 0)
+    ∷ eachOrder "before" "plan,1 vec,2 at,0 mapvec,0 mapvec,0 in,0 neg,0 var,0 neg,0 var,0"
+    (numbers (5 ∷ 6 ∷ 0 ∷ 0 ∷ 0 ∷ 0 ∷ 0 ∷ [])) (finished 5 (numbers (5 ∷ [])))
+
+pub cards-answered : map (λ (c : Card). answered (c .1)) (cards ++ vectors) ≡ map (λ (c : Card). c .2) (cards ++ vectors)
 unfolding
     clamp sum difference product negation nearest quotient lesser greater operate
     words table sameLetters lookFrom operandsOf

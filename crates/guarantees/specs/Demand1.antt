@@ -5,7 +5,7 @@
 --   Told       number and line of a refusal, or the value
 --   Answers    the first "no" is told and what is lent is kept; or the value is told, and what is lent is left as said
 --   Questions  which questions an entry asks, in order; with `planQuestions` of `typing`, `madeQuestions` of `translate`
---   Runs       the run in which every `par` takes the order named
+--   Runs       the run in which every `par` and every `lanes` [18.10] takes the order named
 --   words      wordAt: the word of a row; Search: what a search answers
 --   meaning    Plan, Loops and their rows; translation, commandWrites, need; store: cells and bytes as a store; values: valueOf
 use mathlib.Core.Bool.{false}

@@ -3,7 +3,7 @@
 --
 -- It rests on
 --   Demand2    PlanAccepted: the one plan whose rows the text's lines are; Ways: how loops are had from the text
---   Runs       IsRun: every run; Permutes: an arbiter that names, at each visit of each `par`, each round once;
+--   Runs       IsRun: every run; Permutes: an arbiter that names, at each visit of each `par` and each `lanes` [18.10], each round once;
 --              runNamed: the run that takes what it names
 --   meaning    planValue: the value, read from the plan's formulas alone; Outcome: what a run must have come to; Shaped; translation,
 --              planWrites, need; and what those are made of
@@ -77,7 +77,7 @@ pub record Delivered (ws : List (List ℕ)) (t : List ℕ) (P : Plan) : Type 0 w
   -- [8.1] The value depends on the numbers in the input cells and on nothing else, and has the shape of its type.
   pub value-of-inputs : (s s′ : List ℤ) → inputCells P s ≡ inputCells P s′ → planValue clamped32 P s ≡ planValue clamped32 P s′
   pub value-shaped : (s : List ℤ) → Shaped (planType P) (planValue clamped32 P s)
-  -- [9.5] Whatever order is named at each visit of each `par`, there is the run that takes it; [9.8] on a store of at least the need it
+  -- [9.5] Whatever order is named at each visit of each `par`, [18.10] and of each `lanes`, there is the run that takes it; [9.8] on a store of at least the need it
   -- comes to the outcome; and there is no other run.
   pub run-taken : (π : Arbiter) → Permutes π → (s : List ℤ) → IsRun (translation P) s (runNamed π (translation P) s)
   pub run-outcome : (π : Arbiter) → Permutes π → (s : List ℤ) → need (translation P) ≤ length s

@@ -1,6 +1,7 @@
 -- What is promised, whole. The three demands are one statement, over the table of words that texts are read and printed with: they hold for
 -- every good one. It has two instances: the built-in words, which the plain entries have; and the own words of every accepted words text,
--- which the twins have [16.7]. Entries that read and print no words stand under both, and what holds of any loops' mixings stands beside them.
+-- which the twins have [16.7]. Entries that read and print no words stand under both, and what holds of the mixings and the lanes of any loops
+-- stands beside them.
 -- Definitions only; `Theorems` has the proof.
 use mathlib.Core.List.{List}
 use Prim.Native.Nat.{ℕ}
@@ -13,6 +14,7 @@ use Rattle.guarantees.specs.Demand1.{Demand1}
 use Rattle.guarantees.specs.Demand2.{Demand2}
 use Rattle.guarantees.specs.Demand3.{Demand3}
 use Rattle.guarantees.specs.Mixings.{Mixings}
+use Rattle.guarantees.specs.Lanes.{LanesAsPar}
 use Rattle.guarantees.specs.Twins.{Twins}
 
 abbrev pub DemandsFor : List (List ℕ) → Type 0
@@ -24,3 +26,4 @@ pub record Demands : Type 0 where
   pub own : (w : List ℕ) → AllYes (wordsQuestions w) → DemandsFor (ownWords w)
   pub twins : (w : List ℕ) → Twins w
   pub mixings : Mixings
+  pub lanes : LanesAsPar

@@ -3,7 +3,7 @@
 --
 -- It rests on
 --   mixing     MixingOf: the mixings of the steps of loops; afterMixing: what the steps of one come to; workOf, Done: what cores can do;
---              WithoutRaces: what one round of a `par` writes, no other round of the same visit reads or writes
+--              WithoutRaces: what one round of a `par` or `lanes` [18.10] writes, no other round of the same visit reads or writes
 --   Runs       IsRun: every run; runInOrder: the run in an order that is named
 use mathlib.Core.Path.{_≡_}
 use mathlib.Core.Logic.{_↔_}

@@ -1,4 +1,4 @@
--- The questions of each entry, in the order of [10.16]. Those of lines, rows and types stand in `typing`, 10 and 11 of a plan in
+-- The questions of each entry, in the order of [10.16]. Those of lines, rows and types stand in `typing`, 10, 18 and 11 of a plan in
 -- `translate`; here are those of a words text, of loops, of what is lent, of a run and of values. None of them speaks of a check. ws is
 -- the table of words. Definitions only; assumes nothing.
 use mathlib.Core.Bool.{cond, _&&_}
@@ -36,9 +36,9 @@ use Rattle.values.specs.Values.{oneLineEach, valueLines}
 abbrev pub wordsQuestions : List ℕ → List Question
 wordsQuestions w = question (isWordsText w) WordsForm ∷ question (distinct (ownWords w)) WordTwice ∷ []
 
--- ---- 1 to 6: a plan's text, a loops' text, a table
+-- ---- 1 to 6 and 18: a plan's text, a loops' text, a table
 
--- [10.4] to [10.6], from the top
+-- [10.4] to [10.6], and [18.15], from the top
 abbrev pub rowsDoor : Sort → List Row → List Question
 rowsDoor s R = walkQuestions 0 (due s noNames ∷ []) R
 

@@ -20,7 +20,7 @@ IsRun L s st = RunOf clamped32 L s st
 abbrev pub Permutes : Arbiter → Type 0
 Permutes π = (visit : List ℕ) (n : ℕ) → List·Permᴰ (π visit n) (upFrom 0 n)
 
--- the run in which every `par` takes the rounds that the arbiter names at that visit
+-- the run in which every `par`, [18.10] and every `lanes`, takes the rounds that the arbiter names at that visit
 abbrev pub runNamed : Arbiter → Loops → List ℤ → State clamped32
 runNamed π L s = runBy clamped32 π (L .command) [] (startOf L) (regionsFrom L) (beginning clamped32 s)
 
@@ -29,6 +29,6 @@ abbrev pub turns : ℕ → Arbiter
 turns order visit n =
     cond (eqb order 0) (upFrom 0 n) (cond (eqb order 1) (reverse (upFrom 0 n)) (evens (upFrom 0 n) ++ odds (upFrom 0 n)))
 
--- [9.10] the run in which every `par` takes it
+-- [9.10] the run in which every `par`, [18.10] and every `lanes`, takes it
 abbrev pub runInOrder : ℕ → Loops → List ℤ → State clamped32
 runInOrder order L s = runNamed (turns order) L s

@@ -16,7 +16,7 @@ use Rattle.words.specs.Kinds.{Row}
 use Rattle.words.specs.Words.{bytes, words, table}
 use Rattle.numerals.specs.Numerals.{decimal, digits, lastDigits}
 use Rattle.lines.specs.Printing.{written, textOf}
-use Rattle.meaning.specs.Types.{DataType, number, array}
+use Rattle.meaning.specs.Types.{DataType, Series, number, array}
 use Rattle.meaning.specs.Terms.{LoopKind, Term, Plan}
 use Rattle.meaning.specs.Numbers.{clamped32}
 use Rattle.meaning.specs.Values.{Datum, arrayOf, flatten, value}
@@ -97,7 +97,7 @@ p1-run = refl
 abbrev P2 : Plan
 P2 =
     plan (array 6 number ∷ [])
-    (Term.map LoopKind.parallel (Term.split 2 (Term.input 0))
+    (Term.map LoopKind.parallel (Term.split Series.arrays 2 (Term.input 0))
     (Term.reduce (Term.literal (pos 0)) (Term.variable 0) total))
 
 -- [7.4] 6 cells of the input, 3 of the output, and one for the total of each of the 3 rounds
@@ -164,16 +164,16 @@ clauses =
     )
     -- [6.20] `plus`: the sum so far, then the next summand
     ∷ (
-      plan (array 2 (array 2 (array 2 number)) ∷ []) (Term.index 1 (Term.index 0 (Term.index 1 (Term.input 0)))),
+      plan (array 2 (array 2 (array 2 number)) ∷ []) (Term.index Series.arrays 1 (Term.index Series.arrays 0 (Term.index Series.arrays 1 (Term.input 0)))),
       "set,0 out,0 lit,0 in,0 plus,0 plus,0 times,4 lit,1 times,2 lit,0 times,1 lit,1",
     )
     -- [6.21] nothing is simplified: groups of one
     ∷ (
-      plan (array 2 number ∷ []) (Term.index 0 (Term.split 1 (Term.input 0))),
+      plan (array 2 number ∷ []) (Term.index Series.arrays 0 (Term.split Series.arrays 1 (Term.input 0))),
       "par,1 set,0 out,0 times,1 ctr,0 in,0 times,1 plus,0 times,1 lit,0 ctr,0",
     )
     ∷ (
-      plan (array 2 number ∷ []) (Term.split 1 (Term.input 0)),
+      plan (array 2 number ∷ []) (Term.split Series.arrays 1 (Term.input 0)),
       "par,2 set,0 out,0 plus,0 times,1 over,1 ctr,0 times,1 rest,1 ctr,0 in,0 times,1 ctr,0",
     )
     -- [6.20] a sum of nothing is `lit,0`; [6.18] a first part adds nothing, a second part `lit,f`
@@ -192,7 +192,7 @@ clauses =
     -- [6.18] the outermost step first
     ∷ (
       plan (array 2 (DataType.pair number (array 3 number)) ∷ [])
-          (Term.index 2 (Term.second (Term.index 1 (Term.input 0)))),
+          (Term.index Series.arrays 2 (Term.second (Term.index Series.arrays 1 (Term.input 0)))),
       "set,0 out,0 lit,0 in,0 plus,0 plus,0 times,4 lit,1 lit,1 times,1 lit,2",
     )
     -- [6.19] c and f are those of what is stored: a `zip` written, and a `zip` read
@@ -203,41 +203,41 @@ clauses =
     )
     ∷ (
       plan (array 2 number ∷ array 2 number ∷ [])
-          (Term.second (Term.index 1 (Term.zip (Term.input 0) (Term.input 1)))),
+          (Term.second (Term.index Series.arrays 1 (Term.zip (Term.input 0) (Term.input 1)))),
       "set,0 out,0 lit,0 in,1 times,1 lit,1",
     )
     -- [6.22] the regrouped index goes inside one `times,c`: groups read, and a flattened one read
     ∷ (
-      plan (array 4 (array 3 number) ∷ []) (Term.index 1 (Term.index 1 (Term.split 2 (Term.input 0)))),
+      plan (array 4 (array 3 number) ∷ []) (Term.index Series.arrays 1 (Term.index Series.arrays 1 (Term.split Series.arrays 2 (Term.input 0)))),
       "par,3 set,0 out,0 times,1 ctr,0 in,0 plus,0 times,3 plus,0 times,2 lit,1 lit,1 times,1 ctr,0",
     )
     ∷ (
-      plan (array 2 (array 2 (array 3 number)) ∷ []) (Term.index 3 (Term.join (Term.input 0))),
+      plan (array 2 (array 2 (array 3 number)) ∷ []) (Term.index Series.arrays 3 (Term.join Series.arrays (Term.input 0))),
       "par,3 set,0 out,0 times,1 ctr,0 in,0 plus,0 plus,0 times,6 over,2 lit,3 times,3 rest,2 lit,3"
           ⌢ "times,1 ctr,0",
     )
     -- [6.22] n is the length of a group: `join` read at an index, `join` written, `split` written
     ∷ (
-      plan (array 2 (array 3 number) ∷ []) (Term.index 4 (Term.join (Term.input 0))),
+      plan (array 2 (array 3 number) ∷ []) (Term.index Series.arrays 4 (Term.join Series.arrays (Term.input 0))),
       "set,0 out,0 lit,0 in,0 plus,0 times,3 over,3 lit,4 times,1 rest,3 lit,4",
     )
     ∷ (
-      plan (array 2 (array 3 number) ∷ []) (Term.join (Term.input 0)),
+      plan (array 2 (array 3 number) ∷ []) (Term.join Series.arrays (Term.input 0)),
       "par,2 par,3 set,0 out,0 times,1 plus,0 times,3 ctr,1 ctr,0 in,0 plus,0 times,3 ctr,1 times,1"
           ⌢ "ctr,0",
     )
     ∷ (
-      plan (array 6 number ∷ []) (Term.split 2 (Term.input 0)),
+      plan (array 6 number ∷ []) (Term.split Series.arrays 2 (Term.input 0)),
       "par,6 set,0 out,0 plus,0 times,2 over,2 ctr,0 times,1 rest,2 ctr,0 in,0 times,1 ctr,0",
     )
     -- [6.10] `split` writes its operand; [6.11] `fst` uses its operand and assigns the part
     ∷ (
-      plan (array 1 (array 4 number) ∷ []) (Term.split 2 (Term.index 0 (Term.input 0))),
+      plan (array 1 (array 4 number) ∷ []) (Term.split Series.arrays 2 (Term.index Series.arrays 0 (Term.input 0))),
       "par,4 set,0 out,0 plus,0 times,2 over,2 ctr,0 times,1 rest,2 ctr,0 in,0 plus,0 times,4 lit,0"
           ⌢ "times,1 ctr,0",
     )
     ∷ (
-      plan (array 4 number ∷ []) (Term.first (Term.pair (Term.split 2 (Term.input 0)) (Term.literal (pos 9)))),
+      plan (array 4 number ∷ []) (Term.first (Term.pair (Term.split Series.arrays 2 (Term.input 0)) (Term.literal (pos 9)))),
       "par,2 par,2 set,0 out,0 plus,0 times,2 ctr,1 times,1 ctr,0 in,0 times,1 plus,0 times,2 ctr,1"
           ⌢ "ctr,0",
     )
@@ -271,14 +271,14 @@ clauses =
     ∷ (
       plan (array 1 number ∷ [])
           (Term.reduce (Term.literal (pos 0)) (Term.input 0)
-          (Term.index 0 (Term.map LoopKind.parallel (Term.input 0) (Term.variable 1)))),
+          (Term.index Series.arrays 0 (Term.map LoopKind.parallel (Term.input 0) (Term.variable 1)))),
       "new,1 seq,0 set,0 loc,0 lit,0 lit,0 seq,0 for,1 new,1 seq,0 par,1 set,0 loc,0 times,1 ctr,0 loc,1 lit,0"
           ⌢ "set,0 loc,1 lit,0 loc,0 times,1 lit,0 set,0 out,0 lit,0 loc,0 lit,0",
     )
     -- [6.13] a map used: its `new` first, the array's own regions inside
     ∷ (
       plan (array 1 number ∷ [])
-          (Term.index 0
+          (Term.index Series.arrays 0
           (Term.map LoopKind.parallel (Term.map LoopKind.sequential (Term.input 0) (Term.literal (pos 1)))
           (Term.literal (pos 2)))),
       "new,1 seq,0 new,1 seq,0 for,1 set,0 loc,0 times,1 ctr,0 lit,1 par,1 set,0 loc,1 times,1 ctr,0"
@@ -298,12 +298,12 @@ clauses =
       plan (array 1 number ∷ [])
           (Term.first
           (Term.pair (Term.literal (pos 1))
-          (Term.index 0 (Term.map LoopKind.parallel (Term.input 0) (Term.literal (pos 2)))))),
+          (Term.index Series.arrays 0 (Term.map LoopKind.parallel (Term.input 0) (Term.literal (pos 2)))))),
       "new,1 seq,0 par,1 set,0 loc,0 times,1 ctr,0 lit,2 set,0 out,0 lit,0 lit,1",
     )
     -- [6.21] `idx,k` used and written; [6.6] `neg`
     ∷ (
-      plan (array 3 number ∷ []) (Term.negate (Term.index 2 (Term.input 0))),
+      plan (array 3 number ∷ []) (Term.negate (Term.index Series.arrays 2 (Term.input 0))),
       "set,0 out,0 lit,0 neg,0 in,0 times,1 lit,2",
     )
     -- [6.9] `pair` written: first part, then second
@@ -315,7 +315,7 @@ clauses =
     -- [6.22] a flattened one read in a map
     ∷ (
       plan (array 3 (array 2 number) ∷ [])
-          (Term.map LoopKind.sequential (Term.join (Term.input 0)) (Term.negate (Term.variable 0))),
+          (Term.map LoopKind.sequential (Term.join Series.arrays (Term.input 0)) (Term.negate (Term.variable 0))),
       "for,6 set,0 out,0 times,1 ctr,0 neg,0 in,0 plus,0 times,2 over,2 ctr,0 times,1 rest,2 ctr,0",
     )
     -- [6.14] array totals, one of a single number too: by next
@@ -327,7 +327,7 @@ clauses =
     )
     ∷ (
       plan (array 2 (array 3 number) ∷ [])
-          (Term.reduce (Term.index 0 (Term.input 0)) (Term.input 0) (Term.variable 1)),
+          (Term.reduce (Term.index Series.arrays 0 (Term.input 0)) (Term.input 0) (Term.variable 1)),
       "new,3 seq,0 par,3 set,0 loc,0 times,1 ctr,0 in,0 plus,0 times,3 lit,0 times,1 ctr,0 seq,0 for,2"
           ⌢ "new,3 seq,0 par,3 set,0 loc,0 times,1 ctr,0 in,0 plus,0 times,3 ctr,1 times,1 ctr,0 par,3 set,0"
           ⌢ "loc,1 times,1 ctr,0 loc,0 times,1 ctr,0 par,3 set,0 out,0 times,1 ctr,0 loc,0 times,1 ctr,0",
@@ -371,9 +371,9 @@ total-first = refl
 -- [15.2] Types: P3, `split,3` of 7; P4, `idx,1` and `idx,2` of two; `zip` of 3 and 4
 
 types-checked : (infer (array 2 number ∷ []) [] (P1 .term) ≡ some number)
-    × (infer (array 7 number ∷ []) [] (Term.split 3 (Term.input 0)) ≡ none)
-    × (infer (array 2 number ∷ []) [] (Term.index 1 (Term.input 0)) ≡ some number)
-    × (infer (array 2 number ∷ []) [] (Term.index 2 (Term.input 0)) ≡ none)
+    × (infer (array 7 number ∷ []) [] (Term.split Series.arrays 3 (Term.input 0)) ≡ none)
+    × (infer (array 2 number ∷ []) [] (Term.index Series.arrays 1 (Term.input 0)) ≡ some number)
+    × (infer (array 2 number ∷ []) [] (Term.index Series.arrays 2 (Term.input 0)) ≡ none)
     × (infer (array 3 number ∷ array 4 number ∷ []) [] (Term.zip (Term.input 0) (Term.input 1)) ≡ none)
 unfolding infer wellTyped? native.Mathlib.Decide.decLt native.Mathlib.Decide.ℕ-discrete
 types-checked = (refl, refl, refl, refl, refl)

@@ -1,4 +1,4 @@
--- The three demands, the twins and the mixings of any loops, proved. The proofs stand in Laws.
+-- The three demands, the twins, and the mixings and lanes of any loops, proved. The proofs stand in Laws.
 use mathlib.Core.Path.{_≡_, refl, sym, ap, _∙_, subst}
 use mathlib.Core.List.{List}
 use Prim.Native.Nat.{ℕ}
@@ -27,9 +27,9 @@ use Rattle.meaning.specs.Rows.{loopsRows}
 use Rattle.meaning.specs.Counts.{planWrites}
 use Rattle.meaning.specs.Limits.{TouchesBelow}
 use Rattle.meaning.specs.Translation.{translation}
-use Rattle.meaning.specs.Theorems.{named-run}
+use Rattle.meaning.specs.Theorems.{named-run, run-counts-as-par, need-counts-as-par}
 use Rattle.mixing.specs.Mixing.{forwardRun}
-use Rattle.mixing.specs.Theorems.{mixing-is-cores, run-is-mixing, mixing-without-races}
+use Rattle.mixing.specs.Theorems.{mixing-is-cores, run-is-mixing, mixing-without-races, mixings-count-as-par}
 use Rattle.syntax.specs.Theorems.{loops-unique}
 use Rattle.typing.specs.Questions.{ask, AllYes}
 use Rattle.typing.specs.EntryQuestions.{readQuestions}
@@ -46,6 +46,7 @@ use Rattle.guarantees.specs.Demand1.{Demand1}
 use Rattle.guarantees.specs.Demand2.{TellsOf, Safe, Demand2}
 use Rattle.guarantees.specs.Demand3.{Demand3}
 use Rattle.guarantees.specs.Mixings.{Mixings}
+use Rattle.guarantees.specs.Lanes.{LanesAsPar}
 use Rattle.guarantees.specs.Demands.{DemandsFor, Demands}
 use Rattle.guarantees.specs.Laws.PlanEntries as plans
 use Rattle.guarantees.specs.Laws.LoopsEntries as entries
@@ -158,6 +159,9 @@ mixings = record {
   without-races = λ L free l m s. mixing-without-races clamped32 L free s l m ∙ mixings-forward L s;
 }
 
+pub lanes : LanesAsPar
+lanes = record { same-run = run-counts-as-par clamped32; same-need = need-counts-as-par; same-mixings = mixings-count-as-par }
+
 for-good-words : (ws : List (List ℕ)) → Good ws → DemandsFor ws
 for-good-words ws good = (demand-1 ws good, demand-2 ws good, demand-3 ws good)
 
@@ -168,4 +172,5 @@ demands = record {
   own = λ w yes. for-good-words (ownWords w) (twins w .good yes);
   twins = twins;
   mixings = mixings;
+  lanes = lanes;
 }

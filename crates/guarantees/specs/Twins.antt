@@ -67,8 +67,8 @@ ShowsLine s s′ u u′ r q =
 pub record Twins (w : List ℕ) : Type 0 where
   -- [16.2], [16.5] Own words that are accepted are a good table.
   pub good : AllYes (wordsQuestions w) → Good (ownWords w)
-  -- [16.2] More than 511 bytes are refused with 16, so that a program that reads 512 bytes of a file misses nothing [16.8].
-  pub long : 511 < length w → FirstNo (wordsQuestions w) WordsForm
+  -- [16.2] More than 598 bytes are refused with 16, so that a program that reads 599 bytes of a file misses nothing [16.8].
+  pub long : 598 < length w → FirstNo (wordsQuestions w) WordsForm
   -- `plans::check_text_in`, `plans::read_text_in`
   pub check-plan : (t : List ℕ) (r : Answer) → ChecksPlanIn w t r → Twin w (Tells (toldAnswer r) (Unit {0})) (λ ws. ChecksPlan ws t r)
   pub read-plan : (t k k′ : List ℕ) (n n′ : List ℤ) (r : Answer) → ReadsPlanIn w t k n r k′ n′

@@ -1,4 +1,5 @@
--- The check of loops: [10.1] to [10.6], [10.9] and [10.11], in this order ([10.16]). Definitions only; assumes nothing.
+-- The check of loops: [10.1] to [10.6], [18.15], [10.9] and [10.11], in this order ([10.16]); 18 is asked right after 6 on its row.
+-- Definitions only; assumes nothing.
 use mathlib.Core.Bool.{cond}
 use mathlib.Core.List.{List}
 use mathlib.Core.Option.{Option, none, some}
@@ -55,7 +56,8 @@ abbrev pub afterAnswer : Answer → Checked → Checked
 afterAnswer (answer.Told n) next = next
 afterAnswer (answer.Refused q) next = Refused q
 
--- [10.2] (of the kinds) and [10.4] to [10.6] by the walk of `syntax`; then [10.9] and [10.11] of the loops whose rows these are ([10.18]).
+-- [10.2] (of the kinds), and [10.4] to [10.6] and [18.15] by the walk of `syntax`; then [10.9] and [10.11] of the loops whose rows these
+-- are ([10.18]).
 unfoldable pub checkLoopsRows : List Row → Checked
 checkLoopsRows R = afterAnswer (walkTable sort.Loops R) (checkLoops (loopsOf R))
 

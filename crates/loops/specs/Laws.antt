@@ -3,3 +3,4 @@ pub mod Passing
 pub mod Literals
 pub mod TranslatedLiterals
 pub mod Printed
+pub mod LanesTests

@@ -33,15 +33,13 @@ use Rattle.meaning.specs.Layout.{need, regionsFrom}
 use Rattle.meaning.specs.Runs.{Store, startOf}
 use Rattle.meaning.specs.Rows.{planRows, loopsRows}
 use Rattle.meaning.specs.Counts.{planWrites}
-use Rattle.meaning.specs.Limits.{PlanWithin, TouchesBelow}
+use Rattle.meaning.specs.Limits.{lanesApart, LoopsWithin, PlanWithin, TouchesBelow}
 use Rattle.meaning.specs.Translation.{translation}
-use Rattle.meaning.specs.Theorems.{own-loops-pass}
-use Rattle.syntax.specs.InRange.{LoopsInRange}
+use Rattle.meaning.specs.Theorems.{own-loops-within}
 use Rattle.loops.specs.declared.Checked.{Checked}
 use Rattle.loops.specs.declared.Checked.the-variants.{Passes, Refused}
 use Rattle.loops.specs.Check.{needOf, checkLoopsRows, afterAnswer, checkLoopsText}
 use Rattle.loops.specs.Theorems.{Accepted, RunsSafely, passes-exactly, safe, runs-safely, own-pass}
-use Rattle.loops.specs.Laws.Passing.{pass-loops}
 use Rattle.loops.specs.Laws.Literals.{CommandLiterals, plan-literals}
 use Rattle.loops.specs.Laws.TranslatedLiterals.{translation-literals}
 use Rattle.loops.specs.Laws.Printed.{loops-printable, loops-size}
@@ -159,29 +157,30 @@ module _ (ws : List (List ℕ)) (good : Good ws) (P : Plan) (t : DataType) (type
   abbrev own : List Row
   own = loopsRows (translation P)
 
-  own-in-range : LoopsInRange (translation P)
-  own-in-range = pass-loops (translation P) (own-loops-pass P t typed within) .0
+  own-within : LoopsWithin (translation P)
+  own-within = own-loops-within P t typed within
 
   own-literals : CommandLiterals (SFits w32) (translation P .command)
   own-literals = translation-literals (SFits w32) (record { sfits = omega arith }) P (plan-literals (SFits w32) P numbers)
 
   own-printable : Each (Printable ws) own
-  own-printable = loops-printable ws good (translation P) own-in-range own-literals
+  own-printable = loops-printable ws good (translation P) own-within own-literals
 
   -- at most 16 bytes a line
   pub own-text-size : length (textOf ws own) ≤ 16 * length own
-  own-text-size = loops-size ws good (translation P) own-in-range own-literals
+  own-text-size = loops-size ws good (translation P) own-within own-literals
 
   -- it reads back
   pub own-text-back : textRows ws (textOf ws own) ≡ own
   own-text-back = rows-back ws good own own-printable
 
-  -- [9.9] Loops that the translator made pass: where they have at most 4,096 lines ([10.10]) and 16,777,216 writes ([10.11]).
-  pub own-text-passes : length own ≤ 4096 → planWrites P ≤ 16777216
+  -- [9.9] Loops that the translator made pass: where they have at most 4,096 lines ([10.10]), [18.15] no `lanes` inside another, and 16,777,216
+  -- writes ([10.11]).
+  pub own-text-passes : length own ≤ 4096 → lanesApart (translation P .command) ≡ true → planWrites P ≤ 16777216
       → checkLoopsText ws (textOf ws own) ≡ Passes (planWrites P) (need (translation P))
-  own-text-passes short few =
+  own-text-passes short apart few =
       let T : List ℕ = textOf ws own in
       let reads : Reads ws T =
       reads-back ws good loopsLimits own own-printable (some-row (translation P)) (omega (arith, own-text-size, short)) short
       ∙ ap (λ (S : List Row). answer.Told (length S)) (sym own-text-back) in
-      read-text ws T reads ∙ ap checkLoopsRows own-text-back ∙ own-pass P t typed within few
+      read-text ws T reads ∙ ap checkLoopsRows own-text-back ∙ own-pass P t typed within apart few

@@ -11,7 +11,7 @@ use borrow.Author.Tests.{leb-true, le-leb}
 use lib.Dec.{leb}
 use lib.ListN.{length}
 use Rattle.refusals.specs.declared.Refusal.{Refusal}
-use Rattle.refusals.specs.declared.Refusal.the-variants.{WriteCount}
+use Rattle.refusals.specs.declared.Refusal.the-variants.{LanesInside, WriteCount}
 use Rattle.refusals.specs.declared.Answer.{Answer}
 use Rattle.refusals.specs.declared.Answer.the-variants as answer
 use Rattle.words.specs.Kinds.{Row}
@@ -26,18 +26,18 @@ use Rattle.meaning.specs.Runs.{Store, State, RunOf, cell, startOf, runLoops}
 use Rattle.meaning.specs.NamedOrders.{forward, always}
 use Rattle.meaning.specs.Rows.{loopsRows}
 use Rattle.meaning.specs.Counts.{commandWrites, planWrites}
-use Rattle.meaning.specs.Limits.{LoopsPass, PlanWithin, TouchesBelow}
+use Rattle.meaning.specs.Limits.{LoopsPass, LoopsWithin, lanesApart, PlanWithin, TouchesBelow}
 use Rattle.meaning.specs.Translation.{translation}
-use Rattle.meaning.specs.Theorems.{safe-loops, beyond-need, writes-of-run, own-loops-pass, own-writes, run-is-choice}
+use Rattle.meaning.specs.Theorems.{safe-loops, beyond-need, writes-of-run, own-loops-within, own-loops-pass, own-writes, run-is-choice}
 use Rattle.syntax.specs.Walk.{walkTable}
 use Rattle.syntax.specs.Reading.{loopsOf}
 use Rattle.syntax.specs.InRange.{LoopsInRange}
-use Rattle.syntax.specs.Theorems.{WalksWell, all-passed, loops-walk, loops-read, loops-tree}
+use Rattle.syntax.specs.Theorems.{WalksWell, all-passed, loops-walk, loops-read, loops-tree, lanes-refused}
 use Rattle.loops.specs.declared.Checked.{Checked}
 use Rattle.loops.specs.declared.Checked.the-variants.{Passes, Refused}
 use Rattle.bounds.specs.Bounds.{askBounds}
 use Rattle.loops.specs.Check.{askWrites, unless, checkLoops, afterAnswer, checkLoopsRows}
-use Rattle.loops.specs.Laws.Passing.{loops-pass, pass-loops}
+use Rattle.loops.specs.Laws.Passing.{within-cells, within-command, loops-pass, pass-loops}
 
 no-refusal : {A : Type 0} {q : Refusal} {w n : ℕ} → Refused q ≡ Passes w n → A
 no-refusal e = absurd (let z : _≡_ {A = ℕ} 0 1 = cc in omega arith)
@@ -152,15 +152,28 @@ runs-safely 𝓝 R w n e =
       },
     )
 
--- [9.9] Loops that the translator made pass: those of any plan within the limits that has few enough writes.
-pub own-pass : (P : Plan) (t : DataType) → HasType (P .inputs) [] (P .term) t → PlanWithin P → planWrites P ≤ 16777216
-    → checkLoopsRows (loopsRows (translation P)) ≡ Passes (planWrites P) (need (translation P))
-own-pass P t typed within few =
+-- [18.15] Loops within the bounds and limits that have a `lanes` inside another are turned away by question 18,
+pub nested-refused : (L : Loops) → LoopsWithin L → lanesApart (L .command) ≡ false → (l : ℕ) × (checkLoopsRows (loopsRows L) ≡ Refused (LanesInside l))
+unfolding checkLoopsRows
+nested-refused L h nested =
+    let r = lanes-refused L (h .inputsFew) (within-cells L h) (h .outputCells) (within-command L h) nested in
+    (r .0, ap (λ (a : Answer). afterAnswer a (checkLoops (loopsOf (loopsRows L)))) (r .1))
+
+-- and so are those that the translator made.
+pub own-nested : (P : Plan) (t : DataType) → HasType (P .inputs) [] (P .term) t → PlanWithin P → lanesApart (translation P .command) ≡ false
+    → (l : ℕ) × (checkLoopsRows (loopsRows (translation P)) ≡ Refused (LanesInside l))
+own-nested P t typed within nested = nested-refused (translation P) (own-loops-within P t typed within) nested
+
+-- [9.9] Loops that the translator made pass: those of any plan within the limits that has few enough writes, [18.15] and in whose loops no
+-- `lanes` stands inside another.
+pub own-pass : (P : Plan) (t : DataType) → HasType (P .inputs) [] (P .term) t → PlanWithin P → lanesApart (translation P .command) ≡ true
+    → planWrites P ≤ 16777216 → checkLoopsRows (loopsRows (translation P)) ≡ Passes (planWrites P) (need (translation P))
+own-pass P t typed within apart few =
     passes-exactly (loopsRows (translation P)) (planWrites P) (need (translation P)) .1
     (record {
       loops = translation P;
       rows = refl;
-      passes = own-loops-pass P t typed within;
+      passes = own-loops-pass P t typed within apart;
       writesFew = few;
       writes = sym (own-writes P t typed);
       needs = refl;

@@ -1,5 +1,5 @@
-// The check of loops, whoever wrote them: [10.1] to [10.6], [10.9] and [10.11]; the need; and reading loops into a lent table of rows. Where a
-// words text is given, [16.4] and [16.5] come first.
+// The check of loops, whoever wrote them: [10.1] to [10.6], [18.15], [10.9] and [10.11]; the need; and reading loops into a lent table of
+// rows. Where a words text is given, [16.4] and [16.5] come first.
 ghost use Rattle.words.specs.Tables.{wordsIn};
 ghost use Rattle.words.specs.Words.{words};
 ghost use mathlib.Core.Path.{_≡_};
@@ -40,7 +40,7 @@ fn check_limits(kinds: &[u8], numbers: &[i32]) -> Checked
     }
 }
 
-// Questions 2 (of the kinds), 4 to 6, 9 and 11 of a table's rows.
+// Questions 2 (of the kinds), 4 to 6 with [18.15], 9 and 11 of a table's rows.
 fn check_rows(kinds: &[u8], numbers: &[i32]) -> Checked
     requires { ⌜ (length (now kinds) ≡ length (now numbers)) × (length (now kinds) ≤ 4096) ⌝ }
     ensures { λ r. ⌜ r ≡ checkLoopsRows (rowsOf (now (kinds .entry)) (now (numbers .entry))) ⌝ }
@@ -52,7 +52,8 @@ fn check_rows(kinds: &[u8], numbers: &[i32]) -> Checked
     }
 }
 
-// [10.16] The check of a lent table, whose rows are as many as the shorter slice has ([1.8]): questions 2 (of the kinds), 3 to 6, 9, 11.
+// [10.16] The check of a lent table, whose rows are as many as the shorter slice has ([1.8]): questions 2 (of the kinds), 3 to 6,
+// [18.15], 9, 11.
 pub fn check_table(kinds: &[u8], numbers: &[i32]) -> Checked
     ensures { λ r. ⌜ ChecksTable (now (kinds .entry)) (now (numbers .entry)) r ⌝ }
 {
@@ -116,7 +117,7 @@ fn read_with(table: &Table, text: &[u8], kinds: &mut [u8], numbers: &mut [i32]) 
     }
 }
 
-// [10.16] The check of a loops text: questions 1 to 6, 9 and 11.
+// [10.16] The check of a loops text: questions 1 to 6, [18.15], 9 and 11.
 pub fn check_text(text: &[u8]) -> Checked
     ensures { λ r. ⌜ ChecksLoops words (now (text .entry)) r ⌝ }
 {

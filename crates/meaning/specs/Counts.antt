@@ -1,4 +1,4 @@
--- The writes counted, from the rows of loops and from a plan: [7.1] to [7.3]. Definitions only; assumes nothing.
+-- The writes counted, from the rows of loops and from a plan: [7.1] to [7.3], [18.14] vectors as arrays. Definitions only; assumes nothing.
 use mathlib.Core.Bool.{cond}
 use mathlib.Core.List.{List, [], _∷_}
 use Prim.Native.Nat.{ℕ, _+_, _*_}
@@ -51,12 +51,12 @@ abbrev mutual
   writesInto I Γ (Term.zip a b) = writesInto I Γ a + writesInto I Γ b
   writesInto I Γ (Term.pair a b) = writesInto I Γ a + writesInto I Γ b
   -- [7.2] `split`, `join`
-  writesInto I Γ (Term.split n e) = writesInto I Γ e
-  writesInto I Γ (Term.join e) = writesInto I Γ e
+  writesInto I Γ (Term.split series n e) = writesInto I Γ e
+  writesInto I Γ (Term.join series e) = writesInto I Γ e
   -- [7.2] `fst`, `snd`, `idx`
   writesInto I Γ (Term.first e) = writesOnUse I Γ e + cells (firstType (typeOf I Γ e))
   writesInto I Γ (Term.second e) = writesOnUse I Γ e + cells (secondType (typeOf I Γ e))
-  writesInto I Γ (Term.index k e) = writesOnUse I Γ e + cells (element (typeOf I Γ e))
+  writesInto I Γ (Term.index series k e) = writesOnUse I Γ e + cells (element (typeOf I Γ e))
 
   -- u
   pub writesOnUse : List DataType → List DataType → Term → ℕ
@@ -78,12 +78,12 @@ abbrev mutual
   writesOnUse I Γ (Term.zip a b) = writesOnUse I Γ a + writesOnUse I Γ b
   writesOnUse I Γ (Term.pair a b) = writesOnUse I Γ a + writesOnUse I Γ b
   -- [7.2] `split`, `join`
-  writesOnUse I Γ (Term.split n e) = writesOnUse I Γ e
-  writesOnUse I Γ (Term.join e) = writesOnUse I Γ e
+  writesOnUse I Γ (Term.split series n e) = writesOnUse I Γ e
+  writesOnUse I Γ (Term.join series e) = writesOnUse I Γ e
   -- [7.2] `fst`, `snd`, `idx`
   writesOnUse I Γ (Term.first e) = writesOnUse I Γ e
   writesOnUse I Γ (Term.second e) = writesOnUse I Γ e
-  writesOnUse I Γ (Term.index k e) = writesOnUse I Γ e
+  writesOnUse I Γ (Term.index series k e) = writesOnUse I Γ e
 
 -- [7.3] The w of the plan's term.
 abbrev pub planWrites : Plan → ℕ

@@ -2,8 +2,8 @@
 -- proof.
 --
 -- It rests on these definitions and on no other of this crate:
---   Types         DataType, cells, and the parts of a type
---   Terms         LoopKind, Term, Plan
+--   Types         DataType, cells, the parts of a type, Series, seriesOf
+--   Terms         LoopKind, seriesIn, Term, Plan
 --   Typing        HasType, which is Figure 3 of the paper; typeOf, by which the translation goes
 --   Numbers       NumberDomain
 --   Sequence      upFrom, inTurn
@@ -22,7 +22,7 @@ use mathlib.Core.Path.{_≡_}
 use mathlib.Core.List.{List, [], _∷_, map}
 use Prim.Native.Nat.{ℕ, _+_, _*_, _≤_}
 use lib.ListN.{length, take, drop}
-use Rattle.meaning.specs.Types.{DataType, cells, number, array}
+use Rattle.meaning.specs.Types.{DataType, cells, number, array, vector}
 use Rattle.meaning.specs.Terms.{Plan}
 use Rattle.meaning.specs.Typing.{HasType}
 use Rattle.meaning.specs.Numbers.{NumberDomain}
@@ -34,11 +34,12 @@ use Rattle.meaning.specs.Translation.{planType, translation}
 use Rattle.meaning.specs.Counts.{planWrites}
 
 module _ (𝓝 : NumberDomain) where
-  -- [3.4] The value of type t that lies from cell b on.
+  -- [3.4] The value of type t that lies from cell b on. [18.8] A vector's is a list, as an array's is.
   unfoldable pub datumAt : DataType → Store 𝓝 → ℕ → DatumOf 𝓝
   datumAt number s b = Datum.number (cell 𝓝 s b)
   datumAt (array n t) s b = arrayOf (map (λ i. datumAt t s (b + cells t * i)) (upFrom 0 n))
   datumAt (DataType.pair t₁ t₂) s b = Datum.pair (datumAt t₁ s b) (datumAt t₂ s (b + cells t₁))
+  datumAt (vector w) s b = arrayOf (map (λ i. Datum.number (cell 𝓝 s (b + i))) (upFrom 0 w))
 
   -- [7.5] the values of the inputs, which lie one behind the other from cell b on
   unfoldable pub inputData : ℕ → List DataType → Store 𝓝 → List (DatumOf 𝓝)

@@ -47,3 +47,9 @@ pub mod PassingTerms
 pub mod PassingPlans
 -- The rows of a use
 pub mod UseRows
+-- Lanes: as `par`, and question 18
+pub mod LanesAsPar
+pub mod Lanes
+-- Plans computed
+pub mod Computed
+pub mod VectorTests

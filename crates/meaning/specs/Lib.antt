@@ -14,6 +14,7 @@ pub mod Layout
 pub mod Runs
 pub mod Arbiters
 pub mod NamedOrders
+pub mod AsPar
 pub mod Steps
 pub mod Paths
 pub mod Expressions

@@ -1,10 +1,13 @@
--- What loops must pass and the limits of a plan, [10.3], [10.5], [10.6], [10.8] and [10.9]; and what it is to touch only cells of the
--- store, [9.9]. Definitions only; assumes nothing.
+-- What loops must pass and the limits of a plan, [10.3], [10.5], [10.6], [10.8], [10.9] and [18.15]; and what it is to touch only
+-- cells of the store, [9.9]. Definitions only; assumes nothing.
+use mathlib.Core.Path.{_≡_}
+use mathlib.Core.Bool.{Bool, true, false, _&&_}
+use mathlib.Core.Logic.{_⊎_}
 use mathlib.Core.List.{List, [], _∷_}
 use Prim.Native.Nat.{ℕ, suc, _+_, _*_, _-_, _/_, _≤_, _<_, min}
 use lib.ListN.{length, getD}
-use Rattle.meaning.specs.Types.{DataType, cells, levels, element, number, array}
-use Rattle.meaning.specs.Terms.{Term, Plan}
+use Rattle.meaning.specs.Types.{DataType, cells, levels, element, number, array, vector}
+use Rattle.meaning.specs.Terms.{LoopKind, Term, Plan}
 use Rattle.meaning.specs.Typing.{typeOf}
 use Rattle.meaning.specs.Loops.{Offset, Place, Value, Command, Loops, plus, times, over, rest, seq, loop, new}
 use Rattle.meaning.specs.Layout.{firstRoom, secondRoom, roundRoom, regionRoom, bodyRoom}
@@ -16,6 +19,16 @@ use Rattle.meaning.specs.Rows.{planRows}
 -- [13.7] The numbers that count rounds, cells and elements.
 abbrev pub IsCount : ℕ → Type 0
 IsCount n = (1 ≤ n) × (n ≤ 4096)
+
+-- [13.19] The widths of vectors.
+abbrev pub IsWidth : ℕ → Type 0
+IsWidth w = (w ≡ 2) ⊎ (w ≡ 4) ⊎ (w ≡ 8) ⊎ (w ≡ 16)
+
+-- [13.7] How many rounds a loop may have; [13.19] a `lanes` has a width's.
+abbrev pub RoundsInRange : LoopKind → ℕ → Type 0
+RoundsInRange LoopKind.parallel n = IsCount n
+RoundsInRange LoopKind.sequential n = IsCount n
+RoundsInRange LoopKind.lanes n = IsWidth n
 
 -- [10.20] The bound of an offset; `c` are the counters' bounds.
 abbrev pub bound : (ℕ → ℕ) → Offset → ℕ
@@ -64,24 +77,47 @@ CommandPasses ins out ns rs (Command.assignment p v) =
     × ValuePasses ins (length ns) (counterBound ns) (length rs) (entry rs) v
 CommandPasses ins out ns rs (seq c d) = CommandPasses ins out ns rs c × CommandPasses ins out ns rs d
 CommandPasses ins out ns rs (loop kind n b) =
-    IsCount n × (suc (length ns) ≤ 32) × CommandPasses ins out (n ∷ ns) rs b
+    RoundsInRange kind n × (suc (length ns) ≤ 32) × CommandPasses ins out (n ∷ ns) rs b
 CommandPasses ins out ns rs (new c b) =
     IsCount c × (suc (length rs) ≤ 256) × CommandPasses ins out ns (c ∷ rs) b
 
--- [10.5] The number of inputs [13.6] and their and the output's cells [13.7]; and then the command.
-pub record LoopsPass (L : Loops) : Type 0 where
+-- [18.15] Whether no `lanes` stands in a command, at any depth; and whether none stands inside another, which question 18 asks.
+abbrev pub noLanes : Command → Bool
+noLanes (Command.assignment p v) = true
+noLanes (seq c d) = noLanes c && noLanes d
+noLanes (loop LoopKind.parallel n b) = noLanes b
+noLanes (loop LoopKind.sequential n b) = noLanes b
+noLanes (loop LoopKind.lanes n b) = false
+noLanes (new c b) = noLanes b
+
+abbrev pub lanesApart : Command → Bool
+lanesApart (Command.assignment p v) = true
+lanesApart (seq c d) = lanesApart c && lanesApart d
+lanesApart (loop LoopKind.parallel n b) = lanesApart b
+lanesApart (loop LoopKind.sequential n b) = lanesApart b
+lanesApart (loop LoopKind.lanes n b) = noLanes b
+lanesApart (new c b) = lanesApart b
+
+-- [10.5] The number of inputs [13.6] and their and the output's cells [13.7]; then the command.
+pub record LoopsWithin (L : Loops) : Type 0 where
   pub inputsFew : length (L .inputs) ≤ 8
   pub inputCells : (k : ℕ) → k < length (L .inputs) → IsCount (entry (L .inputs) k)
   pub outputCells : IsCount (L .output)
   pub passes : CommandPasses (L .inputs) (L .output) [] [] (L .command)
 
+-- All that, and [18.15] question 18.
+pub record LoopsPass (L : Loops) : Type 0 where
+  pub within : LoopsWithin L
+  pub apart : lanesApart (L .command) ≡ true
+
 -- Plans
 
--- [10.8] A type and every type in it: [13.13] the cells, and [13.7] the lengths of arrays.
+-- [10.8] A type and every type in it: [13.13] the cells, [13.7] the lengths of arrays, and [13.19] the widths of vectors.
 abbrev pub CellsWithin : DataType → Type 0
 CellsWithin number = Unit {0}
 CellsWithin (array n t) = (1 ≤ n) × (n * cells t ≤ 4096) × CellsWithin t
 CellsWithin (DataType.pair s t) = (cells s + cells t ≤ 4096) × CellsWithin s × CellsWithin t
+CellsWithin (vector w) = IsWidth w
 
 -- [10.8] And [13.14] the levels.
 abbrev pub TypeWithin : DataType → Type 0
@@ -107,11 +143,11 @@ TermWithin I Γ (Term.reduce z a b) =
     × (suc (suc (length Γ)) ≤ 16)
 TermWithin I Γ (Term.zip a b) = TypeWithin (typeOf I Γ (Term.zip a b)) × TermWithin I Γ a × TermWithin I Γ b
 TermWithin I Γ (Term.pair a b) = TypeWithin (typeOf I Γ (Term.pair a b)) × TermWithin I Γ a × TermWithin I Γ b
-TermWithin I Γ (Term.split n e) = TypeWithin (typeOf I Γ (Term.split n e)) × TermWithin I Γ e
-TermWithin I Γ (Term.join e) = TypeWithin (typeOf I Γ (Term.join e)) × TermWithin I Γ e
+TermWithin I Γ (Term.split series n e) = TypeWithin (typeOf I Γ (Term.split series n e)) × TermWithin I Γ e
+TermWithin I Γ (Term.join series e) = TypeWithin (typeOf I Γ (Term.join series e)) × TermWithin I Γ e
 TermWithin I Γ (Term.first e) = TypeWithin (typeOf I Γ (Term.first e)) × TermWithin I Γ e
 TermWithin I Γ (Term.second e) = TypeWithin (typeOf I Γ (Term.second e)) × TermWithin I Γ e
-TermWithin I Γ (Term.index k e) = TypeWithin (typeOf I Γ (Term.index k e)) × TermWithin I Γ e
+TermWithin I Γ (Term.index series k e) = TypeWithin (typeOf I Γ (Term.index series k e)) × TermWithin I Γ e
 
 -- A whole plan: [10.3] its lines [13.4], [10.5] its inputs [13.6], and [10.8] the types of inputs and term.
 pub record PlanWithin (P : Plan) : Type 0 where

@@ -2,7 +2,7 @@
 -- the fault of [14.4] mended. Definitions only; assumes nothing.
 use mathlib.Core.List.{List, [], _∷_}
 use Prim.Native.Nat.{ℕ, suc, _-_}
-use Rattle.meaning.specs.Types.{DataType, cells, number, array}
+use Rattle.meaning.specs.Types.{DataType, cells, number, array, vector}
 use Rattle.meaning.specs.Loops.{Offset, Place, Value, plus, times, over, rest}
 use Rattle.meaning.specs.Paths.{Step, Path, headIndex, tail, byPart, index, first, second}
 use Rattle.meaning.specs.Expressions.{Expression, Acceptor}
@@ -12,11 +12,12 @@ abbrev pub leadingIndex : Path Offset → Offset
 leadingIndex p = headIndex (Offset.literal 0) p
 
 -- [6.18] A summand for each step, the outermost first: index i adds `times,c i`, a second part adds `lit,f`, a first part nothing.
--- [6.19] c and f are those of the type that is stored. [6.21] `times,1` stands too.
+-- [6.19] c and f are those of the type that is stored. [6.21] `times,1` stands too, [18.13] and so of every lane.
 abbrev pub summands : DataType → Path Offset → List Offset
 summands number p = []
 summands (array n t) p = times (cells t) (leadingIndex p) ∷ summands t (tail p)
 summands (DataType.pair s t) p = byPart p (summands s (tail p)) (Offset.literal (cells s) ∷ summands t (tail p))
+summands (vector w) p = times 1 (leadingIndex p) ∷ []
 
 -- [6.20] The sum so far `plus` the next summand; a sum of nothing is `lit,0`.
 abbrev pub sumOnto : Offset → List Offset → Offset

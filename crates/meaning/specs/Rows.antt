@@ -9,8 +9,9 @@ use Rattle.words.specs.Kinds.{Row, word-plan, word-num, word-arr, word-two, wor
 use Rattle.words.specs.Kinds.{word-add, word-sub, word-mul, word-div, word-min, word-max, word-mappar, word-mapseq}
 use Rattle.words.specs.Kinds.{word-redseq, word-zip, word-pair, word-split, word-join, word-fst, word-snd, word-idx}
 use Rattle.words.specs.Kinds.{word-loops, word-cells, word-set, word-seq, word-for, word-par, word-new, word-out}
+use Rattle.words.specs.Kinds.{word-vec, word-asvec, word-asscal, word-mapvec, word-at, word-lanes}
 use Rattle.words.specs.Kinds.{word-loc, word-ctr, word-plus, word-times, word-over, word-rest}
-use Rattle.meaning.specs.Types.{DataType, number, array}
+use Rattle.meaning.specs.Types.{DataType, Series, number, array, vector}
 use Rattle.meaning.specs.Terms.{LoopKind, Term, Plan}
 use Rattle.meaning.specs.Loops.{Offset, Place, Value, Command, Loops, plus, times, over, rest, seq, loop, new}
 
@@ -27,10 +28,24 @@ operationWord Operation.maximum = word-max
 abbrev pub mapWord : LoopKind → ℕ
 mapWord LoopKind.parallel = word-mappar
 mapWord LoopKind.sequential = word-mapseq
+mapWord LoopKind.lanes = word-mapvec
 
 abbrev pub loopWord : LoopKind → ℕ
 loopWord LoopKind.parallel = word-par
 loopWord LoopKind.sequential = word-for
+loopWord LoopKind.lanes = word-lanes
+
+abbrev pub splitWord : Series → ℕ
+splitWord Series.arrays = word-split
+splitWord Series.vectors = word-asvec
+
+abbrev pub joinWord : Series → ℕ
+joinWord Series.arrays = word-join
+joinWord Series.vectors = word-asscal
+
+abbrev pub indexWord : Series → ℕ
+indexWord Series.arrays = word-idx
+indexWord Series.vectors = word-at
 
 -- Plans
 
@@ -38,6 +53,7 @@ unfoldable pub typeRows : DataType → List Row
 typeRows number = (word-num, pos 0) ∷ []
 typeRows (array n t) = (word-arr, pos n) ∷ typeRows t
 typeRows (DataType.pair s t) = (word-two, pos 0) ∷ (typeRows s ++ typeRows t)
+typeRows (vector w) = (word-vec, pos w) ∷ []
 
 unfoldable pub termRows : Term → List Row
 termRows (Term.input k) = (word-in, pos k) ∷ []
@@ -49,11 +65,11 @@ termRows (Term.map kind a b) = (mapWord kind, pos 0) ∷ (termRows a ++ termRows
 termRows (Term.reduce z a b) = (word-redseq, pos 0) ∷ (termRows z ++ (termRows a ++ termRows b))
 termRows (Term.zip a b) = (word-zip, pos 0) ∷ (termRows a ++ termRows b)
 termRows (Term.pair a b) = (word-pair, pos 0) ∷ (termRows a ++ termRows b)
-termRows (Term.split n e) = (word-split, pos n) ∷ termRows e
-termRows (Term.join e) = (word-join, pos 0) ∷ termRows e
+termRows (Term.split series n e) = (splitWord series, pos n) ∷ termRows e
+termRows (Term.join series e) = (joinWord series, pos 0) ∷ termRows e
 termRows (Term.first e) = (word-fst, pos 0) ∷ termRows e
 termRows (Term.second e) = (word-snd, pos 0) ∷ termRows e
-termRows (Term.index k e) = (word-idx, pos k) ∷ termRows e
+termRows (Term.index series k e) = (indexWord series, pos k) ∷ termRows e
 
 unfoldable pub allTypeRows : List DataType → List Row
 allTypeRows [] = []

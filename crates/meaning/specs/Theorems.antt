@@ -1,4 +1,5 @@
 -- What is proved, in one place: demand 3, which is [9.8], and what goes with it. The proofs are in `Laws`.
+use mathlib.Core.Bool.{true}
 use mathlib.Core.Path.{_≡_, refl, sym, _∙_, subst}
 use mathlib.Core.Logic.{_↔_, _⊎_}
 use mathlib.Core.List.{List, [], map, List·Permᴰ}
@@ -22,7 +23,7 @@ use Rattle.meaning.specs.NamedOrders.{forward, always}
 use Rattle.meaning.specs.Steps.{steps, doStep}
 use Rattle.meaning.specs.Translation.{translation}
 use Rattle.meaning.specs.Counts.{commandWrites, planWrites}
-use Rattle.meaning.specs.Limits.{LoopsPass, PlanWithin, TouchesBelow}
+use Rattle.meaning.specs.Limits.{lanesApart, LoopsPass, LoopsWithin, PlanWithin, TouchesBelow}
 use Rattle.meaning.specs.Demand3.{datumAt, planValue, Outcome, Demand3}
 use Rattle.meaning.specs.Laws.Typing.{well-typed}
 use Rattle.meaning.specs.Laws.Inference.{infer, typed-inferred, inferred-typed}
@@ -36,7 +37,9 @@ use Rattle.meaning.specs.Laws.Arbiters.{arbiterOf, arbiter-fair, run-by-
 use Rattle.meaning.specs.Laws.Steps.{run-does-steps, run-writes, run-length}
 use Rattle.meaning.specs.Laws.Safety.{loops-touch-below, beyond-kept}
 use Rattle.meaning.specs.Laws.Needs.{need-by-writes, need-reached}
-use Rattle.meaning.specs.Laws.PassingPlans.{translation-passes}
+use Rattle.meaning.specs.Laws.LanesAsPar.{need-as-par, runs-as-par}
+use Rattle.meaning.specs.AsPar.{loopsAsPar}
+use Rattle.meaning.specs.Laws.PassingPlans.{translation-within}
 
 -- [5.1] The relation of Figure 3 and the type check find the same types.
 pub type-check : (I Γ : List DataType) (e : Term) (t : DataType) → HasType I Γ e t ↔ (infer I Γ e ≡ some t)
@@ -72,7 +75,7 @@ module _ (𝓝 : NumberDomain) where
         (choice-run 𝓝 (L .command) (c .0) (startOf L) (regionsFrom L) (beginning 𝓝 s)),
   )
 
-  -- [9.5] No order is left out: whatever permutation is named at every visit of every `par`, some run takes it.
+  -- [9.5] No order is left out: whatever permutation is named at every visit of every `par` and every `lanes`, some run takes it.
   pub no-order-left-out : (π : Arbiter)
       → ((visit : List ℕ) (n : ℕ) → List·Permᴰ (π visit n) (upFrom 0 n))
       → (L : Loops) (s : Store 𝓝)
@@ -84,7 +87,7 @@ module _ (𝓝 : NumberDomain) where
       (x .1 (startOf L) (regionsFrom L) (beginning 𝓝 s))
       (choice-run 𝓝 (L .command) (x .0) (startOf L) (regionsFrom L) (beginning 𝓝 s))
 
-  -- [9.5] And there is no other run: each takes at every visit of every `par` a permutation of its rounds.
+  -- [9.5] And there is no other run: each takes at every visit of every `par` and every `lanes` a permutation of its rounds.
   pub no-other-run : (L : Loops) (s : Store 𝓝) (st : State 𝓝) → RunOf 𝓝 L s st
       → (π : Arbiter)
       × ((visit : List ℕ) (n : ℕ) → List·Permᴰ (π visit n) (upFrom 0 n))
@@ -97,12 +100,18 @@ module _ (𝓝 : NumberDomain) where
         sym (c .1) ∙ run-by-arbiter 𝓝 (L .command) (c .0) (startOf L) (regionsFrom L) (beginning 𝓝 s),
       )
 
-  -- [9.10] The run in which every `par` takes the order named is the run by the arbiter that names it at every visit.
+  -- [9.10] The run in which every `par` and every `lanes` takes the order named is the run by the arbiter that names it at every visit.
   pub named-run : (o : (n : ℕ) → Order LoopKind.parallel n) (L : Loops) (s : Store 𝓝)
       → runLoops 𝓝 L (always o (L .command)) s
       ≡ runBy 𝓝 (λ visit n. o n .0) (L .command) [] (startOf L) (regionsFrom L) (beginning 𝓝 s)
   unfolding runLoops
   named-run o L s = run-by-name 𝓝 o (L .command) [] (startOf L) (regionsFrom L) (beginning 𝓝 s)
+
+  -- [18.10] Whatever order is named at each visit, a `lanes` takes it as a `par` does: with `par` for every `lanes` the run comes to the same.
+  pub run-counts-as-par : (π : Arbiter) (L : Loops) (s : Store 𝓝)
+      → runBy 𝓝 π (loopsAsPar L .command) [] (startOf L) (regionsFrom L) (beginning 𝓝 s)
+      ≡ runBy 𝓝 π (L .command) [] (startOf L) (regionsFrom L) (beginning 𝓝 s)
+  run-counts-as-par π L s = runs-as-par 𝓝 π L s
 
   -- A run does its steps, which are known before the store is seen.
   pub run-is-steps : (L : Loops) (ch : Orders (L .command)) (s : Store 𝓝)
@@ -168,10 +177,18 @@ need-few L h few = omega (arith, need-by-writes L h)
 pub need-taken : (L : Loops) → LoopsPass L → (need L ≡ regionsFrom L) ⊎ EndsBefore (need L) (L .command) (regionsFrom L)
 need-taken L h = need-reached L h
 
--- [9.9] Loops made from a plan pass: [10.5], [10.6] and [10.9].
+-- [18.10] And for the need.
+pub need-counts-as-par : (L : Loops) → need (loopsAsPar L) ≡ need L
+need-counts-as-par L = need-as-par L
+
+-- [9.9] Loops made from a plan answer to [10.5], [10.6] and [10.9].
+pub own-loops-within : (P : Plan) (t : DataType) → HasType (P .inputs) [] (P .term) t → PlanWithin P → LoopsWithin (translation P)
+own-loops-within P t typed within = translation-within P (well-typed typed .0) within
+
+-- So they pass, where [18.15], which is asked of them for the plan, is answered too.
 pub own-loops-pass : (P : Plan) (t : DataType) → HasType (P .inputs) [] (P .term) t → PlanWithin P
-    → LoopsPass (translation P)
-own-loops-pass P t typed within = translation-passes P (well-typed typed .0) within
+    → lanesApart (translation P .command) ≡ true → LoopsPass (translation P)
+own-loops-pass P t typed within apart = record { within = own-loops-within P t typed within; apart = apart }
 
 -- [7.3] Their writes, counted from the rows, are w.
 pub own-writes : (P : Plan) (t : DataType) → HasType (P .inputs) [] (P .term) t

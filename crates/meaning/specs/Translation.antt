@@ -7,22 +7,29 @@ use Prim.Native.Nat.{ℕ, suc}
 use lib.ListN.{getD}
 use lib.IntN.{ℤ}
 use Rattle.meaning.specs.Types.{DataType, isNumber, cells, arrayLength, element, firstType, secondType, number, array}
+use Rattle.meaning.specs.Types.{vector}
 use Rattle.meaning.specs.Terms.{LoopKind, Term, Plan}
 use Rattle.meaning.specs.Typing.{typeOf}
 use Rattle.meaning.specs.Loops.{Offset, Command, Loops, seq, loop, new}
 use Rattle.meaning.specs.Expressions.{Expression, Acceptor}
 use Rattle.meaning.specs.Offsets.{readAt, writeAt, valueFromInnermost, placeFromInnermost}
 
--- [6.3] By the type: a number is one `set`, an array a `par` over its elements, a pair its first part and then its second.
--- [14.7] A trap: it is `par` and never `for`, also where everything around it goes in sequence.
-unfoldable pub assign : DataType → Expression → Acceptor → ℕ → ℕ → Command
-assign number E P c r =
+-- [6.3] By the type: a number is one `set`, an array a `par` over its elements, a pair its first part and then its second, [18.11] a vector a
+-- `lanes` over its lanes. [14.7] A trap: an array's is `par` and never `for`, also where everything around it goes in sequence.
+abbrev pub assignNumber : Expression → Acceptor → ℕ → ℕ → Command
+assignNumber E P c r =
     Command.assignment (placeFromInnermost c r (writeAt P [])) (valueFromInnermost c r (readAt E []))
+
+unfoldable pub assign : DataType → Expression → Acceptor → ℕ → ℕ → Command
+assign number E P c r = assignNumber E P c r
 assign (array n t) E P c r =
     loop LoopKind.parallel n
     (assign t (Expression.index E (Offset.counter c)) (Acceptor.index P (Offset.counter c)) (suc c) r)
 assign (DataType.pair s t) E P c r =
     seq (assign s (Expression.first E) (Acceptor.first P) c r) (assign t (Expression.second E) (Acceptor.second P) c r)
+assign (vector w) E P c r =
+    loop LoopKind.lanes w
+    (assignNumber (Expression.index E (Offset.counter c)) (Acceptor.index P (Offset.counter c)) (suc c) r)
 
 -- How some term is written, and how some term is used: C gets the expression, and the regions then in force.
 abbrev pub Write : Type 0
@@ -31,7 +38,8 @@ Write = List DataType → List Expression → ℕ → ℕ → Acceptor → Comma
 abbrev pub Use : Type 0
 Use = List DataType → List Expression → ℕ → ℕ → (Expression → ℕ → Command) → Command
 
--- [6.7] The array is used; then a loop over its length writes the body into the place's element at the counter. t is the array's type.
+-- [6.7] The array, [18.12] or the vector, is used; then a loop over its length writes the body into the place's element at the counter. t is its
+-- type.
 unfoldable pub writeMap : LoopKind → DataType → Use → Write → Write
 writeMap kind t useArray writeBody Γ Δ c r P =
     useArray Γ Δ c r (λ A r′.
@@ -55,7 +63,7 @@ roundByNext e z writeBody Γ Δ c total A =
     (assign z (Expression.region next z) (Acceptor.region total z) (suc c) (suc next)))
 
 -- [6.14] One round. A number is written into the total itself: the one `set` into it is the last, and works its value out before it
--- writes. [14.5] A trap of the paper: an array or a pair must not be, since its body may still read the total.
+-- writes. [14.5] A trap of the paper: an array, a pair or a vector must not be, since its body may still read the total.
 abbrev pub reduceRound : DataType → DataType → Write → List DataType → List Expression → ℕ → ℕ → Expression → Command
 reduceRound e z writeBody Γ Δ c total A =
     cond (isNumber z) (bodyInto e z writeBody Γ Δ c total A total) (roundByNext e z writeBody Γ Δ c total A)
@@ -109,14 +117,15 @@ module _ (I : List DataType) where
     writeTerm (Term.pair a b) Γ Δ c r P =
         seq (writeTerm a Γ Δ c r (Acceptor.first P)) (writeTerm b Γ Δ c r (Acceptor.second P))
     -- [6.10] [14.4] A trap of the paper: the inner length divides, which `split` has for its number and `join` takes from its operand.
-    writeTerm (Term.split n e) Γ Δ c r P = writeTerm e Γ Δ c r (Acceptor.split n P)
-    writeTerm (Term.join e) Γ Δ c r P = writeTerm e Γ Δ c r (Acceptor.join (arrayLength (element (typeOf I Γ e))) P)
+    -- [18.13] Of vectors it is the width: [14.9] and never their number; [14.10] what it leaves is the lane.
+    writeTerm (Term.split series n e) Γ Δ c r P = writeTerm e Γ Δ c r (Acceptor.split n P)
+    writeTerm (Term.join series e) Γ Δ c r P = writeTerm e Γ Δ c r (Acceptor.join (arrayLength (element (typeOf I Γ e))) P)
     -- [6.11]
     writeTerm (Term.first e) Γ Δ c r P =
         useTerm e Γ Δ c r (λ E r′. assign (firstType (typeOf I Γ e)) (Expression.first E) P c r′)
     writeTerm (Term.second e) Γ Δ c r P =
         useTerm e Γ Δ c r (λ E r′. assign (secondType (typeOf I Γ e)) (Expression.second E) P c r′)
-    writeTerm (Term.index k e) Γ Δ c r P =
+    writeTerm (Term.index series k e) Γ Δ c r P =
         useTerm e Γ Δ c r (λ E r′. assign (element (typeOf I Γ e)) (Expression.index E (Offset.literal k)) P c r′)
 
     -- To use a term in C: Figure 4b, with maps, `redseq` and `idx` as above.
@@ -143,13 +152,13 @@ module _ (I : List DataType) where
     useTerm (Term.pair a b) Γ Δ c r C =
         useTerm a Γ Δ c r (λ E r′. useTerm b Γ Δ c r′ (λ F r″. C (Expression.pair E F) r″))
     -- [6.15] [14.4] The inner length divides here too.
-    useTerm (Term.split n e) Γ Δ c r C = useTerm e Γ Δ c r (λ E r′. C (Expression.split n E) r′)
-    useTerm (Term.join e) Γ Δ c r C =
+    useTerm (Term.split series n e) Γ Δ c r C = useTerm e Γ Δ c r (λ E r′. C (Expression.split n E) r′)
+    useTerm (Term.join series e) Γ Δ c r C =
         useTerm e Γ Δ c r (λ E r′. C (Expression.join (arrayLength (element (typeOf I Γ e))) E) r′)
     -- [6.15]
     useTerm (Term.first e) Γ Δ c r C = useTerm e Γ Δ c r (λ E r′. C (Expression.first E) r′)
     useTerm (Term.second e) Γ Δ c r C = useTerm e Γ Δ c r (λ E r′. C (Expression.second E) r′)
-    useTerm (Term.index k e) Γ Δ c r C = useTerm e Γ Δ c r (λ E r′. C (Expression.index E (Offset.literal k)) r′)
+    useTerm (Term.index series k e) Γ Δ c r C = useTerm e Γ Δ c r (λ E r′. C (Expression.index E (Offset.literal k)) r′)
 
 -- The type of a whole plan's term.
 abbrev pub planType : Plan → DataType

@@ -105,9 +105,9 @@ module _ (𝓝 : NumberDomain) where
   -- [8.5] Lists and pairs, put together and taken apart.
   value X (Term.zip a b) env = arrayOf (zipped (elements (value X a env)) (elements (value X b env)))
   value X (Term.pair a b) env = Datum.pair (value X a env) (value X b env)
-  value X (Term.split n e) env =
+  value X (Term.split series n e) env =
       arrayOf (groups (length (elements (value X e env)) / n) n (elements (value X e env)))
-  value X (Term.join e) env = arrayOf (joined (elements (value X e env)))
+  value X (Term.join series e) env = arrayOf (joined (elements (value X e env)))
   value X (Term.first e) env = firstOf (value X e env)
   value X (Term.second e) env = secondOf (value X e env)
-  value X (Term.index k e) env = getD (elements (value X e env)) k noDatum
+  value X (Term.index series k e) env = getD (elements (value X e env)) k noDatum

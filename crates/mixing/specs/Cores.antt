@@ -18,12 +18,21 @@ pub data Work : Type 0 where
   then : Work → Work → Work
   beside : Work → Work → Work
 
--- The rounds of one visit of a loop, of each its work: [9.12] of a `par` they are side by side, [9.13] of a `for` they come one after the
--- other.
+-- all of these side by side; and one after the other
+abbrev pub besides : List Work → Work
+besides [] = Work.nothing
+besides (w ∷ ws) = Work.beside w (besides ws)
+
+abbrev pub inSequence : List Work → Work
+inSequence [] = Work.nothing
+inSequence (w ∷ ws) = Work.then w (inSequence ws)
+
+-- The rounds of one visit of a loop, of each its work: [9.12] of a `par` they are side by side, [18.10] of a `lanes` too, [9.13] of a `for` they
+-- come one after the other.
 abbrev pub workOfRounds : LoopKind → List Work → Work
-workOfRounds kind [] = Work.nothing
-workOfRounds LoopKind.parallel (w ∷ ws) = Work.beside w (workOfRounds LoopKind.parallel ws)
-workOfRounds LoopKind.sequential (w ∷ ws) = Work.then w (workOfRounds LoopKind.sequential ws)
+workOfRounds LoopKind.parallel ws = besides ws
+workOfRounds LoopKind.sequential ws = inSequence ws
+workOfRounds LoopKind.lanes ws = besides ws
 
 -- The work of a command, whose room begins at `a`.
 unfoldable pub work : Command → Environment → ℕ → Work

@@ -6,6 +6,8 @@ pub mod Mixings
 -- The orders of rounds, and what cores can do
 pub mod OrdersMix
 pub mod CoresMix
+-- Lanes as `par`
+pub mod LanesAsPar
 -- Translated loops have no races
 pub mod ReadsOnly
 pub mod Orderly

@@ -43,10 +43,12 @@ abbrev pub joined : List (List SetStep) → List SetStep
 joined [] = []
 joined (x ∷ xs) = x ++ joined xs
 
--- The rounds of one visit of a loop: [9.12] of a `par` they are mixed, [9.13] of a `for` they come one after the other.
+-- The rounds of one visit of a loop: [9.12] of a `par` they are mixed, [18.10] of a `lanes` too, [9.13] of a `for` they come one after the
+-- other.
 abbrev pub Together : LoopKind → List (List SetStep) → List SetStep → Type 0
 Together LoopKind.parallel xs l = Mixed xs l
 Together LoopKind.sequential xs l = l ≡ joined xs
+Together LoopKind.lanes xs l = Mixed xs l
 
 -- one list of steps for each of the rounds named, round i's one of those that `Round i` allows
 abbrev pub OneEach : List ℕ → (ℕ → List SetStep → Type 0) → List (List SetStep) → Type 0

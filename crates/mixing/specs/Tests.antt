@@ -98,3 +98,23 @@ visits : written (loopsOf 2 (loop LoopKind.sequential 2 (loop LoopKind.parallel 
 unfolding written mixings allWays nexts flat whereNone stepsLeft workOf work room firstRoom secondRoom roundRoom regionRoom
     bodyRoom
 visits = refl
+
+-- [18.10] Two lanes of two steps, each with a region of its own: six mixings, and all end alike.
+own-regions-of-lanes : ends (loopsOf 2 (loop LoopKind.lanes 2 (new 1 (seq (keep (Value.literal (pos 3))) (putOut kept)))))
+    (9 ∷ 9 ∷ 9 ∷ 9 ∷ [])
+    ≡ replicate 6 (map pos (3 ∷ 3 ∷ 3 ∷ 3 ∷ []))
+unfolding ends mixings allWays nexts flat whereNone stepsLeft workOf work room firstRoom secondRoom roundRoom regionRoom
+    bodyRoom
+own-regions-of-lanes = refl
+
+-- [18.10] A `lanes` in a `par`: the lanes of different rounds mix, in all 24 sequences of the four steps.
+lanes-of-rounds : ends
+    (loopsOf 4
+    (loop LoopKind.parallel 2
+    (loop LoopKind.lanes 2
+    (Command.assignment (Place.output (plus (times 2 (Offset.counter 1)) (Offset.counter 0))) (Value.literal (pos 1))))))
+    (0 ∷ 0 ∷ 0 ∷ 0 ∷ [])
+    ≡ replicate 24 (map pos (1 ∷ 1 ∷ 1 ∷ 1 ∷ []))
+unfolding ends mixings allWays nexts flat whereNone stepsLeft workOf work room firstRoom secondRoom roundRoom regionRoom
+    bodyRoom
+lanes-of-rounds = refl

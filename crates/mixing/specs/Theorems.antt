@@ -16,6 +16,7 @@ use Rattle.meaning.specs.Steps.{SetStep, steps}
 use Rattle.meaning.specs.Translation.{translation}
 use Rattle.meaning.specs.Demand3.{Outcome}
 use Rattle.meaning.specs.Laws.Typing.{well-typed}
+use Rattle.meaning.specs.AsPar.{loopsAsPar}
 use Rattle.meaning.specs.Theorems.{run-is-choice, run-is-steps, demand-3-choice}
 use Rattle.mixing.specs.Mixing.{MixingOf, afterMixing, forwardRun, EveryMixing}
 use Rattle.mixing.specs.Cores.{workOf, Done}
@@ -23,6 +24,7 @@ use Rattle.mixing.specs.Races.{WithoutRaces}
 use Rattle.mixing.specs.Laws.Mixings.{mixing-is-forward}
 use Rattle.mixing.specs.Laws.OrdersMix.{steps-mixing}
 use Rattle.mixing.specs.Laws.CoresMix.{mixing-done, done-mixing}
+use Rattle.mixing.specs.Laws.LanesAsPar.{mixings-as-par}
 use Rattle.mixing.specs.Laws.OrderlyTerms.{plan-without-races}
 
 -- [9.12] [9.13] No mixing is left out: whichever next step some core does at each moment, until none is left, the steps are a mixing; and
@@ -33,6 +35,10 @@ mixing-is-cores L l = (
   mixing-done (L .command) (startOf L) (regionsFrom L) l,
   done-mixing (L .command) (startOf L) (regionsFrom L) l,
 )
+
+-- [18.10] For the mixings too a `lanes` counts as a `par`: with `par` for every `lanes` they are the same.
+pub mixings-count-as-par : (L : Loops) (l : List SetStep) → MixingOf (loopsAsPar L) l ↔ MixingOf L l
+mixings-count-as-par L l = let e = mixings-as-par L l in (subst (λ (M : Type 0). M) e, subst (λ (M : Type 0). M) (sym e))
 
 -- Loops made from a plan have no races.
 pub own-loops-without-races : (P : Plan) (t : DataType) → HasType (P .inputs) [] (P .term) t

@@ -246,10 +246,10 @@ within-room k (h ∷ hs) (l ∷ ls) t =
     let rest = within-room (suc k) hs ls (and-r (isOwnLine k h l) (areOwnLines (suc k) hs ls) t) in
     omega (arith, rest, o .own .most, ap length (line-back o), length-append h (44 ∷ afterComma l), length-append l (10 ∷ together ls))
 
-words-room : room 0 words ≤ 511
+words-room : room 0 words ≤ 598
 unfolding room words table
 words-room = omega arith
 
 -- [16.2] no words text has more bytes
-pub words-text-short : (t : List ℕ) → T (isWordsText t) → length t ≤ 511
+pub words-text-short : (t : List ℕ) → T (isWordsText t) → length t ≤ 598
 words-text-short t h = omega (arith, ap length (lines-together t (text-closed t h)), within-room 0 words (linesOf t) (text-lines t h), words-room)

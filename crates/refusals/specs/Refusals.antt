@@ -19,6 +19,7 @@ use Rattle.refusals.specs.declared.Refusal.the-variants.{
   ValueLines,
   WordsForm,
   WordTwice,
+  LanesInside,
 }
 
 -- [10.17] A refusal is told by the number of its question,
@@ -40,6 +41,7 @@ refusalNumber StoreSize = 14
 refusalNumber ValueLines = 15
 refusalNumber WordsForm = 16
 refusalNumber WordTwice = 17
+refusalNumber (LanesInside l) = 18
 
 -- [10.17] and by a line: from 1, or 0 where the question is put to a whole.
 abbrev pub refusalLine : Refusal → ℕ
@@ -60,3 +62,4 @@ refusalLine StoreSize = 0
 refusalLine ValueLines = 0
 refusalLine WordsForm = 0
 refusalLine WordTwice = 0
+refusalLine (LanesInside l) = l

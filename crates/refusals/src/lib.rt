@@ -1,4 +1,4 @@
-// The refusals: one case for each question, [10.1] to [10.15], [16.4] and [16.5], that can be answered "no"; and the answer of everything that may refuse.
+// The refusals: one case for each question, [10.1] to [10.15], [16.4], [16.5] and [18.15], that can be answered "no"; and the answer of everything that may refuse.
 ghost use mathlib.Core.Path.{_≡_};
 ghost use Rattle.refusals.specs.Refusals.{refusalNumber, refusalLine};
 
@@ -21,6 +21,7 @@ pub enum Refusal {
     ValueLines,
     WordsForm,
     WordTwice,
+    LanesInside(usize),
 }
 
 // [10.17] A number, or the first question that was answered "no".
@@ -51,6 +52,7 @@ pub fn number(refusal: Refusal) -> u8
         Refusal::ValueLines => 15,
         Refusal::WordsForm => 16,
         Refusal::WordTwice => 17,
+        Refusal::LanesInside(_) => 18,
     }
 }
 
@@ -76,5 +78,6 @@ pub fn line(refusal: Refusal) -> usize
         Refusal::ValueLines => 0,
         Refusal::WordsForm => 0,
         Refusal::WordTwice => 0,
+        Refusal::LanesInside(line) => line,
     }
 }

@@ -20,7 +20,8 @@ use emission::assign::put_assign;
 use syntax::ranges;
 use words::groups::is_map;
 
-// [6.7] A map is written: its array is used; then in a `par` (`mapseq`: a `for`) the body is written into the place's element.
+// [6.7] A map is written: its array is used; then in a `par` (`mapseq`: a `for`, [18.12] `mapvec`: a `lanes`) the body is written into the
+// place's element.
 pub fn write_map(
     kinds: &[u8],
     numbers: &[i32],
@@ -82,7 +83,7 @@ pub fn write_map(
 }
 
 // Writes the term whose rows stand in front into the place at node `target`: a map [6.7], `zip` or `pair` [6.9], `split` or `join`
-// [6.10]. Any other is used and then assigned: [6.4], [6.5], [6.6], [6.8], [6.11].
+// [6.10], [18.12] `asvec` or `asscal`. Any other is used and then assigned: [6.4], [6.5], [6.6], [6.8], [6.11].
 pub fn write_term(
     kinds: &[u8],
     numbers: &[i32],

@@ -44,14 +44,15 @@ module _ (T : List ℕ) (m : ℕ) (I Γ : List DataType) (C : List ℕ) where
   noted-by (Term.operation Operation.maximum e f) n p = (n, p .0, p .1)
   noted-by (Term.map LoopKind.parallel a b) n p = (n, p .0, p .1)
   noted-by (Term.map LoopKind.sequential a b) n p = (n, p .0, p .1)
+  noted-by (Term.map LoopKind.lanes a b) n p = (n, p .0, p .1)
   noted-by (Term.reduce z a b) n p = (n, p .0, p .1, p .2)
   noted-by (Term.zip a b) n p = (n, p .0, p .1)
   noted-by (Term.pair a b) n p = (n, p .0, p .1)
-  noted-by (Term.split j e) n p = (n, p)
-  noted-by (Term.join e) n p = (n, p)
+  noted-by (Term.split series j e) n p = (n, p)
+  noted-by (Term.join series e) n p = (n, p)
   noted-by (Term.first e) n p = (n, p)
   noted-by (Term.second e) n p = (n, p)
-  noted-by (Term.index j e) n p = (n, p)
+  noted-by (Term.index series j e) n p = (n, p)
 
   module _ (e : Term) (n : Names T m (getD C 0 0) (typeOf I Γ e)) where
     pub noted-none : operandCount e ≡ 0 → Noted T m I Γ e C
@@ -165,11 +166,11 @@ module _ (T U : List ℕ) {m l : ℕ} (more : m ≤ l) (kept : (i : ℕ) → i <
         noted-kept I Γ a (drop 1 C) (drop 1 D) (alike-less _ B (omega arith)) (N .1),
         noted-kept I Γ b (behindTerm a (drop 1 C)) (behindTerm a (drop 1 D)) (alike-drop (length (termRows a)) (length (termRows b)) B (omega arith)) (N .2),
       )
-  noted-kept I Γ (Term.split n e) C D A N =
-      let k = rows-of-one (Term.split n e) refl in
+  noted-kept I Γ (Term.split series n e) C D A N =
+      let k = rows-of-one (Term.split series n e) refl in
       (names-kept (A .same 0 (omega (arith, k))) (N .0), noted-kept I Γ e (drop 1 C) (drop 1 D) (alike-drop 1 _ A (omega arith)) (N .1))
-  noted-kept I Γ (Term.join e) C D A N =
-      let k = rows-of-one (Term.join e) refl in
+  noted-kept I Γ (Term.join series e) C D A N =
+      let k = rows-of-one (Term.join series e) refl in
       (names-kept (A .same 0 (omega (arith, k))) (N .0), noted-kept I Γ e (drop 1 C) (drop 1 D) (alike-drop 1 _ A (omega arith)) (N .1))
   noted-kept I Γ (Term.first e) C D A N =
       let k = rows-of-one (Term.first e) refl in
@@ -177,8 +178,8 @@ module _ (T U : List ℕ) {m l : ℕ} (more : m ≤ l) (kept : (i : ℕ) → i <
   noted-kept I Γ (Term.second e) C D A N =
       let k = rows-of-one (Term.second e) refl in
       (names-kept (A .same 0 (omega (arith, k))) (N .0), noted-kept I Γ e (drop 1 C) (drop 1 D) (alike-drop 1 _ A (omega arith)) (N .1))
-  noted-kept I Γ (Term.index k e) C D A N =
-      let k = rows-of-one (Term.index k e) refl in
+  noted-kept I Γ (Term.index series k e) C D A N =
+      let k = rows-of-one (Term.index series k e) refl in
       (names-kept (A .same 0 (omega (arith, k))) (N .0), noted-kept I Γ e (drop 1 C) (drop 1 D) (alike-drop 1 _ A (omega arith)) (N .1))
 
 module _ {T U : List ℕ} {m l : ℕ} (G : Grown T m U l) where

@@ -10,7 +10,7 @@ use lib.Seq.{getD-drop, drop-drop}
 use Rattle.refusals.specs.declared.Refusal.{Refusal}
 use Rattle.refusals.specs.declared.Refusal.the-variants.{TypeMisfit}
 use Rattle.words.specs.Kinds.{word-redseq}
-use Rattle.meaning.specs.Types.{DataType, element}
+use Rattle.meaning.specs.Types.{DataType, number, element}
 use Rattle.meaning.specs.Terms.{Term}
 use Rattle.meaning.specs.Typing.{typeOf}
 use Rattle.meaning.specs.Rows.{termRows}
@@ -76,11 +76,12 @@ module _ (ks : List ℕ) (ns : List ℤ) (T : List ℕ) (m : ℕ) (C : List ℕ)
   first-type : typeOf I Γ (firstOperand e) ≡ typeAt T p
   first-type = checked-type I Γ (firstOperand e) (suc (row + 1)) (typeAt T p) checked
 
-  pub scope-ready : Sound T (suc p) × (isMap (getD ks 0 0) ≡ true → s .count < 16)
+  pub scope-ready : Sound T (suc p) × (isMap (getD ks 0 0) ≡ true → s .count < 16) × (typeAt T 0 ≡ number)
   scope-ready = (
     sound-below (P .room .sound) (omega (arith, Q .place)),
     λ h. omega
         (arith, map-room (length I) (length Γ) (as-map e (map-opens e (ap isMap (sym kind-is) ∙ h))) (S .term .inRange), S .inForce .count),
+    P .number,
   )
 
   module _ (fits : Bool) (inner : Scope) (O : (fits ≡ opensSecond (getD ks 0 0) (typeAt T p))

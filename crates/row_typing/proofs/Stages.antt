@@ -1,22 +1,22 @@
 -- The check of a term in stages: behind its first operand, and behind its second.
 use mathlib.Core.Path.{_≡_, refl}
-use mathlib.Core.Bool.{Bool, true, false, cond}
+use mathlib.Core.Bool.{Bool, true, false, cond, _&&_}
 use mathlib.Core.List.{List, _∷_}
 use Prim.Native.Nat.{ℕ, suc, _≤_}
 use native.Mathlib.Omega.{arith}
 use Rattle.refusals.specs.declared.Refusal.the-variants.{TypeMisfit}
 use Rattle.arithmetic.specs.Arithmetic.{Operation}
 use Rattle.words.specs.Groups.{oneOf}
-use Rattle.meaning.specs.Types.{DataType, array, arrayLength, element}
+use Rattle.meaning.specs.Types.{DataType, Series, arrayLength, element, seriesOf}
 use Rattle.meaning.specs.Terms.{LoopKind, Term}
 use Rattle.syntax.specs.Standing.{Shape, none, one, two, three, viewOf, countIn, firstIn, secondIn, thirdIn}
 use Rattle.syntax.specs.Standing.{termKind, termNumber, operandCount, firstOperand, secondOperand, thirdOperand}
-use Rattle.typing.specs.Check.{Verdict, typed, refused, sized, fitted, afterOperand, behind, check, isArray}
+use Rattle.typing.specs.Check.{Verdict, typed, refused, sized, fitted, afterOperand, behind, check, isArray, isSeries, mayBeIn}
 use Rattle.type_rules.specs.Rules.{unaryRule, negateRule, splitRule, joinRule, firstRule, secondRule, indexRule, binaryRule, mapRule}
 use Rattle.type_rules.specs.Rules.{zipRule, operationRule, reduceRule, opensSecond, secondScope}
 
--- The check of a row of kind k and number n with these operands, the first of which has the type s: a map over no array is refused
--- before its body is checked.
+-- The check of a row of kind k and number n with these operands, the first of which has the type s: a map over no array, [18.6] or a
+-- `mapvec` over no vector, is refused before its body is checked.
 unfoldable pub behindTwoIn : List DataType → List DataType → ℕ → Shape → ℕ → DataType → DataType → Verdict
 behindTwoIn I Γ k none line s t = binaryRule k line s t
 behindTwoIn I Γ k (one a) line s t = binaryRule k line s t
@@ -45,15 +45,22 @@ each-after : (v : Verdict) (f g : DataType → Verdict) → ((s : DataType) → 
 each-after (typed t) f g h = h t
 each-after (refused q) f g h = refl
 
--- a map's array is asked for once
-array-once : (I Γ : List DataType) (b : Term) (line next : ℕ) (s : DataType)
-    → cond (isArray s) (afterOperand (check I (element s ∷ Γ) b next) λ t. sized line (array (arrayLength s) t)) (refused (TypeMisfit line))
-    ≡ cond (isArray s) (afterOperand (check I (element s ∷ Γ) b next) λ t. mapRule line s t) (refused (TypeMisfit line))
+-- a map's array, [18.6] or vector, is asked for once
+series-once : (series : Series) (I Γ : List DataType) (b : Term) (line next : ℕ) (s : DataType)
+    → cond (isSeries series s)
+    (afterOperand (check I (element s ∷ Γ) b next) λ t. fitted line (mayBeIn series t) (seriesOf series (arrayLength s) t))
+    (refused (TypeMisfit line))
+    ≡ cond (isSeries series s) (afterOperand (check I (element s ∷ Γ) b next) λ t. mapRule series line s t) (refused (TypeMisfit line))
 unfolding mapRule
-array-once I Γ b line next s = go (isArray s)
+series-once series I Γ b line next s = go (isSeries series s)
   where
-    go : (x : Bool) → cond x (afterOperand (check I (element s ∷ Γ) b next) λ t. sized line (array (arrayLength s) t)) (refused (TypeMisfit line))
-        ≡ cond x (afterOperand (check I (element s ∷ Γ) b next) λ t. fitted line x (array (arrayLength s) t)) (refused (TypeMisfit line))
+    go : (x : Bool)
+        → cond x
+        (afterOperand (check I (element s ∷ Γ) b next) λ t. fitted line (mayBeIn series t) (seriesOf series (arrayLength s) t))
+        (refused (TypeMisfit line))
+        ≡ cond x
+        (afterOperand (check I (element s ∷ Γ) b next) λ t. fitted line (x && mayBeIn series t) (seriesOf series (arrayLength s) t))
+        (refused (TypeMisfit line))
     go true = refl
     go false = refl
 
@@ -70,16 +77,23 @@ first-checked I Γ (Term.operation Operation.multiplication e f) line h = refl
 first-checked I Γ (Term.operation Operation.division e f) line h = refl
 first-checked I Γ (Term.operation Operation.minimum e f) line h = refl
 first-checked I Γ (Term.operation Operation.maximum e f) line h = refl
-first-checked I Γ (Term.map LoopKind.parallel a b) line h = each-after (check I Γ a (suc line)) _ _ (λ s. array-once I Γ b line (behind a (suc line)) s)
-first-checked I Γ (Term.map LoopKind.sequential a b) line h = each-after (check I Γ a (suc line)) _ _ (λ s. array-once I Γ b line (behind a (suc line)) s)
+first-checked I Γ (Term.map LoopKind.parallel a b) line h =
+    each-after (check I Γ a (suc line)) _ _ (λ s. series-once Series.arrays I Γ b line (behind a (suc line)) s)
+first-checked I Γ (Term.map LoopKind.sequential a b) line h =
+    each-after (check I Γ a (suc line)) _ _ (λ s. series-once Series.arrays I Γ b line (behind a (suc line)) s)
+first-checked I Γ (Term.map LoopKind.lanes a b) line h =
+    each-after (check I Γ a (suc line)) _ _ (λ s. series-once Series.vectors I Γ b line (behind a (suc line)) s)
 first-checked I Γ (Term.reduce z a b) line h = refl
 first-checked I Γ (Term.zip a b) line h = refl
 first-checked I Γ (Term.pair a b) line h = refl
-first-checked I Γ (Term.split n e) line h = refl
-first-checked I Γ (Term.join e) line h = refl
+first-checked I Γ (Term.split Series.arrays n e) line h = refl
+first-checked I Γ (Term.split Series.vectors n e) line h = refl
+first-checked I Γ (Term.join Series.arrays e) line h = refl
+first-checked I Γ (Term.join Series.vectors e) line h = refl
 first-checked I Γ (Term.first e) line h = refl
 first-checked I Γ (Term.second e) line h = refl
-first-checked I Γ (Term.index k e) line h = refl
+first-checked I Γ (Term.index Series.arrays k e) line h = refl
+first-checked I Γ (Term.index Series.vectors k e) line h = refl
 
 module _ (I Γ : List DataType) (k n line : ℕ) (s : DataType) where
   one-in : (S : Shape) → countIn S ≡ 1 → behindOneIn I Γ k n S line s ≡ unaryRule k n line s

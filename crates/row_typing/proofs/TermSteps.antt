@@ -7,10 +7,10 @@ use native.Mathlib.Omega.{arith}
 use lib.IntN.{ℤ, pos}
 use lib.ListN.{length, getD, set, drop}
 use Rattle.refusals.specs.declared.Refusal.{Refusal}
-use Rattle.words.specs.Kinds.{word-in, word-var, word-split}
+use Rattle.words.specs.Kinds.{word-in, word-var, word-split, word-asvec}
 use Rattle.words.specs.Groups.{isLeaf, hasOneOperand}
-use Rattle.meaning.specs.Types.{DataType, number}
-use Rattle.meaning.specs.Limits.{TypeWithin}
+use Rattle.meaning.specs.Types.{DataType, Series, number}
+use Rattle.meaning.specs.Limits.{IsWidth, TypeWithin}
 use Rattle.meaning.specs.Terms.{Term}
 use Rattle.meaning.specs.Typing.{typeOf}
 use Rattle.meaning.specs.Rows.{termRows}
@@ -46,21 +46,26 @@ var-number K w (Leaf.input k) g r = absurd (omega arith)
 var-number K w (Leaf.variable d) g r = r
 var-number K w (Leaf.literal v) g r = absurd (omega arith)
 
-split-number : (K v : ℕ) (e : Term) → operandCount e ≡ 1 → termKind e ≡ word-split → TermInRange K v e → (1 ≤ termNumber e) × (termNumber e ≤ 4096)
-split-number K w (Term.input k) h g r = absurd (omega arith)
-split-number K w (Term.variable d) h g r = absurd (omega arith)
-split-number K w (Term.literal v) h g r = absurd (omega arith)
-split-number K w (Term.negate e) h g r = absurd (omega arith)
-split-number K w (Term.operation o e f) h g r = absurd (omega arith)
-split-number K w (Term.map kind a b) h g r = absurd (omega arith)
-split-number K w (Term.reduce z a b) h g r = absurd (omega arith)
-split-number K w (Term.zip a b) h g r = absurd (omega arith)
-split-number K w (Term.pair a b) h g r = absurd (omega arith)
-split-number K w (Term.split n e) h g r = (r .0 .0, r .0 .1)
-split-number K w (Term.join e) h g r = absurd (omega arith)
-split-number K w (Term.first e) h g r = absurd (omega arith)
-split-number K w (Term.second e) h g r = absurd (omega arith)
-split-number K w (Term.index k e) h g r = absurd (omega arith)
+-- the length of a group, [13.19] and the width of a vector
+group-number : (K v : ℕ) (e : Term) → operandCount e ≡ 1 → TermInRange K v e
+    → (termKind e ≡ word-split → (1 ≤ termNumber e) × (termNumber e ≤ 4096)) × (termKind e ≡ word-asvec → IsWidth (termNumber e))
+group-number K w (Term.input k) h r = absurd (omega arith)
+group-number K w (Term.variable d) h r = absurd (omega arith)
+group-number K w (Term.literal v) h r = absurd (omega arith)
+group-number K w (Term.negate e) h r = (λ g. absurd (omega arith), λ g. absurd (omega arith))
+group-number K w (Term.operation o e f) h r = absurd (omega arith)
+group-number K w (Term.map kind a b) h r = absurd (omega arith)
+group-number K w (Term.reduce z a b) h r = absurd (omega arith)
+group-number K w (Term.zip a b) h r = absurd (omega arith)
+group-number K w (Term.pair a b) h r = absurd (omega arith)
+group-number K w (Term.split Series.arrays n e) h r = (λ g. r .0, λ g. absurd (omega arith))
+group-number K w (Term.split Series.vectors n e) h r = (λ g. absurd (omega arith), λ g. r .0)
+group-number K w (Term.join Series.arrays e) h r = (λ g. absurd (omega arith), λ g. absurd (omega arith))
+group-number K w (Term.join Series.vectors e) h r = (λ g. absurd (omega arith), λ g. absurd (omega arith))
+group-number K w (Term.first e) h r = (λ g. absurd (omega arith), λ g. absurd (omega arith))
+group-number K w (Term.second e) h r = (λ g. absurd (omega arith), λ g. absurd (omega arith))
+group-number K w (Term.index Series.arrays k e) h r = (λ g. absurd (omega arith), λ g. absurd (omega arith))
+group-number K w (Term.index Series.vectors k e) h r = (λ g. absurd (omega arith), λ g. absurd (omega arith))
 
 -- ---- a row without operands
 
@@ -181,13 +186,16 @@ module _ (ks : List ℕ) (ns : List ℤ) (T : List ℕ) (m : ℕ) (C : List ℕ)
           its-own : n ≡ termNumber e
           its-own = read ∙ its-number ks ns (length I) (length Γ) e (S .term)
 
-          pub unary-ready : Room U l 2 × (p < l) × (getD ks 0 0 ≡ word-split → (1 ≤ n) × (n ≤ 4096))
-          unary-ready = (
-            room-grown (2 * length ks) 2 (P .room) grown (omega (arith, few-types, operand-within)),
-            operand-place,
-            λ k. let b = split-number (length I) (length Γ) e one-more (sym kind-is ∙ k) (S .term .inRange) in
-                (omega (arith, its-own, b .0), omega (arith, its-own, b .1)),
-          )
+          pub unary-ready : Room U l 2 × (p < l) × (getD ks 0 0 ≡ word-split → (1 ≤ n) × (n ≤ 4096)) × (getD ks 0 0 ≡ word-asvec → IsWidth n)
+              × (typeAt U 0 ≡ number)
+          unary-ready =
+              let b = group-number (length I) (length Γ) e one-more (S .term .inRange) in (
+                room-grown (2 * length ks) 2 (P .room) grown (omega (arith, few-types, operand-within)),
+                operand-place,
+                λ k. let x = b .0 (sym kind-is ∙ k) in (omega (arith, its-own, x .0), omega (arith, its-own, x .1)),
+                λ k. subst IsWidth (sym its-own) (b .1 (sym kind-is ∙ k)),
+                grown .kept 0 (P .some) ∙ P .number,
+              )
 
           pub unary-row : (X : List ℕ) (answer r′ : Typing) (E : List ℕ)
               → Found U l X (l + 2) (1 + a) (unaryRule (getD ks 0 0) n (row + 1) (typeAt U p)) answer → r′ ≡ answer → E ≡ withType D row answer

@@ -19,7 +19,7 @@ use words::groups::has_one_operand;
 use words::groups::is_leaf;
 use words::kinds::*;
 
-// The type that the rows in front spell, the first of them being this row of the plan.
+// The type that the rows in front spell, the first of them being this row of the plan. [18.1] A vector of a width that there is fits.
 pub fn type_rows(kinds: &[u8], numbers: &[i32], row: usize, types: &mut [u64], len: usize) -> Typing
     requires { ⌜ (row + length (now kinds) ≤ 65536) × Room (now types) len (length (now kinds)) × (1 ≤ len)
         × (typeAt (now types) 0 ≡ number) × ((t : DataType) × TypeStands (now kinds) (now numbers) t) ⌝ }
@@ -33,6 +33,15 @@ pub fn type_rows(kinds: &[u8], numbers: &[i32], row: usize, types: &mut [u64], l
             place: type_table::NUMBER_TYPE,
             rows: 1,
             len,
+        };
+    }
+    if kind == WORD_VEC {
+        let width = syntax::ranges::natural(numbers[0]);
+        type_table::put_vector(types, len, width);
+        return Typing::Typed {
+            place: len,
+            rows: 1,
+            len: len + 1,
         };
     }
     let one = type_rows(&kinds[1..], &numbers[1..], line, types, len);

@@ -6,7 +6,7 @@ use files::File;
 
 fn main() {
     // One byte more than each may have ([13.18], [13.3]), so that a longer text is seen to be too long.
-    let mut words = [0u8; 512];
+    let mut words = [0u8; 599];
     let mut loops = [0u8; 65537];
     let mut values = [0u8; 65537];
     let own = files::read(b"words.txt", &mut words);

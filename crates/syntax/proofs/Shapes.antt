@@ -7,8 +7,9 @@ use lib.IntN.{ℤ}
 use Rattle.arithmetic.specs.Arithmetic.{Operation}
 use Rattle.words.specs.Kinds.{word-redseq}
 use Rattle.words.specs.Groups.{oneOf, isMap}
+use Rattle.meaning.specs.Types.{Series}
 use Rattle.meaning.specs.Terms.{LoopKind, Term}
-use Rattle.meaning.specs.Rows.{operationWord}
+use Rattle.meaning.specs.Rows.{operationWord, splitWord, joinWord, indexWord}
 use Rattle.syntax.specs.Laws.Each.{_also_}
 use Rattle.syntax.specs.Laws.Heads.{each-operation, is-map}
 use Rattle.syntax.specs.Standing.{Shape, none, one, two, three, viewOf, countIn, termKind, operandCount, secondOpens}
@@ -28,11 +29,11 @@ as-leaf (Term.map kind a b) h = absurd (omega arith)
 as-leaf (Term.reduce z a b) h = absurd (omega arith)
 as-leaf (Term.zip a b) h = absurd (omega arith)
 as-leaf (Term.pair a b) h = absurd (omega arith)
-as-leaf (Term.split n e) h = absurd (omega arith)
-as-leaf (Term.join e) h = absurd (omega arith)
+as-leaf (Term.split series n e) h = absurd (omega arith)
+as-leaf (Term.join series e) h = absurd (omega arith)
 as-leaf (Term.first e) h = absurd (omega arith)
 as-leaf (Term.second e) h = absurd (omega arith)
-as-leaf (Term.index k e) h = absurd (omega arith)
+as-leaf (Term.index series k e) h = absurd (omega arith)
 
 pub data Reduction : Term → Type 0 where
   of : (z a b : Term) → Reduction (Term.reduce z a b)
@@ -47,11 +48,11 @@ as-reduction (Term.map kind a b) h = absurd (omega arith)
 as-reduction (Term.reduce z a b) h = Reduction.of z a b
 as-reduction (Term.zip a b) h = absurd (omega arith)
 as-reduction (Term.pair a b) h = absurd (omega arith)
-as-reduction (Term.split n e) h = absurd (omega arith)
-as-reduction (Term.join e) h = absurd (omega arith)
+as-reduction (Term.split series n e) h = absurd (omega arith)
+as-reduction (Term.join series e) h = absurd (omega arith)
 as-reduction (Term.first e) h = absurd (omega arith)
 as-reduction (Term.second e) h = absurd (omega arith)
-as-reduction (Term.index k e) h = absurd (omega arith)
+as-reduction (Term.index series k e) h = absurd (omega arith)
 
 -- a reduction's word tells it
 pub two-at-most : (e : Term) → (termKind e ≡ word-redseq → ⊥) → operandCount e ≤ 2
@@ -81,15 +82,21 @@ as-map (Term.map kind a b) h = Map.of kind a b
 as-map (Term.reduce z a b) h = absurd (omega arith)
 as-map (Term.zip a b) h = absurd (omega arith)
 as-map (Term.pair a b) h = absurd (omega arith)
-as-map (Term.split n e) h = absurd (omega arith)
-as-map (Term.join e) h = absurd (omega arith)
+as-map (Term.split series n e) h = absurd (omega arith)
+as-map (Term.join series e) h = absurd (omega arith)
 as-map (Term.first e) h = absurd (omega arith)
 as-map (Term.second e) h = absurd (omega arith)
-as-map (Term.index k e) h = absurd (omega arith)
+as-map (Term.index series k e) h = absurd (omega arith)
 
 no-map : (o : Operation) → isMap (operationWord o) ≡ false
 unfolding oneOf
 no-map o = each-operation (λ w. isMap w ≡ false) (refl also refl also refl also refl also refl also refl also tt) o
+
+-- nor is a regrouping or an element, of arrays or of vectors
+no-map-of : (series : Series) → (isMap (splitWord series) ≡ false) × (isMap (joinWord series) ≡ false) × (isMap (indexWord series) ≡ false)
+unfolding oneOf
+no-map-of Series.arrays = (refl, refl, refl)
+no-map-of Series.vectors = (refl, refl, refl)
 
 pub opens-map : (e : Term) → secondOpens e ≡ cond (isMap (termKind e)) 1 0
 unfolding oneOf
@@ -102,11 +109,11 @@ opens-map (Term.map kind a b) = ap (λ (b : Bool). cond b 1 0) (sym (is-map kind
 opens-map (Term.reduce z a b) = refl
 opens-map (Term.zip a b) = refl
 opens-map (Term.pair a b) = refl
-opens-map (Term.split n e) = refl
-opens-map (Term.join e) = refl
+opens-map (Term.split series n e) = ap (λ (b : Bool). cond b 1 0) (sym (no-map-of series .0))
+opens-map (Term.join series e) = ap (λ (b : Bool). cond b 1 0) (sym (no-map-of series .1))
 opens-map (Term.first e) = refl
 opens-map (Term.second e) = refl
-opens-map (Term.index k e) = refl
+opens-map (Term.index series k e) = ap (λ (b : Bool). cond b 1 0) (sym (no-map-of series .2))
 
 pub map-opens : (e : Term) → isMap (termKind e) ≡ true → secondOpens e ≡ 1
 map-opens e h = opens-map e ∙ ap (λ (b : Bool). cond b 1 0) h

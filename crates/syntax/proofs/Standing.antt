@@ -17,8 +17,9 @@ use Rattle.words.specs.Groups.{counted, isLeaf, hasOneOperand}
 use Rattle.words.specs.declared.Sort.the-variants as sort
 use Rattle.words.specs.declared.Operands.the-variants.{Count}
 use Rattle.words.specs.Laws.{rows-length}
+use Rattle.meaning.specs.Types.{Series}
 use Rattle.meaning.specs.Terms.{LoopKind, Term}
-use Rattle.meaning.specs.Rows.{operationWord, mapWord, termRows}
+use Rattle.meaning.specs.Rows.{operationWord, mapWord, splitWord, joinWord, indexWord, termRows}
 use Rattle.syntax.specs.Ranges.{asNatural}
 use Rattle.syntax.specs.InRange.{TermInRange}
 use Rattle.syntax.specs.Standing.{TermStands, Shape, none, one, two, three, viewOf, countIn, firstIn, secondIn, opensIn}
@@ -43,6 +44,22 @@ map-listed : (kind : LoopKind) → operandsOf (mapWord kind) sort.Term ≡ Count
 unfolding operandsOf table
 map-listed LoopKind.parallel = refl
 map-listed LoopKind.sequential = refl
+map-listed LoopKind.lanes = refl
+
+split-listed : (series : Series) → operandsOf (splitWord series) sort.Term ≡ Count 1
+unfolding operandsOf table
+split-listed Series.arrays = refl
+split-listed Series.vectors = refl
+
+join-listed : (series : Series) → operandsOf (joinWord series) sort.Term ≡ Count 1
+unfolding operandsOf table
+join-listed Series.arrays = refl
+join-listed Series.vectors = refl
+
+index-listed : (series : Series) → operandsOf (indexWord series) sort.Term ≡ Count 1
+unfolding operandsOf table
+index-listed Series.arrays = refl
+index-listed Series.vectors = refl
 
 pub operands-listed : (e : Term) → operandsOf (termKind e) sort.Term ≡ Count (operandCount e)
 unfolding operandsOf table
@@ -55,11 +72,11 @@ operands-listed (Term.map kind a b) = map-listed kind
 operands-listed (Term.reduce z a b) = refl
 operands-listed (Term.zip a b) = refl
 operands-listed (Term.pair a b) = refl
-operands-listed (Term.split n e) = refl
-operands-listed (Term.join e) = refl
+operands-listed (Term.split series n e) = split-listed series
+operands-listed (Term.join series e) = join-listed series
 operands-listed (Term.first e) = refl
 operands-listed (Term.second e) = refl
-operands-listed (Term.index k e) = refl
+operands-listed (Term.index series k e) = index-listed series
 
 -- what the tests of its word tell
 module _ (e : Term) where
@@ -113,11 +130,11 @@ operands-in-range K w (Term.map kind a b) r = (r .1, r .2)
 operands-in-range K w (Term.reduce z a b) r = (r .1, r .2, r .3)
 operands-in-range K w (Term.zip a b) r = (r .0, rw (add-zero w) (r .1))
 operands-in-range K w (Term.pair a b) r = (r .0, rw (add-zero w) (r .1))
-operands-in-range K w (Term.split n e) r = r .1
-operands-in-range K w (Term.join e) r = r
+operands-in-range K w (Term.split series n e) r = r .1
+operands-in-range K w (Term.join series e) r = r
 operands-in-range K w (Term.first e) r = r
 operands-in-range K w (Term.second e) r = r
-operands-in-range K w (Term.index k e) r = r .1
+operands-in-range K w (Term.index series k e) r = r .1
 
 module _ (K w : ℕ) (e : Term) where
   first-range : (s : Shape) → 1 ≤ countIn s → OperandsInRange K w s → TermInRange K w (firstIn e s)

@@ -27,11 +27,11 @@ term-head (Term.map kind a b) = refl
 term-head (Term.reduce z a b) = refl
 term-head (Term.zip a b) = refl
 term-head (Term.pair a b) = refl
-term-head (Term.split n e) = refl
-term-head (Term.join e) = refl
+term-head (Term.split series n e) = refl
+term-head (Term.join series e) = refl
 term-head (Term.first e) = refl
 term-head (Term.second e) = refl
-term-head (Term.index k e) = refl
+term-head (Term.index series k e) = refl
 
 -- those behind the first operand, and behind the second
 abbrev pub behindOneIn : Shape → List Row

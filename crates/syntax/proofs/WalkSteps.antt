@@ -23,9 +23,9 @@ use Rattle.words.specs.declared.Operands.the-variants.{Count}
 use Rattle.words.specs.declared.Sort.{Sort}
 use Rattle.syntax.specs.declared.operands.Due.{Due}
 use Rattle.syntax.specs.Ranges.{asNatural}
-use Rattle.syntax.specs.Names.{openedBy, Bounded}
+use Rattle.syntax.specs.Names.{Bounded}
 use Rattle.syntax.specs.Operands.{operandOf, operandsDue}
-use Rattle.syntax.specs.Laws.Ask.{asked, fit-bounded}
+use Rattle.syntax.specs.Laws.Ask.{asked, asked-bounded}
 use Rattle.syntax.specs.Walk.{askRow, walkFrom, resume}
 
 -- ---- no word has more than three operands: one test of the table
@@ -61,7 +61,7 @@ three-operands k s m e = few-as s (getD table k (entry "" []) .uses) m (few-at t
 
 pub operand-bounded : (d : Due) (k n line m : ℕ) (last : Bool) → Bounded (d .names) → askRow d k n line ≡ Told m → Bounded (operandOf d k n last .names)
 unfolding operandOf
-operand-bounded d k n line m true b e = fit-bounded (openedBy k n (d .names)) (asked d k n line m e .fit)
+operand-bounded d k n line m true b e = asked-bounded d k n m (asked d k n line m e)
 operand-bounded d k n line m false b e = b
 
 -- ---- rows of parts of slices

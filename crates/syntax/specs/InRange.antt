@@ -1,23 +1,35 @@
 -- Trees whose numbers are in range and whose names are in force: [10.5] and [10.6], put to a tree. Definitions only; assumes nothing.
+use mathlib.Core.Path.{_≡_}
+use mathlib.Core.Bool.{true}
 use mathlib.Core.List.{List, [], _∷_}
 use Prim.Native.Nat.{ℕ, _+_, _≤_, _<_}
 use lib.ListN.{length}
-use Rattle.meaning.specs.Types.{DataType, number, array}
+use Rattle.meaning.specs.Types.{DataType, Series, number, array, vector}
 use Rattle.meaning.specs.Terms.{Term, Plan}
 use Rattle.meaning.specs.Loops.{Offset, Place, Value, Command, Loops, plus, times, over, rest, seq, loop, new}
-use Rattle.meaning.specs.Limits.{IsCount}
+use Rattle.meaning.specs.Limits.{IsCount, IsWidth, RoundsInRange, lanesApart}
 
 -- ---- plans
 
--- [13.7] the lengths of a type's arrays
+-- [13.7] the lengths of a type's arrays, [13.19] and the widths of its vectors
 abbrev pub TypeInRange : DataType → Type 0
 TypeInRange number = Unit {0}
 TypeInRange (array n t) = IsCount n × TypeInRange t
 TypeInRange (DataType.pair s t) = TypeInRange s × TypeInRange t
+TypeInRange (vector w) = IsWidth w
 
 abbrev pub AllTypesInRange : List DataType → Type 0
 AllTypesInRange [] = Unit {0}
 AllTypesInRange (t ∷ ts) = TypeInRange t × AllTypesInRange ts
+
+-- [13.7] the length of a group, [13.19] or the width of a vector; [13.8] an element, [13.20] or a lane
+abbrev pub GroupInRange : Series → ℕ → Type 0
+GroupInRange Series.arrays n = IsCount n
+GroupInRange Series.vectors n = IsWidth n
+
+abbrev pub lastElement : Series → ℕ
+lastElement Series.arrays = 4095
+lastElement Series.vectors = 15
 
 -- K inputs and v variables are in force: [10.5] `in` and `var` name one of them, and [13.7] and [13.8] bound `split` and `idx`; [10.6]
 -- at most 16 variables [13.9].
@@ -31,11 +43,11 @@ TermInRange K v (Term.map kind a b) = (v + 1 ≤ 16) × TermInRange K v a × Ter
 TermInRange K v (Term.reduce z a b) = (v + 2 ≤ 16) × TermInRange K v z × TermInRange K v a × TermInRange K (v + 2) b
 TermInRange K v (Term.zip a b) = TermInRange K v a × TermInRange K v b
 TermInRange K v (Term.pair a b) = TermInRange K v a × TermInRange K v b
-TermInRange K v (Term.split n e) = IsCount n × TermInRange K v e
-TermInRange K v (Term.join e) = TermInRange K v e
+TermInRange K v (Term.split series n e) = GroupInRange series n × TermInRange K v e
+TermInRange K v (Term.join series e) = TermInRange K v e
 TermInRange K v (Term.first e) = TermInRange K v e
 TermInRange K v (Term.second e) = TermInRange K v e
-TermInRange K v (Term.index k e) = (k ≤ 4095) × TermInRange K v e
+TermInRange K v (Term.index series k e) = (k ≤ lastElement series) × TermInRange K v e
 
 pub record PlanInRange (P : Plan) : Type 0 where
   pub inputsFew : length (P .inputs) ≤ 8
@@ -70,7 +82,7 @@ ValueInRange K k r (Value.operation o v w) = ValueInRange K k r v × ValueInRang
 abbrev pub CommandInRange : ℕ → ℕ → ℕ → Command → Type 0
 CommandInRange K k r (Command.assignment p v) = PlaceInRange k r p × ValueInRange K k r v
 CommandInRange K k r (seq c d) = CommandInRange K k r c × CommandInRange K k r d
-CommandInRange K k r (loop kind n b) = IsCount n × (k + 1 ≤ 32) × CommandInRange K (k + 1) r b
+CommandInRange K k r (loop kind n b) = RoundsInRange kind n × (k + 1 ≤ 32) × CommandInRange K (k + 1) r b
 CommandInRange K k r (new n b) = IsCount n × (r + 1 ≤ 256) × CommandInRange K k (r + 1) b
 
 abbrev pub AllCounts : List ℕ → Type 0
@@ -82,3 +94,4 @@ pub record LoopsInRange (L : Loops) : Type 0 where
   pub inputCells : AllCounts (L .inputs)
   pub outputCells : IsCount (L .output)
   pub command : CommandInRange (length (L .inputs)) 0 0 (L .command)
+  pub apart : lanesApart (L .command) ≡ true

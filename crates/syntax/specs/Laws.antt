@@ -14,3 +14,4 @@ pub mod Read
 pub mod ReadPlans
 pub mod ReadLoops
 pub mod Listed
+pub mod LanesInside

@@ -10,13 +10,14 @@ use Rattle.arithmetic.specs.Arithmetic.{Operation}
 use Rattle.words.specs.Kinds.{Row, word-num, word-arr, word-two, word-in, word-var, word-lit, word-neg, word-add, word-sub, word-mul}
 use Rattle.words.specs.Kinds.{word-div, word-min, word-max, word-mappar, word-mapseq, word-redseq, word-zip, word-pair, word-split}
 use Rattle.words.specs.Kinds.{word-join, word-fst, word-snd, word-idx, word-set, word-seq, word-for, word-par, word-new, word-out, word-loc}
-use Rattle.words.specs.Kinds.{word-ctr, word-plus, word-times, word-over, word-rest}
+use Rattle.words.specs.Kinds.{word-ctr, word-plus, word-times, word-over, word-rest, word-vec, word-asvec, word-asscal, word-mapvec, word-at}
+use Rattle.words.specs.Kinds.{word-lanes}
 use Rattle.words.specs.Words.{operandsOf}
 use Rattle.words.specs.declared.Operands.{Operands}
 use Rattle.words.specs.declared.Operands.the-variants.{Count, NotOfSort}
 use Rattle.words.specs.declared.Sort.{Sort}
 use Rattle.words.specs.declared.Sort.the-variants as sort
-use Rattle.meaning.specs.Types.{DataType, number, array}
+use Rattle.meaning.specs.Types.{DataType, Series, number, array, vector}
 use Rattle.meaning.specs.Terms.{LoopKind, Term, Plan}
 use Rattle.meaning.specs.Loops.{Offset, Place, Value, Command, Loops, plus, times, over, rest, seq, loop, new}
 use Rattle.syntax.specs.Ranges.{asNatural}
@@ -63,6 +64,7 @@ planPart k z S = record {
       ((word-num, number)
       ∷ (word-arr, array (asNatural z) (typeBehind S 0))
       ∷ (word-two, DataType.pair (typeBehind S 0) (typeBehind S 1))
+      ∷ (word-vec, vector (asNatural z))
       ∷ []);
   term =
       choose k (Term.literal (pos 0))
@@ -81,11 +83,15 @@ planPart k z S = record {
       ∷ (word-redseq, Term.reduce (termBehind S 0) (termBehind S 1) (termBehind S 2))
       ∷ (word-zip, Term.zip (termBehind S 0) (termBehind S 1))
       ∷ (word-pair, Term.pair (termBehind S 0) (termBehind S 1))
-      ∷ (word-split, Term.split (asNatural z) (termBehind S 0))
-      ∷ (word-join, Term.join (termBehind S 0))
+      ∷ (word-split, Term.split Series.arrays (asNatural z) (termBehind S 0))
+      ∷ (word-join, Term.join Series.arrays (termBehind S 0))
       ∷ (word-fst, Term.first (termBehind S 0))
       ∷ (word-snd, Term.second (termBehind S 0))
-      ∷ (word-idx, Term.index (asNatural z) (termBehind S 0))
+      ∷ (word-idx, Term.index Series.arrays (asNatural z) (termBehind S 0))
+      ∷ (word-asvec, Term.split Series.vectors (asNatural z) (termBehind S 0))
+      ∷ (word-asscal, Term.join Series.vectors (termBehind S 0))
+      ∷ (word-mapvec, Term.map LoopKind.lanes (termBehind S 0) (termBehind S 1))
+      ∷ (word-at, Term.index Series.vectors (asNatural z) (termBehind S 0))
       ∷ []);
 }
 
@@ -162,6 +168,7 @@ loopsPart k z S = record {
       ∷ (word-for, loop LoopKind.sequential (asNatural z) (part S 0 .command))
       ∷ (word-par, loop LoopKind.parallel (asNatural z) (part S 0 .command))
       ∷ (word-new, new (asNatural z) (part S 0 .command))
+      ∷ (word-lanes, loop LoopKind.lanes (asNatural z) (part S 0 .command))
       ∷ []);
 }
 

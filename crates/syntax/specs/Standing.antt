@@ -5,9 +5,9 @@ use mathlib.Core.List.{List, _++_}
 use Prim.Native.Nat.{ℕ}
 use lib.IntN.{ℤ, pos}
 use lib.ListN.{length}
-use Rattle.words.specs.Kinds.{Row, rowsOf, word-in, word-var, word-lit, word-neg, word-redseq, word-zip, word-pair, word-split, word-join, word-fst, word-snd, word-idx}
+use Rattle.words.specs.Kinds.{Row, rowsOf, word-in, word-var, word-lit, word-neg, word-redseq, word-zip, word-pair, word-fst, word-snd}
 use Rattle.meaning.specs.Terms.{Term}
-use Rattle.meaning.specs.Rows.{operationWord, mapWord, termRows}
+use Rattle.meaning.specs.Rows.{operationWord, mapWord, splitWord, joinWord, indexWord, termRows}
 use Rattle.syntax.specs.Ranges.{asNatural}
 use Rattle.syntax.specs.InRange.{TermInRange}
 
@@ -52,11 +52,11 @@ viewOf (Term.map kind a b) = row (mapWord kind) (pos 0) (two a 1 b)
 viewOf (Term.reduce z a b) = row word-redseq (pos 0) (three z a 2 b)
 viewOf (Term.zip a b) = row word-zip (pos 0) (two a 0 b)
 viewOf (Term.pair a b) = row word-pair (pos 0) (two a 0 b)
-viewOf (Term.split n e) = row word-split (pos n) (one e)
-viewOf (Term.join e) = row word-join (pos 0) (one e)
+viewOf (Term.split series n e) = row (splitWord series) (pos n) (one e)
+viewOf (Term.join series e) = row (joinWord series) (pos 0) (one e)
 viewOf (Term.first e) = row word-fst (pos 0) (one e)
 viewOf (Term.second e) = row word-snd (pos 0) (one e)
-viewOf (Term.index k e) = row word-idx (pos k) (one e)
+viewOf (Term.index series k e) = row (indexWord series) (pos k) (one e)
 
 abbrev pub termKind : Term → ℕ
 termKind e = viewOf e .kind

@@ -1,22 +1,26 @@
--- What it means that a table walks well, that is, passes [10.4] to [10.6]. It rests on `walkTable` of Walk, on InRange, and on the rows
+-- What it means that a table walks well, that is, passes [10.4] to [10.6] and [18.15]. It rests on `walkTable` of Walk, on InRange, and on the rows
 -- of trees in `meaning`; the proofs stand in Laws. Assumes nothing.
 use mathlib.Core.Path.{_≡_, sym, ap, _∙_, subst}
+use mathlib.Core.Bool.{false}
 use mathlib.Core.List.{List, [], _∷_, append-nil}
-use mathlib.Core.Logic.{_↔_}
-use Prim.Native.Nat.{ℕ}
+use mathlib.Core.Logic.{_↔_, ⊎-elim}
+use Prim.Native.Nat.{ℕ, _≤_}
 use native.Mathlib.Nat.{zero-add}
+use native.Mathlib.Omega.{arith}
 use lib.ListN.{length}
-use Rattle.refusals.specs.declared.Answer.the-variants.{Told}
+use Rattle.refusals.specs.declared.Refusal.the-variants.{LanesInside}
+use Rattle.refusals.specs.declared.Answer.the-variants.{Told, Refused}
 use Rattle.words.specs.Kinds.{Row}
 use Rattle.words.specs.declared.Sort.{Sort}
 use Rattle.words.specs.declared.Sort.the-variants as sort
 use Rattle.meaning.specs.Terms.{Plan}
 use Rattle.meaning.specs.Loops.{Loops}
+use Rattle.meaning.specs.Limits.{IsCount, lanesApart}
 use Rattle.meaning.specs.Rows.{planRows, loopsRows}
 use Rattle.syntax.specs.Names.{noNames}
 use Rattle.syntax.specs.Operands.{due}
 use Rattle.syntax.specs.Walk.{walkFrom, walkTable}
-use Rattle.syntax.specs.InRange.{PlanInRange, LoopsInRange}
+use Rattle.syntax.specs.InRange.{PlanInRange, CommandInRange, AllCounts, LoopsInRange}
 use Rattle.syntax.specs.Reading.{planOf, loopsOf}
 use Rattle.syntax.specs.Laws.Pass.{Passes}
 use Rattle.syntax.specs.Laws.PassPlans.{pass-plan}
@@ -25,8 +29,9 @@ use Rattle.syntax.specs.Laws.Parse.{plan-parsed, loops-parsed}
 use Rattle.syntax.specs.Laws.ReadPlans.{plan-back}
 use Rattle.syntax.specs.Laws.ReadLoops.{loops-back}
 use Rattle.syntax.specs.Laws.Listed.{table-walk, walk-table, table-passed}
+use Rattle.syntax.specs.Laws.LanesInside.{lanes-asked}
 
--- [10.2], of the kinds, [10.4], [10.5] and [10.6] are answered "yes" on every row
+-- [10.2], of the kinds, [10.4], [10.5], [10.6] and [18.15] are answered "yes" on every row
 abbrev pub WalksWell : Sort → List Row → Type 0
 WalksWell s R = walkTable s R ≡ Told (length R)
 
@@ -83,3 +88,15 @@ loops-tree R e =
     let h = loops-walk R .0 e in
     let q : loopsOf R ≡ h .0 = ap loopsOf (h .2) ∙ loops-back (h .0) in
     subst (λ (L : Loops). LoopsInRange L × (R ≡ loopsRows L)) (sym q) (h .1, h .2)
+
+-- [18.15] Loops that are in range but for a `lanes` inside another are turned away, and by question 18.
+pub lanes-refused : (L : Loops) → length (L .inputs) ≤ 8 → AllCounts (L .inputs) → IsCount (L .output)
+    → CommandInRange (length (L .inputs)) 0 0 (L .command) → lanesApart (L .command) ≡ false
+    → (l : ℕ) × (walkTable sort.Loops (loopsRows L) ≡ Refused (LanesInside l))
+lanes-refused L few cells out command nested =
+    ⊎-elim
+    (λ e.
+    let t = loops-tree (loopsRows L) e .0 in
+    let h : LoopsInRange L = subst LoopsInRange (loops-back L) t in
+    absurd (let y : _≡_ {A = ℕ} 0 1 = let x = h .apart in cc in omega arith))
+    (λ r. r) (lanes-asked L few cells out command)

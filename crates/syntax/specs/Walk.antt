@@ -1,9 +1,9 @@
--- The walk that puts [10.4], [10.5] and [10.6] to one row after the other, from the top [10.18]. Definitions only; assumes nothing.
+-- The walk that puts [10.4], [10.5], [10.6] and [18.15] to one row after the other, from the top [10.18]. Definitions only; assumes nothing.
 use mathlib.Core.Bool.{Bool, cond}
 use mathlib.Core.List.{List, [], _∷_, _++_}
 use Prim.Native.Nat.{ℕ, suc, _+_}
 use lib.ListN.{drop}
-use Rattle.refusals.specs.declared.Refusal.the-variants.{LineForm, RowDue, NumberRange, NameCount}
+use Rattle.refusals.specs.declared.Refusal.the-variants.{LineForm, RowDue, NumberRange, NameCount, LanesInside}
 use Rattle.words.specs.Kinds.{Row}
 use Rattle.words.specs.Groups.{isListed}
 use Rattle.refusals.specs.declared.Answer.{Answer}
@@ -15,20 +15,23 @@ use Rattle.words.specs.declared.Operands.the-variants.{Count, NotOfSort}
 use Rattle.words.specs.declared.Sort.{Sort}
 use Rattle.syntax.specs.declared.operands.Due.{Due}
 use Rattle.syntax.specs.Ranges.{asNatural, inRange}
-use Rattle.syntax.specs.Names.{noNames, openedBy, namesFit}
+use Rattle.syntax.specs.Names.{noNames, openedBy, namesFit, lanesFit}
 use Rattle.syntax.specs.Operands.{inputsCounted, due, operandsDue}
 
 -- ---- one row
 
--- the answers to questions 4, 5 and 6, and how many inputs and operands follow
-abbrev pub firstNo : Operands → Bool → Bool → ℕ → ℕ → Answer
-firstNo NotOfSort ranged fit inputs line = Refused (RowDue line)
-firstNo (Count m) ranged fit inputs line = cond ranged (cond fit (Told (inputs + m)) (Refused (NameCount line))) (Refused (NumberRange line))
+-- the answers to questions 4, 5, 6 and 18, and how many inputs and operands follow
+abbrev pub firstNo : Operands → Bool → Bool → Bool → ℕ → ℕ → Answer
+firstNo NotOfSort ranged fit apart inputs line = Refused (RowDue line)
+firstNo (Count m) ranged fit apart inputs line =
+    cond ranged (cond fit (cond apart (Told (inputs + m)) (Refused (LanesInside line))) (Refused (NameCount line))) (Refused (NumberRange line))
 
--- [10.18] Is the row of the sort that is due [10.4], its number in range [10.5], and do the names in force and its own fit [10.6]? Of a
--- row of kind k and number n where d is due: how many operands follow, or the first "no".
+-- [10.18] Is the row of the sort that is due [10.4], its number in range [10.5], and do the names in force and its own fit [10.6]? And does
+-- no `lanes` stand in another [18.15]? Of a row of kind k and number n where d is due: how many operands follow, or the first "no".
 unfoldable pub askRow : Due → ℕ → ℕ → ℕ → Answer
-askRow d k n line = firstNo (operandsOf k (d .sort)) (inRange (d .sort) (d .names) k n) (namesFit (openedBy k n (d .names))) (inputsCounted (d .sort) n) line
+askRow d k n line =
+    firstNo (operandsOf k (d .sort)) (inRange (d .sort) (d .names) k n) (namesFit (openedBy k n (d .names))) (lanesFit (openedBy k n (d .names)))
+    (inputsCounted (d .sort) n) line
 
 -- ---- the walk
 

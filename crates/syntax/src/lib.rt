@@ -1,4 +1,4 @@
-// The walk over rows in prefix order [1.7] that puts questions 4, 5 and 6 to them, row by row from the top: [10.4] to [10.6]. One walk
+// The walk over rows in prefix order [1.7] that puts questions 4, 5, 6 and 18 to them, row by row from the top: [10.4] to [10.6], [18.15]. One walk
 // serves plans and loops: what a row is asked depends on what is due.
 mod names;
 mod operands;
@@ -23,7 +23,7 @@ use words::Sort;
 use words::Table;
 use words::groups::is_listed;
 
-// [10.18] Questions 4, 5 and 6, in this order, put to a row: how many operands it has, or the first "no".
+// [10.18] Questions 4, 5, 6 and 18, in this order, put to a row: how many operands it has, or the first "no".
 fn ask(built_in: &Table, due: Due, kind: u8, number: usize, line: usize) -> Answer
     requires { ⌜ (number ≤ 2147483648) × Bounded (due .names) × (now built_in ≡ packedTable) ⌝ }
     ensures { λ r. ⌜ r ≡ askRow due kind number line ⌝ }
@@ -37,8 +37,12 @@ fn ask(built_in: &Table, due: Due, kind: u8, number: usize, line: usize) -> Answ
     if !ranges::in_range(sort, names, kind, number) {
         return Answer::Refused(Refusal::NumberRange(line));
     }
-    if !names::names_fit(names::opened(names, kind, number)) {
+    let opened = names::opened(names, kind, number);
+    if !names::names_fit(opened) {
         return Answer::Refused(Refusal::NameCount(line));
+    }
+    if !names::lanes_fit(opened) {
+        return Answer::Refused(Refusal::LanesInside(line));
     }
     Answer::Told(operands::inputs_counted(sort, number) + count)
 }
@@ -122,7 +126,7 @@ fn walk_table(kinds: &[u8], numbers: &[i32], sort: Sort) -> Answer
     let Answer::Told(rows) = listed else {
         return listed;
     };
-    let names = names::in_force(0, 0, 0, 0);
+    let names = names::in_force(0, 0, 0, 0, 0);
     let walked = walk(
         &built_in,
         &kinds[..rows],

@@ -1,6 +1,7 @@
 // The names that rows open, and how many may be in force: [10.6].
 ghost use mathlib.Core.Path.{_≡_};
-ghost use Rattle.syntax.specs.Names.{names as namesOf, openedBy, namesFit, Bounded};
+ghost use Prim.Native.Nat.{_≤_};
+ghost use Rattle.syntax.specs.Names.{names as namesOf, lanesWith, openedBy, namesFit, lanesFit, Bounded};
 use words::groups::is_loop;
 use words::groups::is_map;
 use words::kinds::*;
@@ -11,17 +12,36 @@ pub struct Names {
     pub variables: usize,
     pub counters: usize,
     pub regions: usize,
+    pub lanes: usize,
 }
 
-pub fn in_force(inputs: usize, variables: usize, counters: usize, regions: usize) -> Names
-    ensures { λ r. ⌜ r ≡ namesOf inputs variables counters regions ⌝ }
+pub fn in_force(
+    inputs: usize,
+    variables: usize,
+    counters: usize,
+    regions: usize,
+    lanes: usize,
+) -> Names
+    ensures { λ r. ⌜ r ≡ namesOf inputs variables counters regions lanes ⌝ }
 {
     Names {
         inputs,
         variables,
         counters,
         regions,
+        lanes,
     }
+}
+
+// [18.15] The `lanes` around, and a row's own.
+fn lanes_with(kind: u8, lanes: usize) -> usize
+    requires { ⌜ lanes ≤ 1 ⌝ }
+    ensures { λ r. ⌜ r ≡ lanesWith kind lanes ⌝ }
+{
+    if kind == WORD_LANES {
+        return lanes + 1;
+    }
+    lanes
 }
 
 // The names in force and those that a row opens for its last operand.
@@ -33,16 +53,23 @@ pub fn opened(names: Names, kind: u8, number: usize) -> Names
     let variables = names.variables;
     let counters = names.counters;
     let regions = names.regions;
+    let lanes = names.lanes;
     if is_map(kind) {
-        return in_force(inputs, variables + 1, counters, regions);
+        return in_force(inputs, variables + 1, counters, regions, lanes);
     }
     if is_loop(kind) {
-        return in_force(inputs, variables, counters + 1, regions);
+        return in_force(
+            inputs,
+            variables,
+            counters + 1,
+            regions,
+            lanes_with(kind, lanes),
+        );
     }
     match kind {
-        WORD_PLAN | WORD_LOOPS => in_force(number, variables, counters, regions),
-        WORD_REDSEQ => in_force(inputs, variables + 2, counters, regions),
-        WORD_NEW => in_force(inputs, variables, counters, regions + 1),
+        WORD_PLAN | WORD_LOOPS => in_force(number, variables, counters, regions, lanes),
+        WORD_REDSEQ => in_force(inputs, variables + 2, counters, regions, lanes),
+        WORD_NEW => in_force(inputs, variables, counters, regions + 1, lanes),
         _ => names,
     }
 }
@@ -58,4 +85,11 @@ pub fn names_fit(names: Names) -> bool
         return false;
     }
     names.regions <= 256
+}
+
+// [18.15] At most one `lanes`?
+pub fn lanes_fit(names: Names) -> bool
+    ensures { λ r. ⌜ r ≡ lanesFit names ⌝ }
+{
+    names.lanes <= 1
 }

@@ -4,7 +4,7 @@ ghost use mathlib.Core.Bool.{_&&_};
 ghost use Prim.Native.Nat.{_≤_};
 ghost use lib.Dec.{leb};
 ghost use Rattle.words.specs.Groups.{oneOf};
-ghost use Rattle.syntax.specs.Ranges.{asNatural, sizes, isOffset, literalInRange, inRange};
+ghost use Rattle.syntax.specs.Ranges.{asNatural, sizes, wide, widths, isOffset, literalInRange, inRange};
 use crate::names::Names;
 use words::Sort;
 use words::kinds::*;
@@ -53,6 +53,34 @@ fn is_size(kind: u8) -> bool
     }
 }
 
+// [13.19] Whether it has a width.
+fn is_wide(kind: u8) -> bool
+    ensures { λ r. ⌜ r ≡ oneOf kind wide ⌝ }
+{
+    if kind == WORD_VEC {
+        return true;
+    }
+    if kind == WORD_ASVEC {
+        return true;
+    }
+    kind == WORD_LANES
+}
+
+fn is_width(number: usize) -> bool
+    ensures { λ r. ⌜ r ≡ oneOf number widths ⌝ }
+{
+    if number == 2 {
+        return true;
+    }
+    if number == 4 {
+        return true;
+    }
+    if number == 8 {
+        return true;
+    }
+    number == 16
+}
+
 fn between(least: usize, number: usize, most: usize) -> bool
     ensures { λ r. ⌜ r ≡ leb least number && leb number most ⌝ }
 {
@@ -79,9 +107,13 @@ pub fn in_range(sort: Sort, names: Names, kind: u8, number: usize) -> bool
     if is_size(kind) {
         return between(1, number, 4096);
     }
+    if is_wide(kind) {
+        return is_width(number);
+    }
     match kind {
         WORD_PLAN | WORD_LOOPS => number <= 8,
         WORD_IDX => number <= 4095,
+        WORD_AT => number <= 15,
         WORD_IN => number < names.inputs,
         WORD_VAR => number < names.variables,
         WORD_CTR => number < names.counters,

@@ -6,12 +6,14 @@ use Prim.Native.Nat.{ℕ, _+_, _≤_, _<_}
 use native.Mathlib.Decide.{decLt}
 use native.Mathlib.Nat.{zero-add}
 use native.Mathlib.Omega.{arith}
+use borrow.Author.Tests.{eq-eqb, ne-eqb}
 use lib.IntN.{ℤ}
 use lib.Dec.{ltb, eqb}
 use lib.ListN.{length, take, drop, set, length-set, length-map}
 use lib.Seq.{sets, sets-eq, take-at}
 use Rattle.refusals.specs.declared.Refusal.{Refusal}
-use Rattle.refusals.specs.declared.Refusal.the-variants.{LoopsLength}
+use Rattle.refusals.specs.declared.Refusal.the-variants.{LoopsLength, LanesInside}
+use Rattle.refusals.specs.Refusals.{refusalNumber}
 use Rattle.refusals.specs.declared.Answer.{Answer}
 use Rattle.refusals.specs.declared.Answer.the-variants.{Told, Refused}
 use Rattle.refusals.specs.Answers.{unlessRefused}
@@ -34,6 +36,7 @@ use Rattle.syntax.specs.Theorems.{all-passed, plan-tree}
 use Rattle.emission.specs.Table.{Table, table, putRow, putRows}
 use Rattle.emission.specs.Laws.Filled.{endOf, rows-fit, rows-too-many}
 use Rattle.loops.specs.Check.{checkTable}
+use Rattle.loops.specs.declared.Checked.the-variants as check
 use Rattle.typing.specs.Check.{Verdict, typed, refused, checkPlan}
 use Rattle.typing.specs.Entry.{answered, checkPlanRows}
 use Rattle.row_typing.specs.Typed.{PlanStands, PlanTyped, PlanAnswered}
@@ -43,7 +46,7 @@ use Rattle.row_typing.specs.declared.TypedPlan.{TypedPlan}
 use Rattle.type_rules.specs.declared.Typing.the-variants as typing
 use Rattle.translate.specs.Entry.{madeRows, makePlan}
 use Rattle.translate.specs.Making.{PlanNoted, byCheck}
-use Rattle.translate.specs.Laws.Answers.{plan-long, writes-asked}
+use Rattle.translate.specs.Laws.Answers.{plan-long, made-asked}
 use Rattle.translate.proofs.Cut.{cut-sound, cut-names, cut-noted}
 
 -- the same answer and the same rows
@@ -51,6 +54,18 @@ pub into-as : {v w : Answer} {R S : List Row} {ks ks′ : List ℕ} {ns ns′ : 
     → TableInto v R ks ns r ks′ ns′ → TableInto w S ks ns r ks′ ns′
 into-as {v} {w} {R} {S} {ks} {ks′} {ns} {ns′} {r} e f I =
     subst (λ (T : List Row). TableInto w T ks ns r ks′ ns′) f (subst (λ (x : Answer). TableInto x R ks ns r ks′ ns′) e I)
+
+-- ---- the check's refusal of made rows, whose number is k: [18.15] question 18 is told without a line, any other as it is
+
+module _ (n : ℕ) (q : Refusal) (k : ℕ) (is : k ≡ refusalNumber q) where
+  abbrev told : Bool → Answer
+  told b = Refused (cond b (LanesInside 0) q)
+
+  pub asked-inside : k ≡ 18 → Refused (LanesInside 0) ≡ byCheck n (check.Refused q)
+  asked-inside e = sym (ap told (eq-eqb (refusalNumber q) 18 (sym is ∙ e)))
+
+  pub asked-else : (k ≡ 18 → ⊥) → Refused q ≡ byCheck n (check.Refused q)
+  asked-else f = sym (ap told (ne-eqb (refusalNumber q) 18 (λ e. f (is ∙ e))))
 
 -- ---- rows that stand at the front
 
@@ -198,7 +213,7 @@ module _ (ks : List ℕ) (ns : List ℤ) (P : Plan) (S : PlanStands ks ns P) (si
           let l : length (take end k′) ≡ length R = ap length kinds-front ∙ length-map R (λ (x : Row). x .0) in
           let a : rowsOf (take end k′) (take end n′) ≡ R = ap₂ rowsOf kinds-front numbers-front ∙ rows-again R in
           into-as
-          (limits _ (ap₂ (λ (i : ℕ) (S : List Row). byCheck i (checkTable S)) l a ∙ writes-asked P t (plan-typed .0) (plan-typed .1) short)) a I
+          (limits _ (ap₂ (λ (i : ℕ) (S : List Row). byCheck i (checkTable S)) l a ∙ made-asked P t (plan-typed .0) (plan-typed .1) short)) a I
 
 -- ---- rows
 

@@ -1,12 +1,12 @@
--- The translation of a plan's text: [10.1] to [10.8] and [10.10] to [10.12], in this order ([10.16]). The table of words is an
--- argument. Definitions only; assumes nothing.
+-- The translation of a plan's text: [10.1] to [10.8], [10.10], [18.15], [10.11] and [10.12], in this order ([10.16]). The table of
+-- words is an argument. Definitions only; assumes nothing.
 use mathlib.Core.Bool.{cond}
 use mathlib.Core.Path.{_≡_}
 use mathlib.Core.List.{List}
 use Prim.Native.Nat.{ℕ}
 use lib.Dec.{leb}
 use lib.ListN.{length}
-use Rattle.refusals.specs.declared.Refusal.the-variants.{LoopsLength, WriteCount}
+use Rattle.refusals.specs.declared.Refusal.the-variants.{LoopsLength, WriteCount, LanesInside}
 use Rattle.refusals.specs.declared.Answer.{Answer}
 use Rattle.refusals.specs.declared.Answer.the-variants.{Told, Refused}
 use Rattle.refusals.specs.Answers.{unlessRefused, isTold}
@@ -18,6 +18,7 @@ use Rattle.lines.specs.Printing.{textOf, printing}
 use Rattle.meaning.specs.Terms.{Plan}
 use Rattle.meaning.specs.Rows.{loopsRows}
 use Rattle.meaning.specs.Counts.{planWrites}
+use Rattle.meaning.specs.Limits.{lanesApart}
 use Rattle.meaning.specs.Translation.{translation}
 use Rattle.syntax.specs.Reading.{planOf}
 use Rattle.typing.specs.Entry.{checkPlanText}
@@ -28,11 +29,14 @@ use Rattle.typing.specs.Entry.{checkPlanText}
 abbrev pub madeRows : Plan → List Row
 madeRows P = loopsRows (translation P)
 
--- [10.10] The rows made are at most 4,096 ([13.5]). [10.11] The writes, which are the plan's w ([7.3]), are at most 16,777,216 ([13.15]).
+-- [10.10] The rows made are at most 4,096 ([13.5]). [18.15] No `lanes` stands inside another; a "no" is told with line 0. [10.11] The writes,
+-- which are the plan's w ([7.3]), are at most 16,777,216 ([13.15]).
 unfoldable pub makePlan : Plan → Answer
 makePlan P =
     cond (leb (length (madeRows P)) 4096)
+    (cond (lanesApart (translation P .command))
     (cond (leb (planWrites P) 16777216) (Told (length (madeRows P))) (Refused WriteCount))
+    (Refused (LanesInside 0)))
     (Refused LoopsLength)
 
 -- ---- texts
@@ -45,7 +49,7 @@ planIn ws t = planOf (rowsIn (lookUp ws) (linesOf t))
 abbrev pub rowsMade : List (List ℕ) → List ℕ → List Row
 rowsMade ws t = madeRows (planIn ws t)
 
--- [10.1] to [10.8] by the check of `typing`; then [10.10] and [10.11].
+-- [10.1] to [10.8] by the check of `typing`; then [10.10], [18.15] and [10.11].
 unfoldable pub makeText : List (List ℕ) → List ℕ → Answer
 makeText ws t = unlessRefused (checkPlanText ws t) (makePlan (planIn ws t))
 

@@ -1,10 +1,14 @@
 -- What the contracts of the entries' parts say besides: a plan's rows with the types that were found.
 -- Definitions only; assumes nothing.
+use mathlib.Core.Bool.{cond}
 use mathlib.Core.Path.{_≡_}
 use mathlib.Core.List.{List, [], map}
 use Prim.Native.Nat.{ℕ, _+_, _≤_, _<_}
+use lib.Dec.{eqb}
 use lib.IntN.{ℤ}
 use lib.ListN.{length, getD, drop}
+use Rattle.refusals.specs.Refusals.{refusalNumber}
+use Rattle.refusals.specs.declared.Refusal.the-variants.{LanesInside}
 use Rattle.refusals.specs.declared.Answer.{Answer}
 use Rattle.refusals.specs.declared.Answer.the-variants.{Told, Refused}
 use Rattle.meaning.specs.Types.{number, cells}
@@ -40,7 +44,7 @@ pub record SomePlanNoted (ks : List ℕ) (ns : List ℤ) (C Y I : List ℕ) (row
   pub plan : Plan
   pub noted : PlanNoted ks ns C Y I row place plan
 
--- so many rows, if the check of loops lets them pass
+-- So many rows, if the check of loops lets them pass; [18.15] question 18 names no line of loops that are made.
 abbrev pub byCheck : ℕ → Checked → Answer
 byCheck n (Passes writes need) = Told n
-byCheck n (check.Refused q) = Refused q
+byCheck n (check.Refused q) = Refused (cond (eqb (refusalNumber q) 18) (LanesInside 0) q)

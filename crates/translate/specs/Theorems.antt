@@ -80,12 +80,12 @@ text-put ws good t text text′ n I = go (makeText ws t) refl (I .answer)
           rows = ap (λ (u : List ℕ). rowsIn (lookUp ws) (linesOf u)) front ∙ own-text-back ws good Q (p .type) (p .well-typed) (p .within) (p .numbers);
           passes =
               ap (loops.checkLoopsText ws) front
-              ∙ own-text-passes ws good Q (p .type) (p .well-typed) (p .within) (p .numbers) (omega (arith, c .0, c .1)) (c .2);
+              ∙ own-text-passes ws good Q (p .type) (p .well-typed) (p .within) (p .numbers) (omega (arith, c .0, c .1)) (c .3) (c .2);
           few = omega (arith, l, short, c .0, c .1);
           behind = ap (drop n) (I .text-left) ∙ drop-at S _ n l ∙ ap (λ (i : ℕ). drop i text) l;
         }
 
--- 65,536 bytes are room for the text of all loops that are made: where so many are lent, only questions 1 to 8, 10 and 11 refuse.
+-- 65,536 bytes are room for the text of all loops that are made: where so many are lent, only questions 1 to 8, 10, 11 and [18.15] refuse.
 pub room-for-all : (ws : List (List ℕ)) (good : Good ws) (t : List ℕ) (bytes : ℕ) (q : Refusal) → 65536 ≤ bytes
     → unlessRefused (makeText ws t) (printing (textOf ws (madeRows (planIn ws t))) bytes) ≡ Refused q → makeText ws t ≡ Refused q
 unfolding printing

@@ -1,5 +1,5 @@
-// The translation of a plan's text: [10.1] to [10.8] and [10.10] to [10.12], before them [16.4] and [16.5] where a words text is given, and
-// the loops as rows or as a text. Nothing lent is touched before the last "no" has been ruled out ([10.17]).
+// The translation of a plan's text: [10.1] to [10.8], [10.10], [18.15], [10.11] and [10.12], before them [16.4] and [16.5] where a words text is
+// given, and the loops as rows or as a text. Nothing lent is touched before the last "no" has been ruled out ([10.17]).
 ghost use Rattle.words.specs.Tables.{wordsIn};
 ghost use Rattle.words.specs.Words.{words};
 ghost use Rattle.translate.specs.Contracts.{TranslatesRows, TranslatesText, TranslatesRowsIn, TranslatesTextIn};

@@ -1,4 +1,4 @@
-// The loops of a plan's rows ([6.1]): [10.4] to [10.8] and [10.10] to [10.12].
+// The loops of a plan's rows ([6.1]): [10.4] to [10.8], [10.10], [18.15], [10.11] and [10.12].
 ghost use mathlib.Core.Path.{_≡_};
 ghost use Prim.Native.Nat.{ℕ, _≤_, _<_};
 ghost use lib.IntN.{pos};
@@ -120,31 +120,35 @@ fn put_loops(
     written.to
 }
 
-// [10.11], put to made rows: their writes are counted by the check of loops ([7.3]).
-fn ask_writes(kinds: &[u8], numbers: &[i32]) -> Answer
+// [18.15] and [10.11], put to made rows by the check of loops, which counts their writes ([7.3]). No other of its questions turns them away, and
+// question 18 names no line of them.
+fn ask_made(kinds: &[u8], numbers: &[i32]) -> Answer
     ensures { λ r. ⌜ r ≡ byCheck (length (now (kinds .entry))) (checkTable (rowsOf (now (kinds .entry)) (now (numbers .entry)))) ⌝ }
 {
     let checked = loops::check_table(kinds, numbers);
-    match checked {
-        Checked::Refused(refusal) => Answer::Refused(refusal),
-        Checked::Passes { writes: _, need: _ } => Answer::Told(kinds.len()),
+    let Checked::Refused(refusal) = checked else {
+        return Answer::Told(kinds.len());
+    };
+    if refusals::number(refusal) == 18 {
+        return Answer::Refused(Refusal::LanesInside(0));
     }
+    Answer::Refused(refusal)
 }
 
-// [10.11] and [10.12] of made rows; then they are put at the front of the lent table.
+// [18.15], [10.11] and [10.12] of made rows; then they are put at the front of the lent table.
 fn hand_over(kinds: &[u8], numbers: &[i32], lentkinds: &mut [u8], lentnumbers: &mut [i32]) -> Answer
     requires { ⌜ length (now kinds) ≡ length (now numbers) ⌝ }
     ensures { λ r. ⌜ TableInto (byCheck (length (now (kinds .entry))) (checkTable (rowsOf (now (kinds .entry)) (now (numbers .entry))))) (rowsOf (now (kinds .entry)) (now (numbers .entry)))
         (now (lentkinds .entry)) (now (lentnumbers .entry)) r (now (lentkinds .exit)) (now (lentnumbers .exit)) ⌝ }
 {
-    let asked = ask_writes(kinds, numbers);
+    let asked = ask_made(kinds, numbers);
     let Answer::Told(_) = asked else {
         return asked;
     };
     lines::hand_over(kinds, numbers, lentkinds, lentnumbers)
 }
 
-// Questions 7, 8 and 10 to 12 of rows that walk well.
+// Questions 7, 8, 10, 18, 11 and 12 of rows that walk well.
 fn make_plan(kinds: &[u8], numbers: &[i32], lentkinds: &mut [u8], lentnumbers: &mut [i32]) -> Answer
     requires { ⌜ (length (now kinds) ≡ length (now numbers)) × (length (now kinds) ≤ 256) × ((P : Plan) × PlanStands (now kinds) (now numbers) P) ⌝ }
     ensures { λ r. ⌜ ((P : Plan) → PlanStands (now (kinds .entry)) (now (numbers .entry)) P
@@ -189,7 +193,7 @@ fn make_plan(kinds: &[u8], numbers: &[i32], lentkinds: &mut [u8], lentnumbers: &
     }
 }
 
-// Questions 4 to 8 and 10 to 12 of a plan's rows.
+// Questions 4 to 8, 10, 18, 11 and 12 of a plan's rows.
 pub fn make_rows(
     kinds: &[u8],
     numbers: &[i32],

@@ -5,7 +5,7 @@ use libc::STDIN_FILENO;
 
 fn main() {
     // One byte more than a words text may have ([13.18]), so that a longer one is seen to be too long.
-    let mut words = [0u8; 512];
+    let mut words = [0u8; 599];
     let own = files::read(b"words.txt", &mut words);
     // One byte more than a plan may have ([13.2]), so that a longer text is seen to be too long ([11.1]).
     let mut plan = [0u8; 4097];

@@ -9,8 +9,9 @@ use borrow.Author.Tests.{le-leb, lt-leb, leb-false}
 use lib.Dec.{leb}
 use Rattle.refusals.specs.declared.Refusal.{Refusal}
 use Rattle.refusals.specs.declared.Refusal.the-variants.{TypeSize}
-use Rattle.meaning.specs.Types.{DataType, number, array, cells, levels}
+use Rattle.meaning.specs.Types.{DataType, number, array, vector, cells, levels}
 use Rattle.meaning.specs.Limits.{CellsWithin, TypeWithin}
+use Rattle.meaning.specs.Laws.Bounds.{width-is-count}
 use Rattle.type_table.specs.Table.{typeAt, Sound, Put}
 use Rattle.type_table.specs.Laws.{sound-below, length-within}
 use Rattle.typing.specs.Check.{Verdict, typed, refused, sized}
@@ -24,6 +25,7 @@ cells-few : (t : DataType) → CellsWithin t → cells t ≤ 4096
 cells-few number h = omega arith
 cells-few (array n t) h = h .1
 cells-few (DataType.pair s t) h = h .0
+cells-few (vector w) h = width-is-count w h .1
 
 pub small : {c : ℕ} (t : DataType) → c ≡ cells t → CellsWithin t → c ≤ 4096
 small {c} t e h = omega (arith, cells-few t h)
@@ -125,6 +127,10 @@ pub array-bounds : (n : ℕ) (s t : DataType) → t ≡ array n s → TypeWithin
 array-bounds n s t e w =
     let W = subst TypeWithin e w in
     (W .0 .0, omega (arith, W .0 .1, length-within n s (W .0 .2)))
+
+-- [13.19] and a vector a width that is a count
+pub vector-bounds : (w : ℕ) (t : DataType) → t ≡ vector w → TypeWithin t → (1 ≤ w) × (w ≤ 4096)
+vector-bounds w t e h = width-is-count w (subst TypeWithin e h .0)
 
 pub product-bounds : (m n : ℕ) → (1 ≤ m) × (m ≤ 4096) → (1 ≤ n) × (n ≤ 4096) → (1 ≤ m * n) × (m * n ≤ 16777216)
 product-bounds m n h k =

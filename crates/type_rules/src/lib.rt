@@ -3,6 +3,7 @@ use refusals::Refusal;
 
 pub mod rules;
 pub mod scope;
+mod vectors;
 
 // The place of the type that was found, the rows that were passed and the types that the table has; or the first "no".
 pub enum Typing {

@@ -1,14 +1,16 @@
 // [10.7] and [10.8] on a row whose operands have types: `rows` is how many rows the term takes, `line` its first row's line.
 ghost use mathlib.Core.Path.{_≡_};
 ghost use Prim.Native.Nat.{_+_, _≤_, _<_};
-ghost use Rattle.words.specs.Kinds.{word-split};
-ghost use Rattle.meaning.specs.Types.{DataType, array as arrayType};
+ghost use Rattle.words.specs.Kinds.{word-split, word-asvec};
+ghost use Rattle.meaning.specs.Types.{DataType, Series, number as numberType, array as arrayType};
+ghost use Rattle.meaning.specs.Limits.{IsWidth};
 ghost use Rattle.refusals.specs.declared.Refusal.the-variants.{TypeMisfit};
 ghost use Rattle.type_table.specs.Table.{typeAt};
 ghost use Rattle.typing.specs.Check.{sized};
 ghost use Rattle.type_rules.specs.Rules.{Room, Found, negateRule, splitRule, joinRule, firstRule, secondRule, indexRule, unaryRule, zipRule, mapRule, operationRule, binaryRule, reduceRule};
 ghost use Rattle.type_rules.specs.declared.Typing.the-variants.{Typed, Refused};
 use crate::Typing;
+use crate::vectors;
 use refusals::Refusal;
 use type_table::ArrayShape;
 use type_table::PairShape;
@@ -81,7 +83,7 @@ pub fn sized_pair(
 // [5.8] `split,n`: an array whose length n divides.
 fn split(types: &mut [u64], len: usize, n: usize, place: usize, rows: usize, line: usize) -> Typing
     requires { ⌜ Room (now types) len 2 × (place < len) × (1 ≤ n) × (n ≤ 4096) ⌝ }
-    ensures { λ r. ⌜ Found (now (types .entry)) len (now (types .exit)) (len + 2) rows (splitRule n line (typeAt (now (types .entry)) place)) r ⌝ }
+    ensures { λ r. ⌜ Found (now (types .entry)) len (now (types .exit)) (len + 2) rows (splitRule Series.arrays n line (typeAt (now (types .entry)) place)) r ⌝ }
 {
     let shape = type_table::as_array(types, place);
     let ArrayShape::Array { length, element } = shape else {
@@ -105,7 +107,7 @@ fn split(types: &mut [u64], len: usize, n: usize, place: usize, rows: usize, lin
 // [5.9] `join`: an array of arrays.
 fn join(types: &mut [u64], len: usize, place: usize, rows: usize, line: usize) -> Typing
     requires { ⌜ Room (now types) len 1 × (place < len) ⌝ }
-    ensures { λ r. ⌜ Found (now (types .entry)) len (now (types .exit)) (len + 1) rows (joinRule line (typeAt (now (types .entry)) place)) r ⌝ }
+    ensures { λ r. ⌜ Found (now (types .entry)) len (now (types .exit)) (len + 1) rows (joinRule Series.arrays line (typeAt (now (types .entry)) place)) r ⌝ }
 {
     let outer = type_table::as_array(types, place);
     let ArrayShape::Array {
@@ -161,7 +163,7 @@ fn second(types: &[u64], len: usize, place: usize, rows: usize, line: usize) -> 
 // [5.10] `idx,k`: an array of more than k elements.
 fn index(types: &[u64], len: usize, k: usize, place: usize, rows: usize, line: usize) -> Typing
     requires { ⌜ Room (now types) len 0 × (place < len) ⌝ }
-    ensures { λ r. ⌜ Found (now (types .entry)) len (now (types .entry)) len rows (indexRule k line (typeAt (now (types .entry)) place)) r ⌝ }
+    ensures { λ r. ⌜ Found (now (types .entry)) len (now (types .entry)) len rows (indexRule Series.arrays k line (typeAt (now (types .entry)) place)) r ⌝ }
 {
     let shape = type_table::as_array(types, place);
     let ArrayShape::Array { length, element } = shape else {
@@ -198,7 +200,8 @@ pub fn unary(
     rows: usize,
     line: usize,
 ) -> Typing
-    requires { ⌜ Room (now types) len 2 × (place < len) × (kind ≡ word-split → (1 ≤ number) × (number ≤ 4096)) ⌝ }
+    requires { ⌜ Room (now types) len 2 × (place < len) × (kind ≡ word-split → (1 ≤ number) × (number ≤ 4096))
+        × (kind ≡ word-asvec → IsWidth number) × (typeAt (now types) 0 ≡ numberType) ⌝ }
     ensures { λ r. ⌜ Found (now (types .entry)) len (now (types .exit)) (len + 2) rows (unaryRule kind number line (typeAt (now (types .entry)) place)) r ⌝ }
 {
     match kind {
@@ -207,6 +210,9 @@ pub fn unary(
         WORD_JOIN => join(types, len, place, rows, line),
         WORD_FST => first(types, len, place, rows, line),
         WORD_SND => second(types, len, place, rows, line),
+        WORD_ASVEC => vectors::asvec(types, len, number, place, rows, line),
+        WORD_ASSCAL => vectors::asscal(types, len, place, rows, line),
+        WORD_AT => vectors::lane(types, len, number, place, rows, line),
         _ => index(types, len, number, place, rows, line),
     }
 }
@@ -248,7 +254,7 @@ fn zip(types: &mut [u64], len: usize, left: usize, right: usize, rows: usize, li
 fn map(types: &mut [u64], len: usize, array: usize, body: usize, rows: usize, line: usize) -> Typing
     requires { ⌜ Room (now types) len 1 × (array < len) × (body < len) ⌝ }
     ensures { λ r. ⌜ Found (now (types .entry)) len (now (types .exit)) (len + 1) rows
-        (mapRule line (typeAt (now (types .entry)) array) (typeAt (now (types .entry)) body)) r ⌝ }
+        (mapRule Series.arrays line (typeAt (now (types .entry)) array) (typeAt (now (types .entry)) body)) r ⌝ }
 {
     let shape = type_table::as_array(types, array);
     let ArrayShape::Array { length, element: _ } = shape else {
@@ -298,6 +304,9 @@ pub fn binary(
         (binaryRule kind line (typeAt (now (types .entry)) left) (typeAt (now (types .entry)) right)) r ⌝ }
 {
     if is_map(kind) {
+        if kind == WORD_MAPVEC {
+            return vectors::mapvec(types, len, left, right, rows, line);
+        }
         return map(types, len, left, right, rows, line);
     }
     match kind {

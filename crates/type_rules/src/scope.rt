@@ -4,14 +4,16 @@ ghost use mathlib.Core.Bool.{true};
 ghost use mathlib.Core.List.{List, _∷_};
 ghost use Prim.Native.Nat.{ℕ, suc, _+_, _<_};
 ghost use lib.ListN.{length};
-ghost use Rattle.meaning.specs.Types.{DataType, element};
+ghost use Rattle.meaning.specs.Types.{DataType, Series, number, element};
 ghost use Rattle.type_table.specs.Table.{typeAt, Sound};
-ghost use Rattle.typing.specs.Check.{isArray};
+ghost use Rattle.typing.specs.Check.{isArray, isSeries};
 ghost use Rattle.words.specs.Groups.{isMap};
 ghost use Rattle.type_rules.specs.Rules.{opensSecond, secondScope};
 ghost use Rattle.type_rules.specs.Scopes.{InForce};
 use type_table::ArrayShape;
+use type_table::VectorShape;
 use words::groups::is_map;
+use words::kinds::*;
 
 // Places of types: of each input, and of each variable, the innermost last.
 pub struct Scope {
@@ -37,21 +39,41 @@ pub fn with_variable(scope: Scope, place: usize) -> Scope
     }
 }
 
-// [5.11] The names in force in an operand, and whether there is such an operand: a body stands over an array.
+// [5.11] The names in force in an operand, and whether there is such an operand: a body stands over an array, [18.6] or over a vector.
 pub struct Opened {
     pub fits: bool,
     pub scope: Scope,
 }
 
+// [18.3] The names in force in the body of a `mapvec`, over the type at a place: it has a lane, which is a number.
+fn lane(scope: Scope, types: &[u64], place: usize) -> Opened
+    requires { ⌜ Sound (now types) (suc place) × (typeAt (now types) 0 ≡ number) × (scope .count < 16) ⌝ }
+    ensures { λ r. ⌜ (r .fits ≡ isSeries Series.vectors (typeAt (now (types .entry)) place))
+        × ((m : ℕ) (I Γ : List DataType) → r .fits ≡ true → place < m → InForce (now (types .entry)) m scope I Γ
+        → InForce (now (types .entry)) m (r .scope) I (element (typeAt (now (types .entry)) place) ∷ Γ)) ⌝ }
+{
+    let shape = type_table::as_vector(types, place);
+    let VectorShape::Vector { width: _ } = shape else {
+        return Opened { fits: false, scope };
+    };
+    Opened {
+        fits: true,
+        scope: with_variable(scope, type_table::NUMBER_TYPE),
+    }
+}
+
 // [5.4] The names in force in a row's second operand, the first having the type at a place: a map's body has the element.
 pub fn second(kind: u8, scope: Scope, types: &[u64], place: usize) -> Opened
-    requires { ⌜ Sound (now types) (suc place) × (isMap kind ≡ true → scope .count < 16) ⌝ }
+    requires { ⌜ Sound (now types) (suc place) × (isMap kind ≡ true → scope .count < 16) × (typeAt (now types) 0 ≡ number) ⌝ }
     ensures { λ r. ⌜ (r .fits ≡ opensSecond kind (typeAt (now (types .entry)) place))
         × ((m : ℕ) (I Γ : List DataType) → r .fits ≡ true → place < m → InForce (now (types .entry)) m scope I Γ
         → InForce (now (types .entry)) m (r .scope) I (secondScope kind (typeAt (now (types .entry)) place) Γ)) ⌝ }
 {
     if !is_map(kind) {
         return Opened { fits: true, scope };
+    }
+    if kind == WORD_MAPVEC {
+        return lane(scope, types, place);
     }
     let shape = type_table::as_array(types, place);
     let ArrayShape::Array { length: _, element } = shape else {

@@ -4,7 +4,9 @@ use mathlib.Core.List.{List}
 use Prim.Native.Nat.{ℕ, _+_, _*_, _≤_, _<_, max}
 use native.Mathlib.Omega.{arith}
 use lib.ListN.{length, set}
-use Rattle.meaning.specs.Types.{DataType, number, array, cells, levels}
+use Rattle.meaning.specs.Types.{DataType, number, array, vector, cells, levels}
+use Rattle.meaning.specs.Limits.{IsCount, IsWidth}
+use Rattle.meaning.specs.Laws.Bounds.{width-is-count}
 use Rattle.type_table.specs.Nodes.{nodeOf}
 use Rattle.type_table.specs.Table.{byKind, nodeType, typesOf, typeAt, Sound, Put}
 use Rattle.type_table.specs.Laws.{kind-node, levels-node, cells-node, left-node, right-node, length-within, node-put}
@@ -20,7 +22,7 @@ number-put T h =
     node-put T 0 (nodeOf 0 1 1 0 0)
     record { room = omega arith; few = omega arith; each = λ i p. absurd (omega arith) }
     h number (omega arith)
-    ((λ e. absurd (omega arith)), (λ e. absurd (omega arith)))
+    ((λ e. absurd (omega arith)), (λ e. absurd (omega arith)), (λ e. absurd (omega arith)))
     refl refl refl (tt, omega arith)
 
 module _ (T : List ℕ) (n : ℕ) (S : Sound T n) (h : n < length T) (few : n < 65536) where
@@ -36,7 +38,7 @@ module _ (T : List ℕ) (n : ℕ) (S : Sound T n) (h : n < length T) (few : n < 
       let he : e < 65536 = omega arith in
       let k = kind-node 1 l c m e hl hc hm he in
       node-put T n (nodeOf 1 l c m e) S h (array m (typeAt T e)) few
-      ((λ _. rw (right-node 1 l c m e hl hc hm he) p), (λ f. absurd (omega (arith, k))))
+      ((λ _. rw (right-node 1 l c m e hl hc hm he) p), (λ f. absurd (omega (arith, k))), (λ f. absurd (omega (arith, k))))
       (node-type T 1 l c m e hl hc hm he)
       (cells-node 1 l c m e hl hc hm he ∙ ec)
       (levels-node 1 l c m e hl hc hm he ∙ omega arith)
@@ -53,8 +55,20 @@ module _ (T : List ℕ) (n : ℕ) (S : Sound T n) (h : n < length T) (few : n < 
       let hb : b < 65536 = omega arith in
       let k = kind-node 2 l c a b hl hc ha hb in
       node-put T n (nodeOf 2 l c a b) S h (DataType.pair (typeAt T a) (typeAt T b)) few
-      ((λ f. absurd (omega (arith, k))), (λ _. (rw (left-node 2 l c a b hl hc ha hb) p, rw (right-node 2 l c a b hl hc ha hb) q)))
+      ((λ f. absurd (omega (arith, k))), (λ _. (rw (left-node 2 l c a b hl hc ha hb) p, rw (right-node 2 l c a b hl hc ha hb) q)), (λ f. absurd (omega (arith, k))))
       (node-type T 2 l c a b hl hc ha hb)
       (cells-node 2 l c a b hl hc ha hb ∙ ec)
       (levels-node 2 l c a b hl hc ha hb ∙ omega arith)
       ((r, S .each a p .within .0, S .each b q .within .0), omega arith)
+
+  pub vector-put : (w : ℕ) → 0 < n → IsWidth w → Put T (set T n (nodeOf 3 2 w w 0)) n (vector w)
+  vector-put w some h′ =
+      let count : IsCount w = width-is-count w h′ in
+      let hw : w < 65536 = omega (arith, count .1) in
+      let k = kind-node 3 2 w w 0 (omega arith) hw hw (omega arith) in
+      node-put T n (nodeOf 3 2 w w 0) S h (vector w) few
+      ((λ f. absurd (omega (arith, k))), (λ f. absurd (omega (arith, k))), (λ f. some))
+      (node-type T 3 2 w w 0 (omega arith) hw hw (omega arith))
+      (cells-node 3 2 w w 0 (omega arith) hw hw (omega arith))
+      (levels-node 3 2 w w 0 (omega arith) hw hw (omega arith))
+      (h′, omega arith)

@@ -3,7 +3,9 @@ use mathlib.Core.Path.{_≡_, refl, ap, ap₂, sym, _∙_}
 use mathlib.Core.Bool.{Bool, true, false, true≢false}
 use Prim.Native.Nat.{ℕ}
 use native.Mathlib.Omega.{arith}
-use Rattle.meaning.specs.Types.{DataType, number, array, isNumber, arrayLength, element, firstType, secondType}
+use borrow.Author.Tests.{eqb-true, eqb-false}
+use lib.Dec.{eqb}
+use Rattle.meaning.specs.Types.{DataType, number, array, vector, isNumber, arrayLength, element, firstType, secondType}
 use Rattle.meaning.specs.Laws.Typing.{number-told}
 
 -- a flag that answers whether Q
@@ -16,12 +18,13 @@ answer-no f = ((λ e. absurd (let z : _≡_ {A = ℕ} 0 1 = cc in omega arith)),
 pub answer-as : {P Q : Type 0} (r : Bool) → (P → Q) → (Q → P) → Answers r P → Answers r Q
 answer-as r f g h = ((λ e. f (h .0 e)), (λ e q. h .1 e (g q)))
 
--- neither array nor pair
+-- neither array nor pair nor vector
 pub neither : (t : DataType) → ((n : ℕ) (s : DataType) → t ≡ array n s → ⊥)
-    → ((r s : DataType) → t ≡ DataType.pair r s → ⊥) → t ≡ number
-neither number f g = refl
-neither (array n s) f g = absurd (f n s refl)
-neither (DataType.pair r s) f g = absurd (g r s refl)
+    → ((r s : DataType) → t ≡ DataType.pair r s → ⊥) → ((w : ℕ) → t ≡ vector w → ⊥) → t ≡ number
+neither number f g h = refl
+neither (array n s) f g h = absurd (f n s refl)
+neither (DataType.pair r s) f g h = absurd (g r s refl)
+neither (vector w) f g h = absurd (h w refl)
 
 module _ {t u : DataType} where
   pub arrays-differ : {m n : ℕ} {r s : DataType} → t ≡ array m r → u ≡ array n s → (m ≡ n → ⊥) → t ≡ u → ⊥
@@ -37,6 +40,10 @@ module _ {t u : DataType} where
   pub pairs-same : {r s v w : DataType} (b : Bool) → t ≡ DataType.pair r s → u ≡ DataType.pair v w → r ≡ v
       → Answers b (s ≡ w) → Answers b (t ≡ u)
   pairs-same b p q h = answer-as b (λ k. p ∙ ap₂ DataType.pair h k ∙ sym q) (λ e. ap secondType (sym p ∙ e ∙ q))
+
+  pub vectors-same : {m n : ℕ} → t ≡ vector m → u ≡ vector n → Answers (eqb m n) (t ≡ u)
+  vectors-same {m} {n} p q =
+      ((λ e. p ∙ ap vector (eqb-true m n e) ∙ sym q), (λ e k. eqb-false m n e (ap arrayLength (sym p ∙ k ∙ q))))
 
   pub numbers-same : (b : Bool) → t ≡ number → b ≡ isNumber u → Answers b (t ≡ u)
   numbers-same b p h =

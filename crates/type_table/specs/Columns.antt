@@ -41,8 +41,8 @@ Noted T m I Γ (Term.zip a b) C =
 Noted T m I Γ (Term.pair a b) C =
     Names T m (getD C 0 0) (typeOf I Γ (Term.pair a b)) × Noted T m I Γ a (drop 1 C)
     × Noted T m I Γ b (behindTerm a (drop 1 C))
-Noted T m I Γ (Term.split n e) C = Names T m (getD C 0 0) (typeOf I Γ (Term.split n e)) × Noted T m I Γ e (drop 1 C)
-Noted T m I Γ (Term.join e) C = Names T m (getD C 0 0) (typeOf I Γ (Term.join e)) × Noted T m I Γ e (drop 1 C)
+Noted T m I Γ (Term.split series n e) C = Names T m (getD C 0 0) (typeOf I Γ (Term.split series n e)) × Noted T m I Γ e (drop 1 C)
+Noted T m I Γ (Term.join series e) C = Names T m (getD C 0 0) (typeOf I Γ (Term.join series e)) × Noted T m I Γ e (drop 1 C)
 Noted T m I Γ (Term.first e) C = Names T m (getD C 0 0) (typeOf I Γ (Term.first e)) × Noted T m I Γ e (drop 1 C)
 Noted T m I Γ (Term.second e) C = Names T m (getD C 0 0) (typeOf I Γ (Term.second e)) × Noted T m I Γ e (drop 1 C)
-Noted T m I Γ (Term.index k e) C = Names T m (getD C 0 0) (typeOf I Γ (Term.index k e)) × Noted T m I Γ e (drop 1 C)
+Noted T m I Γ (Term.index series k e) C = Names T m (getD C 0 0) (typeOf I Γ (Term.index series k e)) × Noted T m I Γ e (drop 1 C)

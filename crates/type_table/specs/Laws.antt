@@ -8,14 +8,17 @@ use native.Mathlib.Omega.{arith}
 use native.Mathlib.Nat.{mul-le-mul-right, mul-le-mul-left}
 use lib.ListN.{length, getD, take, drop, set, length-append, length-set, List·getD-append, take-append-drop}
 use lib.Seq.{getD-at, split-at, take-set-le, getD-set-same, getD-set-other, length-take-le}
-use Rattle.meaning.specs.Types.{DataType, number, array, cells, levels}
+use Rattle.meaning.specs.Types.{DataType, number, array, vector, cells, levels}
 use Rattle.meaning.specs.Limits.{TypeWithin, CellsWithin}
+use Rattle.meaning.specs.Laws.Bounds.{width-is-count}
 use Rattle.type_table.specs.Nodes.{nodeOf, kindIn, levelsIn, cellsIn, leftIn, rightIn}
-use Rattle.type_table.specs.Table.{byKind, nodeType, typesFrom, typesOf, typeAt, PartsBefore, SoundAt, Sound, Put, ArrayTold, PairTold}
+use Rattle.type_table.specs.Table.{byKind, nodeType, typesFrom, typesOf, typeAt, PartsBefore, SoundAt, Sound, Put, ArrayTold, PairTold, VectorTold}
 use Rattle.type_table.specs.declared.ArrayShape.{ArrayShape}
 use Rattle.type_table.specs.declared.ArrayShape.the-variants.{Array, NoArray}
 use Rattle.type_table.specs.declared.PairShape.{PairShape}
 use Rattle.type_table.specs.declared.PairShape.the-variants.{Pair, NoPair}
+use Rattle.type_table.specs.declared.VectorShape.{VectorShape}
+use Rattle.type_table.specs.declared.VectorShape.the-variants.{Vector, NoVector}
 
 -- what was put into a node comes out
 module _ (k l c a b : ℕ) (hl : l < 256) (hc : c < 65536) (ha : a < 65536) (hb : b < 65536) where
@@ -78,10 +81,11 @@ node-here T i h =
     ∙ getD-at B (nodeType B w) [] number i e
 
 -- only the parts that a kind has matter
-same-parts : (k n : ℕ) (s t u v : DataType) → (k ≡ 1 → t ≡ v) → (2 ≤ k → (s ≡ u) × (t ≡ v)) → byKind k n s t ≡ byKind k n u v
+same-parts : (k n : ℕ) (s t u v : DataType) → (k ≡ 1 → t ≡ v) → (k ≡ 2 → (s ≡ u) × (t ≡ v)) → byKind k n s t ≡ byKind k n u v
 same-parts zero n s t u v f g = refl
 same-parts (suc zero) n s t u v f g = ap (array n) (f refl)
-same-parts (suc (suc k)) n s t u v f g = let h = g (omega arith) in ap₂ DataType.pair (h .0) (h .1)
+same-parts (suc (suc zero)) n s t u v f g = let h = g refl in ap₂ DataType.pair (h .0) (h .1)
+same-parts (suc (suc (suc k))) n s t u v f g = refl
 
 -- a node whose parts stand before it is over the types at their places
 module _ (T : List ℕ) (i : ℕ) (h : i < length T) (p : PartsBefore (getD T i 0) i) where
@@ -100,6 +104,7 @@ some-cell (array n t) h =
     let m : 1 * cells t ≤ n * cells t = mul-le-mul-right (cells t) (h .0) in
     omega (arith, some-cell t (h .2))
 some-cell (DataType.pair s t) h = omega (arith, some-cell s (h .1))
+some-cell (vector w) h = width-is-count w h .0
 
 -- an array within the limits is no longer than its cells
 pub length-within : (n : ℕ) (t : DataType) → CellsWithin t → n ≤ n * cells t
@@ -170,7 +175,7 @@ module _ (T : List ℕ) (n w : ℕ) (S : Sound T n) (h : n < length T) where
           size = length-set T n w;
         }
 
--- what is told of an array, and of a pair
+-- what is told of an array, of a pair, and of a vector
 module _ (T : List ℕ) (i : ℕ) where
   pub told-array : {n e : ℕ} {r : ArrayShape} → r ≡ Array n e → ArrayTold T i r
       → (typeAt T i ≡ array n (typeAt T e)) × (e < i)
@@ -187,3 +192,9 @@ module _ (T : List ℕ) (i : ℕ) where
   pub told-no-pair : {r : PairShape} → r ≡ NoPair → PairTold T i r
       → (s t : DataType) → typeAt T i ≡ DataType.pair s t → ⊥
   told-no-pair q h = subst (PairTold T i) q h
+
+  pub told-vector : {n : ℕ} {r : VectorShape} → r ≡ Vector n → VectorTold T i r → (typeAt T i ≡ vector n) × (0 < i)
+  told-vector q h = subst (VectorTold T i) q h
+
+  pub told-no-vector : {r : VectorShape} → r ≡ NoVector → VectorTold T i r → (n : ℕ) → typeAt T i ≡ vector n → ⊥
+  told-no-vector q h = subst (VectorTold T i) q h

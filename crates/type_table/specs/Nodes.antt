@@ -1,5 +1,5 @@
--- A node of the table of types as one word: its kind (0 a number, 1 an array, 2 a pair), the levels and cells of its
--- type, and two fields: an array's length and its element's place, or the places of a pair's two types. Definitions
+-- A node of the table of types as one word: its kind (0 a number, 1 an array, 2 a pair, 3 a vector), the levels and cells of its
+-- type, and two fields: an array's length and its element's place, the places of a pair's two types, or a vector's width. Definitions
 -- only; assumes nothing.
 use Prim.Native.Nat.{ℕ, _+_, _*_, _/_, _%_}
 

@@ -4,9 +4,10 @@ ghost use mathlib.Core.Path.{_≡_};
 ghost use mathlib.Core.Bool.{true, false};
 ghost use Prim.Native.Nat.{suc, _+_, _*_, _≤_, _<_, max};
 ghost use lib.ListN.{length};
-ghost use Rattle.meaning.specs.Types.{DataType, number, array as arrayType, isNumber, cells as cellsOf, levels as levelsOf};
+ghost use Rattle.meaning.specs.Types.{DataType, number, array as arrayType, vector, isNumber, cells as cellsOf, levels as levelsOf};
+ghost use Rattle.meaning.specs.Limits.{IsWidth};
 ghost use Rattle.type_table.specs.Nodes.{nodeOf, kindIn, leftIn, rightIn};
-ghost use Rattle.type_table.specs.Table.{typeAt, Sound, Put, ArrayTold, PairTold};
+ghost use Rattle.type_table.specs.Table.{typeAt, Sound, Put, ArrayTold, PairTold, VectorTold};
 
 // The kinds of nodes.
 const NUMBER: u64 = 0;
@@ -14,6 +15,8 @@ const NUMBER: u64 = 0;
 const ARRAY: u64 = 1;
 
 const PAIR: u64 = 2;
+
+const VECTOR: u64 = 3;
 
 // The place of the type of numbers, the first of every table.
 pub const NUMBER_TYPE: usize = 0;
@@ -28,6 +31,12 @@ pub enum ArrayShape {
 pub enum PairShape {
     Pair { first: usize, second: usize },
     NoPair,
+}
+
+// [18.1] A vector's width.
+pub enum VectorShape {
+    Vector { width: usize },
+    NoVector,
 }
 
 fn node(kind: u64, levels: usize, cells: usize, left: usize, right: usize) -> u64
@@ -104,12 +113,26 @@ pub fn as_pair(types: &[u64], place: usize) -> PairShape
     ensures { λ r. ⌜ PairTold (now (types .entry)) place r ⌝ }
 {
     let node = types[place];
-    if kind_in(node) < PAIR {
+    if kind_in(node) != PAIR {
         return PairShape::NoPair;
     }
     PairShape::Pair {
         first: left_in(node),
         second: right_in(node),
+    }
+}
+
+// [18.1] Its width, where it is a vector.
+pub fn as_vector(types: &[u64], place: usize) -> VectorShape
+    requires { ⌜ Sound (now types) (suc place) ⌝ }
+    ensures { λ r. ⌜ VectorTold (now (types .entry)) place r ⌝ }
+{
+    let node = types[place];
+    if kind_in(node) < VECTOR {
+        return VectorShape::NoVector;
+    }
+    VectorShape::Vector {
+        width: left_in(node),
     }
 }
 
@@ -154,6 +177,14 @@ pub fn same(types: &[u64], a: usize, b: usize) -> bool
             return false;
         }
         return same(types, t, v);
+    }
+    let vectors = as_vector(types, a);
+    if let VectorShape::Vector { width: m } = vectors {
+        let other = as_vector(types, b);
+        let VectorShape::Vector { width: n } = other else {
+            return false;
+        };
+        return m == n;
     }
     is_number(types, b)
 }
@@ -203,4 +234,12 @@ pub fn put_pair(types: &mut [u64], len: usize, first: usize, second: usize)
     let levels = 1 + greater(levels(types, first), levels(types, second));
     let cells = cells(types, first) + cells(types, second);
     types[len] = node(PAIR, levels, cells, first, second);
+}
+
+// [18.1] Puts the type of vectors of this width at place `len`, the first that is free.
+pub fn put_vector(types: &mut [u64], len: usize, width: usize)
+    requires { ⌜ Sound (now types) len × (len < length (now types)) × (len < 65536) × (0 < len) × IsWidth width ⌝ }
+    ensures { λ _. ⌜ Put (now (types .entry)) (now (types .exit)) len (vector width) ⌝ }
+{
+    types[len] = node(VECTOR, 2, width, width, 0);
 }

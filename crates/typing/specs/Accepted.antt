@@ -8,18 +8,19 @@ use mir.Val.{SFits}
 use Rattle.words.specs.Kinds.{Row}
 use Rattle.lines.specs.Printing.{textOf}
 use Rattle.lines.specs.Printing.{Each}
-use Rattle.meaning.specs.Types.{DataType, number, array}
+use Rattle.meaning.specs.Types.{DataType, number, array, vector}
 use Rattle.meaning.specs.Terms.{Plan}
 use Rattle.meaning.specs.Typing.{HasType}
-use Rattle.meaning.specs.Limits.{PlanWithin}
+use Rattle.meaning.specs.Limits.{IsWidth, PlanWithin}
 use Rattle.meaning.specs.Rows.{planRows}
 use Rattle.syntax.specs.InRange.{PlanInRange}
 
--- [3.1] no array in a type is empty
+-- [3.1] no array in a type is empty, [13.19] and every vector in it is of a width that there is
 abbrev pub Nonempty : DataType → Type 0
 Nonempty number = Unit {0}
 Nonempty (array n t) = (1 ≤ n) × Nonempty t
 Nonempty (DataType.pair s t) = Nonempty s × Nonempty t
+Nonempty (vector w) = IsWidth w
 
 abbrev pub AllNonempty : List DataType → Type 0
 AllNonempty [] = Unit {0}

@@ -92,6 +92,36 @@ types =
     ∷ ("plan,1 arr,6 num,0 idx,1 idx,2 split,2 in,0", 0, 7)
     ∷ []
 
+-- [18.2] Vectors: where they may stand; what is no vector and what is no array; widths that divide, and lanes that are there; bodies of
+-- `mapvec`; and questions 5, 6 and 8 on them.
+abbrev vectors : List Card
+vectors =
+    ("plan,1 two,0 vec,2 arr,3 vec,4 snd,0 in,0", 0, 7)
+    ∷ ("plan,1 arr,1 arr,1 arr,1 arr,1 arr,1 arr,1 vec,2 in,0", 0, 9)
+    ∷ ("plan,1 arr,1 arr,1 arr,1 arr,1 arr,1 arr,1 arr,1 vec,2 in,0", 8, 2)
+    ∷ ("plan,1 arr,257 vec,16 in,0", 8, 2)
+    ∷ ("plan,1 vec,2 idx,0 in,0", 7, 3)
+    ∷ ("plan,1 vec,2 mappar,0 in,0 fst,0 lit,1", 7, 3)
+    ∷ ("plan,1 arr,2 vec,2 join,0 in,0", 7, 4)
+    ∷ ("plan,1 arr,2 num,0 at,0 in,0", 7, 4)
+    ∷ ("plan,2 vec,2 arr,1 num,0 redseq,0 in,0 in,1 mappar,0 in,1 var,0", 7, 5)
+    ∷ ("plan,1 vec,2 add,0 in,0 in,0", 7, 3)
+    ∷ ("plan,1 arr,4 two,0 num,0 num,0 asvec,2 in,0", 7, 6)
+    ∷ ("plan,1 vec,4 asscal,0 in,0", 7, 3)
+    ∷ ("plan,1 arr,6 num,0 asvec,4 in,0", 7, 4)
+    ∷ ("plan,1 arr,2 num,0 asvec,2 in,0", 0, 5)
+    ∷ ("plan,1 arr,2 num,0 mapvec,0 in,0 fst,0 lit,1", 7, 4)
+    ∷ ("plan,1 vec,2 mapvec,0 in,0 pair,0 var,0 var,0", 7, 3)
+    ∷ ("plan,1 vec,2 mapvec,0 in,0 in,0", 7, 3)
+    ∷ ("plan,1 vec,2 at,0 mapvec,0 in,0 at,0 mapvec,0 in,0 at,0 mapvec,0 in,0 at,0 mapvec,0 in,0 at,0 mapvec,0 in,0 at,0 mapvec,0 in,0 at,0 mapvec,0 in,0 at,0 mapvec,0 in,0 at,0 mapvec,0 in,0 at,0 mapvec,0 in,0 at,0 mapvec,0 in,0 at,0 mapvec,0 in,0 at,0 mapvec,0 in,0 at,0 mapvec,0 in,0 at,0 mapvec,0 in,0 at,0 mapvec,0 in,0 at,0 mapvec,0 in,0 lit,0", 6, 52)
+    ∷ ("plan,1 vec,3 in,0", 5, 2)
+    ∷ ("plan,1 arr,4 num,0 asvec,1 in,0", 5, 4)
+    ∷ ("plan,1 vec,2 at,2 in,0", 7, 3)
+    ∷ ("plan,1 vec,16 at,16 in,0", 5, 3)
+    ∷ ("plan,1 arr,1 vec,2 asscal,2 in,0", 5, 4)
+    ∷ ("plan,1 arr,2 vec,2 asscal,0 mappar,0 in,0 mapvec,0 var,0 add,0 var,0 at,1 var,1", 0, 12)
+    ∷ []
+
 -- [15.2] `arr,4097`; a "no" of each of the questions 2 and 4 to 6; and the plan of P1 [15.1].
 abbrev others : List Card
 others =
@@ -114,6 +144,13 @@ unfolding words table sameLetters lookFrom operandsOf allDigits value leadingZer
     operandOf operandsDue askRow walkFrom listedFrom walkTable operandsAmong readRows choose planOf check checkType
     checkTypes checkPlan checkPlanRows checkPlanText
 cards-answered = refl
+
+vectors-answered : answers vectors ≡ expected vectors
+unfolding words table sameLetters lookFrom operandsOf allDigits value leadingZero unsigned notBelowZero belowZero
+    numeralOf linesOf placeOf rowOf rowsIn formed reading typeRows allTypeRows termRows oneOf inRange openedBy
+    operandOf operandsDue askRow walkFrom listedFrom walkTable operandsAmong readRows choose planOf check checkType
+    checkTypes checkPlan checkPlanRows checkPlanText
+vectors-answered = refl
 
 order-answered : answers order ≡ expected order
 unfolding words table sameLetters lookFrom operandsOf allDigits value leadingZero unsigned notBelowZero belowZero

@@ -2,6 +2,7 @@
 pub mod Questions
 pub mod TypeQuestions
 pub mod EntryQuestions
+pub mod PlanLanes
 pub mod Tests
 pub mod Accept
 pub mod Sized

@@ -7,16 +7,17 @@ use mathlib.Core.Logic.{_↔_}
 use Prim.Native.Nat.{ℕ, _≤_, _<_, _*_, _/_}
 use lib.ListN.{length}
 use Rattle.refusals.specs.declared.Refusal.{Refusal}
-use Rattle.refusals.specs.declared.Refusal.the-variants.{TypeMisfit, TypeSize}
+use Rattle.refusals.specs.declared.Refusal.the-variants.{TypeMisfit, TypeSize, LanesInside}
 use Rattle.refusals.specs.declared.Answer.the-variants.{Told, Refused}
 use Rattle.words.specs.Kinds.{Row}
 use Rattle.words.specs.Words.{words, lookUp}
 use Rattle.words.specs.Good.{Good}
 use Rattle.words.specs.Laws.{words-good}
 use Rattle.words.specs.declared.Sort.{Sort}
+use Rattle.words.specs.declared.Sort.the-variants as sort
 use Rattle.texts.specs.Texts.{linesOf}
 use Rattle.lines.specs.Reading.{rowsIn, reading, planLimits}
-use Rattle.meaning.specs.Types.{DataType, number, array}
+use Rattle.meaning.specs.Types.{DataType, number, array, vector}
 use Rattle.meaning.specs.Terms.{Term, Plan}
 use Rattle.meaning.specs.Typing.{HasType, typeOf}
 use Rattle.meaning.specs.Limits.{TermWithin, PlanWithin}
@@ -33,9 +34,10 @@ use Rattle.typing.specs.Entry.{checkPlanRows, checkPlanText}
 use Rattle.typing.specs.Accepted.{AllNonempty, AcceptedRows, AcceptedText}
 use Rattle.typing.specs.Laws.TypeQuestions.{check-asks, plan-asks, planType}
 use Rattle.typing.specs.Laws.EntryQuestions.{reading-asks, table-asks, rows-ask, text-asks, asked-refused, asked-passed}
-use Rattle.typing.specs.Lengths.{splitPlan, indexPlan, zipPlan, tablePlan, Decided}
-use Rattle.typing.specs.Laws.Lengths.{split-decided, index-decided, zip-decided, table-decided}
+use Rattle.typing.specs.Lengths.{splitPlan, indexPlan, asvecPlan, atPlan, zipPlan, tablePlan, Decided}
+use Rattle.typing.specs.Laws.Lengths.{split-decided, index-decided, asvec-decided, lane-decided, zip-decided, table-decided}
 use Rattle.typing.specs.Laws.Plans.{term-accepted, term-accepts, plan-accepted, plan-accepts}
+use Rattle.typing.specs.Laws.PlanLanes.{plan-apart}
 use Rattle.typing.specs.Laws.Rows.{accepted-rows, admitted-rows}
 use Rattle.typing.specs.Laws.Texts.{accepted-text, text-accepted}
 
@@ -50,7 +52,7 @@ pub plan-first-no : (P : Plan) → checkPlan P ≡ ask refused (planQuestions P)
 plan-first-no = plan-asks
 
 -- [5.1] The check finds a type exactly when Figure 3's relation gives it and every row's type is within the limits. Question 5 was asked
--- before: numbers are in range, and no array of an input or a variable is empty.
+-- before: numbers are in range, no array of an input or a variable is empty, [13.19] and a vector's width is one that there is.
 pub term-check : (I Γ : List DataType) (e : Term) (line : ℕ) (t : DataType)
     → AllNonempty I → AllNonempty Γ → TermInRange (length I) (length Γ) e
     → (check I Γ e line ≡ typed t) ↔ (HasType I Γ e t × TermWithin I Γ e)
@@ -74,6 +76,14 @@ split-any-length = split-decided
 pub index-any-length : (k l : ℕ) → l ≤ 4096 → Decided (checkPlan (indexPlan k l)) (k < l) number (TypeMisfit 4)
 index-any-length = index-decided
 
+-- [18.4] The same of vectors: `asvec,w` passes when w divides the length, `at,k` when k is below the width.
+pub asvec-any-length : (w l : ℕ) → 0 < w → l ≤ 4096
+    → Decided (checkPlan (asvecPlan w l)) ((m : ℕ) × (l ≡ m * w)) (array (l / w) (vector w)) (TypeMisfit 4)
+asvec-any-length = asvec-decided
+
+pub at-any-width : (k w : ℕ) → w ≤ 4096 → Decided (checkPlan (atPlan k w)) (k < w) number (TypeMisfit 3)
+at-any-width = lane-decided
+
 pub zip-any-length : (m n : ℕ) → m ≤ 2048 → n ≤ 4096
     → Decided (checkPlan (zipPlan m n)) (m ≡ n) (array m (DataType.pair number number)) (TypeMisfit 6)
 zip-any-length = zip-decided
@@ -92,10 +102,14 @@ rows-accepted R = (
       (admitted-rows (a .plan) (a .admitted), a .admitted .within .rowsFew)),
 )
 
--- [10.18] The walk is the first "no" of questions 2 (of kinds) and 4 to 6, of plans and of loops.
+-- [10.18] The walk is the first "no" of questions 2 (of kinds), 4 to 6 and [18.15], of plans and of loops.
 pub walk-first-no : (s : Sort) (R : List Row)
     → walkTable s R ≡ ask Refused (kindQuestions 0 R ++ walkQuestions 0 (due s noNames ∷ []) R) (Told (length R))
 walk-first-no = table-asks
+
+-- [18.15] The walk of a plan's rows is never refused by question 18, which loops are asked: no `lanes` row may stand in a plan.
+pub plan-never-18 : (R : List Row) (line : ℕ) → walkTable sort.Plan R ≡ Refused (LanesInside line) → ⊥
+plan-never-18 = plan-apart
 
 -- [10.17] Demand 1 for rows: their check is the first "no" of questions 2 (of kinds) and 4 to 8 in order. So each refusal is given exactly
 -- when it is the first "no", and rows pass exactly when every answer is "yes".

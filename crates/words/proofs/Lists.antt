@@ -10,6 +10,7 @@ use lib.Dec.{eqb}
 use lib.ListN.{getD}
 use Rattle.words.specs.Groups.{oneOf, counted, isLeaf, hasOneOperand, operations}
 use Rattle.words.specs.Kinds.{word-in, word-var, word-lit, word-neg, word-split, word-join, word-fst, word-snd, word-idx}
+use Rattle.words.specs.Kinds.{word-asvec, word-asscal, word-at}
 use Rattle.words.specs.Laws.{All, not-one, is-one}
 use Rattle.words.specs.Words.{Entry, entry, table, operandsAs, operandsOf}
 use Rattle.words.specs.declared.Sort.the-variants.{Term}
@@ -57,7 +58,7 @@ abbrev leaves : List ℕ
 leaves = word-in ∷ word-var ∷ word-lit ∷ []
 
 abbrev ones : List ℕ
-ones = word-neg ∷ word-split ∷ word-join ∷ word-fst ∷ word-snd ∷ word-idx ∷ []
+ones = word-neg ∷ word-split ∷ word-join ∷ word-fst ∷ word-snd ∷ word-idx ∷ word-asvec ∷ word-asscal ∷ word-at ∷ []
 
 pub no-leaf : (k : ℕ) → All leaves (λ w. k ≡ w → ⊥) → false ≡ isLeaf k
 unfolding kindsWith table
@@ -70,6 +71,23 @@ leaf k p = sym (is-one k leaves p) ∙ counted-in 0 k
 pub not-one-operand : (k : ℕ) → All ones (λ w. k ≡ w → ⊥) → false ≡ hasOneOperand k
 unfolding kindsWith table
 not-one-operand k p = sym (not-one k ones p) ∙ counted-in 1 k
+
+pub one-operand : (k : ℕ) → (All ones (λ w. k ≡ w → ⊥) → ⊥) → true ≡ hasOneOperand k
+unfolding kindsWith table
+one-operand k p = sym (is-one k ones p) ∙ counted-in 1 k
+
+-- those that follow one another
+none-of-five : (k : ℕ) → word-split ≤ k → k < 24 → (k ≡ 19 → ⊥) → (k ≡ 20 → ⊥) → (k ≡ 21 → ⊥) → (k ≡ 22 → ⊥) → (k ≡ 23 → ⊥) → ⊥
+none-of-five k from to a b c d e = omega arith
+
+none-of-two : (k : ℕ) → word-asvec ≤ k → k < 41 → (k ≡ 39 → ⊥) → (k ≡ 40 → ⊥) → ⊥
+none-of-two k from to a b = omega arith
+
+pub regrouping-or-part : (k : ℕ) → word-split ≤ k → k < 24 → true ≡ hasOneOperand k
+regrouping-or-part k from to = one-operand k (λ p. none-of-five k from to (p .1 .0) (p .1 .1 .0) (p .1 .1 .1 .0) (p .1 .1 .1 .1 .0) (p .1 .1 .1 .1 .1 .0))
+
+pub vector-regrouping : (k : ℕ) → word-asvec ≤ k → k < 41 → true ≡ hasOneOperand k
+vector-regrouping k from to = one-operand k (λ p. none-of-two k from to (p .1 .1 .1 .1 .1 .1 .0) (p .1 .1 .1 .1 .1 .1 .1 .0))
 
 -- ---- words that follow one another
 
@@ -89,9 +107,3 @@ is-following (suc n) w k l h = go (eqb k w) refl (λ d. is-following n (suc w) k
 pub operation : (k : ℕ) → 8 ≤ k → k < 14 → oneOf k operations ≡ true
 unfolding following
 operation k l h = is-following 6 8 k l h
-
-pub one-operand : (k : ℕ) → 19 ≤ k → k < 24 → true ≡ hasOneOperand k
-unfolding kindsWith table following oneOf
-one-operand k l h =
-    let q : oneOf k ones ≡ true = simp (ne-eqb k word-neg (λ e. omega arith)) (is-following 5 19 k l h) in
-    sym q ∙ counted-in 1 k

@@ -5,6 +5,7 @@ use Prim.Native.Nat.{ℕ}
 use lib.Dec.{eqb, ltb}
 use lib.ListN.{length}
 use Rattle.words.specs.Kinds.{word-add, word-sub, word-mul, word-div, word-min, word-max, word-mappar, word-mapseq, word-for, word-par}
+use Rattle.words.specs.Kinds.{word-mapvec, word-lanes}
 use Rattle.words.specs.Words.{words, operandsOf}
 use Rattle.words.specs.declared.Sort.the-variants.{Term}
 use Rattle.words.specs.declared.Operands.{Operands}
@@ -32,7 +33,7 @@ hasOneOperand k = counted 1 (operandsOf k Term)
 
 -- [3.9] the maps
 abbrev pub maps : List ℕ
-maps = word-mappar ∷ word-mapseq ∷ []
+maps = word-mappar ∷ word-mapseq ∷ word-mapvec ∷ []
 
 abbrev pub isMap : ℕ → Bool
 isMap k = oneOf k maps
@@ -46,7 +47,7 @@ isOperation k = oneOf k operations
 
 -- [3.13] the loops
 abbrev pub loops : List ℕ
-loops = word-for ∷ word-par ∷ []
+loops = word-for ∷ word-par ∷ word-lanes ∷ []
 
 abbrev pub isLoop : ℕ → Bool
 isLoop k = oneOf k loops

@@ -127,3 +127,22 @@ word-over = 36
 
 abbrev pub word-rest : ℕ
 word-rest = 37
+
+-- [18.3] Vectors, and the loop over lanes: behind the others, in this order.
+abbrev pub word-vec : ℕ
+word-vec = 38
+
+abbrev pub word-asvec : ℕ
+word-asvec = 39
+
+abbrev pub word-asscal : ℕ
+word-asscal = 40
+
+abbrev pub word-mapvec : ℕ
+word-mapvec = 41
+
+abbrev pub word-at : ℕ
+word-at = 42
+
+abbrev pub word-lanes : ℕ
+word-lanes = 43

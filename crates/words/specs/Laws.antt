@@ -19,7 +19,7 @@ use Rattle.words.specs.Kinds.{Row, rowsOf, word-plan, word-num, word-arr
 use Rattle.words.specs.Kinds.{word-sub, word-mul, word-div, word-min, word-max, word-mappar, word-mapseq, word-redseq, word-zip}
 use Rattle.words.specs.Kinds.{word-pair, word-split, word-join, word-fst, word-snd, word-idx, word-loops, word-cells, word-set}
 use Rattle.words.specs.Kinds.{word-seq, word-for, word-par, word-new, word-out, word-loc, word-ctr, word-plus, word-times, word-over}
-use Rattle.words.specs.Kinds.{word-rest}
+use Rattle.words.specs.Kinds.{word-rest, word-vec, word-asvec, word-asscal, word-mapvec, word-at, word-lanes}
 use Rattle.words.specs.Tables.{firstOf, wordIn, wordsIn}
 use Rattle.words.specs.Good.{absent, distinct, lowerCase, wellFormed, Good}
 use Rattle.words.specs.Words.{Entry, bytes, entry, table, words, wordAt, sameLetters, lookFrom, lookUp, compared, operandsAs, operandsOf}
@@ -207,7 +207,7 @@ words-in-count rows = length-map (firstOf [] (length words) rows) wordIn ∙ fir
 
 -- ---- the built-in table: a test that is computed
 
-pub words-count : length words ≡ 38
+pub words-count : length words ≡ 44
 unfolding words table
 words-count = refl
 
@@ -320,6 +320,12 @@ named =
     ∷ (word-times, "times")
     ∷ (word-over, "over")
     ∷ (word-rest, "rest")
+    ∷ (word-vec, "vec")
+    ∷ (word-asvec, "asvec")
+    ∷ (word-asscal, "asscal")
+    ∷ (word-mapvec, "mapvec")
+    ∷ (word-at, "at")
+    ∷ (word-lanes, "lanes")
     ∷ []
 
 kinds-named : map (λ (n : ℕ × String). wordAt words (n .0)) named ≡ map (λ (n : ℕ × String). bytes (n .1)) named

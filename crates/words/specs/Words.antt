@@ -68,6 +68,12 @@ table =
     ∷ entry "times" ((Offset, 1) ∷ [])
     ∷ entry "over" ((Offset, 1) ∷ [])
     ∷ entry "rest" ((Offset, 1) ∷ [])
+    ∷ entry "vec" ((DataType, 0) ∷ [])
+    ∷ entry "asvec" ((Term, 1) ∷ [])
+    ∷ entry "asscal" ((Term, 1) ∷ [])
+    ∷ entry "mapvec" ((Term, 2) ∷ [])
+    ∷ entry "at" ((Term, 1) ∷ [])
+    ∷ entry "lanes" ((Command, 1) ∷ [])
     ∷ []
 
 -- the letters alone: another table of words may stand in their place

@@ -26,7 +26,15 @@ pub fn has_one_operand(kind: u8) -> bool
     ensures { λ r. ⌜ r ≡ hasOneOperand kind ⌝ }
 {
     match kind {
-        WORD_NEG | WORD_SPLIT | WORD_JOIN | WORD_FST | WORD_SND | WORD_IDX => true,
+        WORD_NEG
+        | WORD_SPLIT
+        | WORD_JOIN
+        | WORD_FST
+        | WORD_SND
+        | WORD_IDX
+        | WORD_ASVEC
+        | WORD_ASSCAL
+        | WORD_AT => true,
         _ => false,
     }
 }
@@ -36,7 +44,7 @@ pub fn is_map(kind: u8) -> bool
     ensures { λ r. ⌜ r ≡ isMap kind ⌝ }
 {
     match kind {
-        WORD_MAPPAR | WORD_MAPSEQ => true,
+        WORD_MAPPAR | WORD_MAPSEQ | WORD_MAPVEC => true,
         _ => false,
     }
 }
@@ -56,7 +64,7 @@ pub fn is_loop(kind: u8) -> bool
     ensures { λ r. ⌜ r ≡ isLoop kind ⌝ }
 {
     match kind {
-        WORD_FOR | WORD_PAR => true,
+        WORD_FOR | WORD_PAR | WORD_LANES => true,
         _ => false,
     }
 }

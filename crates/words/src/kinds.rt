@@ -75,5 +75,17 @@ pub const WORD_OVER: u8 = 36;
 
 pub const WORD_REST: u8 = 37;
 
+pub const WORD_VEC: u8 = 38;
+
+pub const WORD_ASVEC: u8 = 39;
+
+pub const WORD_ASSCAL: u8 = 40;
+
+pub const WORD_MAPVEC: u8 = 41;
+
+pub const WORD_AT: u8 = 42;
+
+pub const WORD_LANES: u8 = 43;
+
 // [2.2] How many words there are.
-pub const WORD_COUNT: usize = 38;
+pub const WORD_COUNT: usize = 44;

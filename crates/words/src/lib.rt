@@ -87,6 +87,12 @@ const WORDS: Table = [
     *b"times   5 --------1",
     *b"over    4 --------1",
     *b"rest    4 --------1",
+    *b"vec     3 -0-------",
+    *b"asvec   5 --1------",
+    *b"asscal  6 --1------",
+    *b"mapvec  6 --2------",
+    *b"at      2 --1------",
+    *b"lanes   5 -----1---",
 ];
 
 // The column of a sort.

@@ -1,21 +1,21 @@
 -- The rows of an assignment by type, as the code puts them. Assumes nothing.
-use mathlib.Core.Path.{_≡_, refl, ap, ap₂, sym, _∙_, subst}
+use mathlib.Core.Path.{_≡_, refl, ap, ap₂, sym, _∙_}
 use mathlib.Core.List.{List, []}
 use Prim.Native.Nat.{ℕ, suc, _+_, _<_, _≤_, max}
 use native.Mathlib.Omega.{arith}
 use native.Mathlib.Numerals.{add-one}
 use lib.IntN.{ℤ, pos}
-use Rattle.words.specs.Kinds.{Row, word-set, word-seq, word-par, word-ctr, word-fst, word-snd}
+use Rattle.words.specs.Kinds.{Row, word-set, word-seq, word-ctr, word-fst, word-snd}
 use Rattle.words.specs.Groups.{oneOf}
-use Rattle.meaning.specs.Types.{DataType, number, array, levels}
+use Rattle.meaning.specs.Types.{DataType, number, levels}
 use Rattle.meaning.specs.Loops.{Offset}
 use Rattle.meaning.specs.Paths.{Path}
 use Rattle.meaning.specs.Expressions.{Expression, Acceptor}
 use Rattle.meaning.specs.Translation.{assign}
 use Rattle.meaning.specs.Rows.{commandRows}
-use Rattle.meaning.specs.Limits.{TypeWithin}
-use Rattle.type_table.specs.Table.{typeAt, Sound}
-use Rattle.type_table.specs.Laws.{length-within}
+use Rattle.type_table.specs.Table.{typeAt}
+use Rattle.emission.specs.Elements.{HasElements}
+use Rattle.emission.specs.Laws.Elements.{its-assignment}
 use Rattle.emission.specs.Table.{Table, putRow, putRows}
 use Rattle.emission.specs.Changes.{changeOf, pathOf}
 use Rattle.emission.specs.References.{classOf, rearranged, expressionAt, written, acceptorAt}
@@ -65,19 +65,11 @@ set-rows E P c r p p′ o o₁ o₂ o₃ e e′ h l m =
     ∙ ap (putRows (valueAt c r E [])) (l ∙ ap (λ (y : Path Offset). putRows (placeAt c r P y) o₁) e ∙ ap (putRows (placeAt c r P [])) h)
     ∙ sym (put-append (placeAt c r P []) (valueAt c r E []) (putRow o (word-set, pos 0)))
 
--- the levels and the length of what has parts
-pub array-levels : (t : DataType) (n : ℕ) (s : DataType) → t ≡ array n s → levels t ≡ suc (levels s)
-array-levels t n s e = ap levels e
-
+-- the levels of what has parts
 pub pair-levels : (t s u : DataType) → t ≡ DataType.pair s u → (suc (levels s) ≤ levels t) × (suc (levels u) ≤ levels t)
 pair-levels t s u e =
     let h : levels t ≡ suc (max (levels s) (levels u)) = ap levels e in
     (omega arith, omega arith)
-
-pub few-elements : (Y : List ℕ) (t n : ℕ) (s : DataType) → Sound Y (suc t) → typeAt Y t ≡ array n s → n ≤ 4096
-few-elements Y t n s S e =
-    let h : TypeWithin (array n s) = subst TypeWithin e (S .each t (omega arith) .within) in
-    omega (arith, length-within n s (h .0 .2), h .0 .1)
 
 -- by the type
 module _ (Y : List ℕ) (N : List ℤ) (T : List ℕ) (t v q c r : ℕ) (o o′ : Table) where
@@ -86,18 +78,18 @@ module _ (Y : List ℕ) (N : List ℤ) (T : List ℕ) (t v q c r : ℕ) (o o′ 
   assign-number e h = h ∙ sym (ap (λ (s : DataType). putRows (assignRows s (expressionAt Y N T v) (acceptorAt Y T q) c r) o) e)
 
   module _ (len : ℕ) (hl : len + 1 < 1024) (hv : v < len) (hq : q < len) where
-    pub assign-array : (U : List ℕ) (n e : ℕ) (o₁ : Table) → c < 65536 → typeAt Y t ≡ array n (typeAt Y e) → o₁ ≡ putRow o (word-par, pos n)
+    pub assign-elements : (U : List ℕ) (n e k : ℕ) (o₁ : Table) → c < 65536 → HasElements (typeAt Y t) n (typeAt Y e) k → o₁ ≡ putRow o (k, pos n)
         → BothPushed T U len word-ctr c v q
         → o′ ≡ putRows (assignRows (typeAt Y e) (expressionAt Y N U len) (acceptorAt Y U (len + 1)) (c + 1) r) o₁
         → o′ ≡ putRows (assignRows (typeAt Y t) (expressionAt Y N T v) (acceptorAt Y T q) c r) o
-    unfolding putRows assign commandRows oneOf
-    assign-array U n e o₁ hc is p B h =
+    unfolding putRows oneOf
+    assign-elements U n e k o₁ hc is p B h =
         let s : DataType = typeAt Y e in
         h
         ∙ ap₂ (λ (E : Expression) (P : Acceptor). putRows (assignRows s E P (c + 1) r) o₁)
         (step-read T U len word-ctr c v q B hl hc hv hq Y N refl) (step-written T U len word-ctr c v q B hl hc hv hq Y refl)
         ∙ ap₂ (λ (d : ℕ) (y : Table). putRows (assignRows s (Expression.index (expressionAt Y N T v) (Offset.counter c)) (Acceptor.index (acceptorAt Y T q) (Offset.counter c)) d r) y) (add-one c) p
-        ∙ sym (ap (λ (u : DataType). putRows (assignRows u (expressionAt Y N T v) (acceptorAt Y T q) c r) o) is)
+        ∙ sym (ap (λ (l : List Row). putRows l o) (its-assignment is (expressionAt Y N T v) (acceptorAt Y T q) c r))
 
     pub assign-pair : (U W X : List ℕ) (a b : ℕ) (o₁ o₂ : Table) → typeAt Y t ≡ DataType.pair (typeAt Y a) (typeAt Y b) → o₁ ≡ putRow o (word-seq, pos 0)
         → BothPushed T U len word-fst 0 v q

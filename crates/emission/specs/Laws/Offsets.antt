@@ -8,14 +8,16 @@ use lib.IntN.{pos}
 use lib.ListN.{getD, drop, length, replicate, length-append}
 use lib.Seq.{drop-drop}
 use Rattle.words.specs.Kinds.{Row, word-lit, word-plus, word-times}
-use Rattle.meaning.specs.Types.{DataType, number, array, cells}
+use Rattle.meaning.specs.Types.{DataType, number, cells}
 use Rattle.meaning.specs.Loops.{Offset, plus, times}
 use Rattle.meaning.specs.Paths.{Path, tail, byPart}
 use Rattle.meaning.specs.Offsets.{leadingIndex, summands, sumOnto, sumOf}
 use Rattle.meaning.specs.Rows.{offsetRows}
-use Rattle.meaning.specs.Limits.{CellsWithin}
+use Rattle.meaning.specs.Laws.Bounds.{cells-within}
 use Rattle.type_table.specs.Table.{typeAt, typesFrom, typesOf, nodeType, Sound}
+use Rattle.emission.specs.Elements.{HasElements}
 use Rattle.emission.specs.Table.{Table, putRow, putRows}
+use Rattle.emission.specs.Laws.Elements.{its-summands}
 use Rattle.emission.specs.Laws.Table.{put-append}
 use Rattle.emission.specs.Laws.PathSteps.{tail-drop}
 use Rattle.emission.specs.Laws.Indices.{rowsUnder}
@@ -36,19 +38,8 @@ pub type-past : (Y : List ℕ) (t : ℕ) → length Y ≤ t → typeAt Y t ≡ n
 type-past Y t h = getD-past (typesOf Y) t number (omega (arith, types-many [] Y))
 
 -- a type's cells fit a count
-cells-within : (t : DataType) → CellsWithin t → cells t ≤ 4096
-cells-within number h = omega arith
-cells-within (array n t) h = h .1
-cells-within (DataType.pair s t) h = h .0
-
 pub few-cells : (Y : List ℕ) (t : ℕ) → Sound Y (suc t) → cells (typeAt Y t) ≤ 4096
 few-cells Y t S = cells-within (typeAt Y t) (S .each t (omega arith) .within .0)
-
--- a type that is neither an array nor a pair
-pub is-number : (t : DataType) → ((n : ℕ) (s : DataType) → t ≡ array n s → ⊥) → ((s u : DataType) → t ≡ DataType.pair s u → ⊥) → t ≡ number
-is-number number f g = refl
-is-number (array n s) f g = absurd (f n s refl)
-is-number (DataType.pair s u) f g = absurd (g s u refl)
 
 -- the summands from step j on, by the type
 module _ (t : DataType) (p : Path Offset) (j : ℕ) where
@@ -58,11 +49,10 @@ module _ (t : DataType) (p : Path Offset) (j : ℕ) where
   pub summands-number : t ≡ number → summands t (drop j p) ≡ []
   summands-number e = ap (λ (s : DataType). summands s (drop j p)) e
 
-  pub summands-array : (n : ℕ) (s : DataType) → t ≡ array n s
+  pub summands-elements : {n : ℕ} {s : DataType} {k : ℕ} → HasElements t n s k
       → summands t (drop j p) ≡ times (cells s) (leadingIndex (drop j p)) ∷ summands s (drop (j + 1) p)
-  summands-array n s e =
-      ap (λ (u : DataType). summands u (drop j p)) e
-      ∙ ap (λ (q : Path Offset). times (cells s) (leadingIndex (drop j p)) ∷ summands s q) next
+  summands-elements {n} {s} e =
+      its-summands e (drop j p) ∙ ap (λ (q : Path Offset). times (cells s) (leadingIndex (drop j p)) ∷ summands s q) next
 
   module _ (s u : DataType) (e : t ≡ DataType.pair s u) where
     summands-pair : summands t (drop j p)

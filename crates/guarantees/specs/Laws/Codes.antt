@@ -82,6 +82,7 @@ some-number refusals.StoreSize = omega arith
 some-number refusals.ValueLines = omega arith
 some-number refusals.WordsForm = omega arith
 some-number refusals.WordTwice = omega arith
+some-number (refusals.LanesInside l) = omega arith
 
 pub refusal-code : (q : Refusal) → toldCode (refusalCode q) ≡ cut (refusal q)
 refusal-code q = number-code (refusalNumber q) (min (refusalLine q) 72057594037927935) (some-number q) (omega arith)

@@ -6,6 +6,7 @@ use mathlib.Core.List.{List, _++_}
 use mathlib.Core.Logic.{_↔_}
 use Prim.Native.Nat.{ℕ, _≤_}
 use lib.Dec.{leb→le}
+use lib.Ieee.Bits.{is-true}
 use lib.IntN.{ℤ}
 use lib.ListN.{length, take}
 use Rattle.refusals.specs.declared.Answer.{Answer}
@@ -20,6 +21,7 @@ use Rattle.meaning.specs.Terms.{Plan}
 use Rattle.meaning.specs.Layout.{need}
 use Rattle.meaning.specs.Rows.{planRows}
 use Rattle.meaning.specs.Counts.{planWrites}
+use Rattle.meaning.specs.Limits.{lanesApart}
 use Rattle.meaning.specs.Translation.{translation}
 use Rattle.syntax.specs.Reading.{planOf}
 use Rattle.syntax.specs.Theorems.{plan-read, plan-unique}
@@ -126,6 +128,7 @@ module _ (ws : List (List ℕ)) (good : Good ws) where
       pub door : AllYes (planDoor ws t)
       pub typed : AllYes (planQuestions P)
       pub few : length (madeRows P) ≤ 4096
+      pub apart : lanesApart (translation P .command) ≡ true
       pub writes : planWrites P ≤ 16777216
 
     yes : (room : List Question) → AllYes (planDoor ws t ++ (planQuestions P ++ (madeQuestions P ++ room))) → Yes
@@ -137,7 +140,8 @@ module _ (ws : List (List ℕ)) (good : Good ws) where
           door = a .0;
           typed = b .0;
           few = leb→le (length (madeRows P)) 4096 (c .0);
-          writes = leb→le (planWrites P) 16777216 (c .1 .0);
+          apart = is-true (lanesApart (translation P .command)) (c .1 .0);
+          writes = leb→le (planWrites P) 16777216 (c .1 .1 .0);
         }
 
     put-text : (u u′ : List ℕ) (r : Answer) (n : ℕ) → TranslatesText ws t u r u′ → toldAnswer r ≡ Told.value n → Yes × (take n u′ ≡ S)
@@ -164,10 +168,10 @@ module _ (ws : List (List ℕ)) (good : Good ws) where
       back = own-text-back ws good P (T .type) (T .well-typed) (T .within) (T .numbers)
 
       pub text-passes : checkLoopsText ws S ≡ Passes (planWrites P) (need (translation P))
-      text-passes = own-text-passes ws good P (T .type) (T .well-typed) (T .within) (T .numbers) (y .few) (y .writes)
+      text-passes = own-text-passes ws good P (T .type) (T .well-typed) (T .within) (T .numbers) (y .few) (y .apart) (y .writes)
 
       pub rows-pass : checkTable (madeRows P) ≡ Passes (planWrites P) (need (translation P))
-      rows-pass = few-rows (madeRows P) (y .few) ∙ own-pass P (T .type) (T .well-typed) (T .within) (y .writes)
+      rows-pass = few-rows (madeRows P) (y .few) ∙ own-pass P (T .type) (T .well-typed) (T .within) (y .apart) (y .writes)
 
     put-rows : (k k′ : List ℕ) (n n′ : List ℤ) (r : Answer) (m : ℕ) → TranslatesRows ws t k n r k′ n′ → toldAnswer r ≡ Told.value m
         → Yes × (rowsOf (take m k′) (take m n′) ≡ madeRows P)

@@ -7,7 +7,7 @@ use lib.Dec.{leb}
 use lib.IntN.{ℤ}
 use lib.ListN.{length, drop, length-map}
 use Rattle.refusals.specs.declared.Refusal.{Refusal}
-use Rattle.refusals.specs.declared.Refusal.the-variants.{LoopsLength, WriteCount, LentSize}
+use Rattle.refusals.specs.declared.Refusal.the-variants.{LoopsLength, WriteCount, LentSize, LanesInside}
 use Rattle.refusals.specs.declared.Answer.{Answer}
 use Rattle.refusals.specs.declared.Answer.the-variants as answer
 use Rattle.refusals.specs.Answers.{unlessRefused, isTold}
@@ -17,7 +17,9 @@ use Rattle.lines.specs.Printing.{textOf, printing}
 use Rattle.lines.specs.Reading.{kindsOf, numbersOf, filled}
 use Rattle.meaning.specs.Terms.{Plan}
 use Rattle.meaning.specs.Counts.{planWrites}
+use Rattle.meaning.specs.Limits.{lanesApart}
 use Rattle.meaning.specs.Rows.{planRows}
+use Rattle.meaning.specs.Translation.{translation}
 use Rattle.syntax.specs.Reading.{planOf}
 use Rattle.syntax.specs.Theorems.{plan-unique}
 use Rattle.typing.specs.Questions.{Question, ask}
@@ -113,18 +115,20 @@ module _ (ws : List (List ℕ)) (good : Good ws) where
     abbrev S : List ℕ
     S = textOf ws (madeRows P)
 
-    -- 10 and 11 of the plan, and then what comes behind: e where the rows are made, told by f, which hands refusals on
+    -- 10, 18 and 11 of the plan, and then what comes behind: e where the rows are made, told by f, which hands refusals on
     made-told : (f : Answer → Told) → ((q : Refusal) → f (answer.Refused q) ≡ refusal q) → (room : List Question) (v : ℕ)
         → f (answer.Told (length (madeRows P))) ≡ ask refusal room (Told.value v)
         → f (makePlan P) ≡ ask refusal (madeQuestions P ++ room) (Told.value v)
     unfolding makePlan ask
-    made-told f h room v e = go (leb (length (madeRows P)) 4096) (leb (planWrites P) 16777216)
+    made-told f h room v e = go (leb (length (madeRows P)) 4096) (lanesApart (translation P .command)) (leb (planWrites P) 16777216)
       where
-        go : (a b : Bool) → f (cond a (cond b (answer.Told (length (madeRows P))) (answer.Refused WriteCount)) (answer.Refused LoopsLength))
-            ≡ cond a (cond b (ask refusal room (Told.value v)) (refusal WriteCount)) (refusal LoopsLength)
-        go true true = e
-        go true false = h WriteCount
-        go false b = h LoopsLength
+        go : (a l b : Bool)
+            → f (cond a (cond l (cond b (answer.Told (length (madeRows P))) (answer.Refused WriteCount)) (answer.Refused (LanesInside 0))) (answer.Refused LoopsLength))
+            ≡ cond a (cond l (cond b (ask refusal room (Told.value v)) (refusal WriteCount)) (refusal (LanesInside 0))) (refusal LoopsLength)
+        go true true true = e
+        go true true false = h WriteCount
+        go true false b = h (LanesInside 0)
+        go false l b = h LoopsLength
 
     -- the whole list, of an entry whose answer f tells
     pub make-told : (f : Answer → Told) → ((q : Refusal) → f (answer.Refused q) ≡ refusal q) → (room : List Question) (v : ℕ)

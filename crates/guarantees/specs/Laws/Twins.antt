@@ -49,8 +49,8 @@ module _ (w : List ℕ) where
       go true false e = let same : WordTwice ≡ q = cc in ap refusalLine (sym same)
       go false d e = let same : WordsForm ≡ q = cc in ap refusalLine (sym same)
 
-  -- [16.2] of more than 511 bytes
-  long : 511 < length w → FirstNo (wordsQuestions w) WordsForm
+  -- [16.2] of more than 598 bytes
+  long : 598 < length w → FirstNo (wordsQuestions w) WordsForm
   long h = go (isWordsText w) refl
     where
       twice : Question

@@ -4,14 +4,14 @@ use Prim.Native.Nat.{ℕ, suc}
 use lib.IntN.{ℤ}
 use Rattle.words.specs.Kinds.{Row}
 use Rattle.lines.specs.Printing.{Each}
-use Rattle.meaning.specs.Types.{DataType, number, array}
+use Rattle.meaning.specs.Types.{DataType, number, array, vector}
 use Rattle.meaning.specs.Terms.{Term, Plan}
 use Rattle.meaning.specs.Paths.{Path, index, first, second, byPart, tail}
 use Rattle.meaning.specs.Loops.{Offset, Value, Command, seq, loop, new}
 use Rattle.meaning.specs.Expressions.{Expression, Acceptor}
 use Rattle.meaning.specs.Offsets.{readAt, valueFromInnermost, ungrouped, grouped, unzipped}
 use Rattle.meaning.specs.Rows.{termRows, allTypeRows, planRows}
-use Rattle.meaning.specs.Translation.{assign}
+use Rattle.meaning.specs.Translation.{assignNumber, assign}
 
 module _ (P : ℤ → Type 0) where
   -- P holds of every literal
@@ -25,11 +25,11 @@ module _ (P : ℤ → Type 0) where
   TermLiterals (Term.reduce z a b) = TermLiterals z × TermLiterals a × TermLiterals b
   TermLiterals (Term.zip a b) = TermLiterals a × TermLiterals b
   TermLiterals (Term.pair a b) = TermLiterals a × TermLiterals b
-  TermLiterals (Term.split n e) = TermLiterals e
-  TermLiterals (Term.join e) = TermLiterals e
+  TermLiterals (Term.split series n e) = TermLiterals e
+  TermLiterals (Term.join series e) = TermLiterals e
   TermLiterals (Term.first e) = TermLiterals e
   TermLiterals (Term.second e) = TermLiterals e
-  TermLiterals (Term.index k e) = TermLiterals e
+  TermLiterals (Term.index series k e) = TermLiterals e
 
   abbrev pub ExpressionLiterals : Expression → Type 0
   ExpressionLiterals (Expression.input k t) = Unit {0}
@@ -83,11 +83,11 @@ module _ (P : ℤ → Type 0) where
       let g = each-append (termRows a) (termRows b) (h .1) in (row-literals a (g .0), row-literals b (g .1))
   row-literals (Term.pair a b) h =
       let g = each-append (termRows a) (termRows b) (h .1) in (row-literals a (g .0), row-literals b (g .1))
-  row-literals (Term.split n e) h = row-literals e (h .1)
-  row-literals (Term.join e) h = row-literals e (h .1)
+  row-literals (Term.split series n e) h = row-literals e (h .1)
+  row-literals (Term.join series e) h = row-literals e (h .1)
   row-literals (Term.first e) h = row-literals e (h .1)
   row-literals (Term.second e) h = row-literals e (h .1)
-  row-literals (Term.index k e) h = row-literals e (h .1)
+  row-literals (Term.index series k e) h = row-literals e (h .1)
 
   pub plan-literals : (Q : Plan) → Each (λ (r : Row). P (r .1)) (planRows Q) → TermLiterals (Q .term)
   unfolding Each planRows
@@ -124,10 +124,15 @@ module _ (P : ℤ → Type 0) where
   innermost-literals c r (Value.negate v) h = innermost-literals c r v h
   innermost-literals c r (Value.operation o v w) h = (innermost-literals c r v (h .0), innermost-literals c r w (h .1))
 
+  number-literals : (E : Expression) (A : Acceptor) (c r : ℕ) → ExpressionLiterals E → CommandLiterals (assignNumber E A c r)
+  number-literals E A c r h = innermost-literals c r (readAt E []) (read-literals E [] h)
+
   pub assign-literals : (t : DataType) (E : Expression) (A : Acceptor) (c r : ℕ) → ExpressionLiterals E → CommandLiterals (assign t E A c r)
   unfolding assign
-  assign-literals number E A c r h = innermost-literals c r (readAt E []) (read-literals E [] h)
+  assign-literals number E A c r h = number-literals E A c r h
   assign-literals (array n t) E A c r h =
       assign-literals t (Expression.index E (Offset.counter c)) (Acceptor.index A (Offset.counter c)) (suc c) r h
   assign-literals (DataType.pair s t) E A c r h =
       (assign-literals s (Expression.first E) (Acceptor.first A) c r h, assign-literals t (Expression.second E) (Acceptor.second A) c r h)
+  assign-literals (vector w) E A c r h =
+      number-literals (Expression.index E (Offset.counter c)) (Acceptor.index A (Offset.counter c)) (suc c) r h

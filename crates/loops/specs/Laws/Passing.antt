@@ -9,7 +9,7 @@ use lib.ListN.{length}
 use Rattle.refusals.specs.declared.Refusal.{Refusal}
 use Rattle.meaning.specs.Loops.{Place, Value, Command, Loops, seq, loop, new, Offset, plus, times, over, rest}
 use Rattle.meaning.specs.Runs.{entry}
-use Rattle.meaning.specs.Limits.{IsCount, counterBound, ValuePasses, PlacePasses, CommandPasses, LoopsPass, OffsetPasses}
+use Rattle.meaning.specs.Limits.{IsCount, counterBound, ValuePasses, PlacePasses, CommandPasses, LoopsPass, LoopsWithin, OffsetPasses}
 use Rattle.syntax.specs.InRange.{OffsetInRange, PlaceInRange, ValueInRange, CommandInRange, AllCounts, LoopsInRange}
 use Rattle.bounds.specs.Bounds.{firstNo, askValue, askPlace, askSet, askCommand, askBounds}
 use Rattle.bounds.specs.Laws.{offset-fits, offset-asked, some-none}
@@ -148,20 +148,31 @@ each-count (n ∷ l) h (suc k) g = each-count l (h .1) k (omega arith)
 pub loops-pass : (L : Loops) → LoopsInRange L → askBounds L ≡ none → LoopsPass L
 unfolding askBounds
 loops-pass L h e = record {
-  inputsFew = h .inputsFew;
-  inputCells = each-count (L .inputs) (h .inputCells);
-  outputCells = h .outputCells;
-  passes = command-passes (L .inputs) (L .output) (L .command) [] [] _ (h .command) e;
+  within = record {
+    inputsFew = h .inputsFew;
+    inputCells = each-count (L .inputs) (h .inputCells);
+    outputCells = h .outputCells;
+    passes = command-passes (L .inputs) (L .output) (L .command) [] [] _ (h .command) e;
+  };
+  apart = h .apart;
 }
+
+module _ (L : Loops) (h : LoopsWithin L) where
+  pub within-cells : AllCounts (L .inputs)
+  within-cells = all-counts (L .inputs) (h .inputCells)
+
+  pub within-command : CommandInRange (length (L .inputs)) 0 0 (L .command)
+  within-command = command-in-range (L .inputs) (L .output) (L .command) [] [] (h .passes)
 
 pub pass-loops : (L : Loops) → LoopsPass L → LoopsInRange L × (askBounds L ≡ none)
 unfolding askBounds
 pass-loops L h = (
   record {
-    inputsFew = h .inputsFew;
-    inputCells = all-counts (L .inputs) (h .inputCells);
-    outputCells = h .outputCells;
-    command = command-in-range (L .inputs) (L .output) (L .command) [] [] (h .passes);
+    inputsFew = h .within .inputsFew;
+    inputCells = within-cells L (h .within);
+    outputCells = h .within .outputCells;
+    command = within-command L (h .within);
+    apart = h .apart;
   },
-  command-asked (L .inputs) (L .output) (L .command) [] [] _ (h .passes),
+  command-asked (L .inputs) (L .output) (L .command) [] [] _ (h .within .passes),
 )

@@ -1,4 +1,4 @@
--- The rows of loops in range, their literals being 32-bit numbers, can be printed, and 4,096 of them take at most 65,536 bytes.
+-- The rows of loops within the bounds and limits, their literals being 32-bit numbers, can be printed, and 4,096 of them take at most 65,536 bytes.
 -- Assumes nothing.
 use mathlib.Core.Path.{refl}
 use mathlib.Core.List.{List, [], _∷_, _++_}
@@ -20,7 +20,10 @@ use Rattle.lines.specs.Laws.{Ranged, text-size}
 use Rattle.meaning.specs.Terms.{LoopKind}
 use Rattle.meaning.specs.Loops.{Offset, Place, Value, Command, Loops, plus, times, over, rest, seq, loop, new}
 use Rattle.meaning.specs.Rows.{operationWord, loopWord, offsetRows, valueRows, placeRows, commandRows, allCellsRows, loopsRows}
-use Rattle.syntax.specs.InRange.{OffsetInRange, PlaceInRange, ValueInRange, CommandInRange, AllCounts, LoopsInRange}
+use Rattle.meaning.specs.Limits.{LoopsWithin}
+use Rattle.meaning.specs.Laws.Bounds.{rounds-are-count}
+use Rattle.syntax.specs.InRange.{OffsetInRange, PlaceInRange, ValueInRange, CommandInRange, AllCounts}
+use Rattle.loops.specs.Laws.Passing.{within-cells, within-command}
 use Rattle.loops.specs.Laws.Literals.{ValueLiterals, CommandLiterals}
 
 -- a row of a word, with a number that question 5 lets be
@@ -62,6 +65,7 @@ operation-word Operation.maximum = omega (arith, words-count)
 loop-word : (kind : LoopKind) → loopWord kind < length words
 loop-word LoopKind.parallel = omega (arith, words-count)
 loop-word LoopKind.sequential = omega (arith, words-count)
+loop-word LoopKind.lanes = omega (arith, words-count)
 
 module _ (K : ℕ) (few : K ≤ 8) where
   offset-fits : (k : ℕ) (o : Offset) → k ≤ 32 → OffsetInRange k o → AllFit (offsetRows o)
@@ -99,7 +103,7 @@ module _ (K : ℕ) (few : K ≤ 8) where
       one-more word-seq 0 _ (omega (arith, words-count)) (omega arith)
       (both (commandRows c) (commandRows d) (command-fits k r c l m (h .0) (g .0)) (command-fits k r d l m (h .1) (g .1)))
   command-fits k r (loop kind n b) l m h g =
-      one-more (loopWord kind) n _ (loop-word kind) (omega (arith, h .0)) (command-fits (k + 1) r b (omega (arith, h .1)) m (h .2) g)
+      one-more (loopWord kind) n _ (loop-word kind) (rounds-are-count kind n (h .0) .1) (command-fits (k + 1) r b (omega (arith, h .1)) m (h .2) g)
   command-fits k r (new n b) l m h g =
       one-more word-new n _ (omega (arith, words-count)) (omega (arith, h .0)) (command-fits k (r + 1) b l (omega (arith, h .1)) (h .2) g)
 
@@ -108,13 +112,13 @@ unfolding allCellsRows
 cells-fit [] h = none
 cells-fit (n ∷ ns) h = one-more word-cells n _ (omega (arith, words-count)) (omega (arith, h .0)) (cells-fit ns (h .1))
 
-loops-fit : (L : Loops) → LoopsInRange L → CommandLiterals (SFits w32) (L .command) → AllFit (loopsRows L)
+loops-fit : (L : Loops) → LoopsWithin L → CommandLiterals (SFits w32) (L .command) → AllFit (loopsRows L)
 unfolding loopsRows
 loops-fit L h g =
     one-more word-loops (length (L .inputs)) _ (omega (arith, words-count)) (omega (arith, h .inputsFew))
-    (both (allCellsRows (L .inputs)) _ (cells-fit (L .inputs) (h .inputCells))
+    (both (allCellsRows (L .inputs)) _ (cells-fit (L .inputs) (within-cells L h))
     (one-more word-cells (L .output) _ (omega (arith, words-count)) (omega (arith, h .outputCells))
-    (command-fits (length (L .inputs)) (h .inputsFew) 0 0 (L .command) (omega arith) (omega arith) (h .command) g)))
+    (command-fits (length (L .inputs)) (h .inputsFew) 0 0 (L .command) (omega arith) (omega arith) (within-command L h) g)))
 
 -- ---- what follows
 
@@ -123,7 +127,7 @@ unfolding Each
 each-is P Q f [] h = tt
 each-is P Q f (r ∷ R) h = (f r (h .0), each-is P Q f R (h .1))
 
-module _ (ws : List (List ℕ)) (good : Good ws) (L : Loops) (h : LoopsInRange L) (g : CommandLiterals (SFits w32) (L .command)) where
+module _ (ws : List (List ℕ)) (good : Good ws) (L : Loops) (h : LoopsWithin L) (g : CommandLiterals (SFits w32) (L .command)) where
   pub loops-printable : Each (Printable ws) (loopsRows L)
   loops-printable =
       each-is Fits (Printable ws)

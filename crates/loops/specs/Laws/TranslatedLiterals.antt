@@ -122,10 +122,10 @@ module _ (P : ℤ → Type 0) (none : P (pos 0)) where
           written = λ Γ Δ c r A g. (k .written Γ Δ c r _ g, l .written Γ Δ c r _ g);
           used = λ Γ Δ c r C g f. k .used Γ Δ c r _ g (λ E s i. l .used Γ Δ c s _ g (λ F q j. f (Expression.pair E F) q (i, j)));
         }
-    keeps (Term.split n e) h =
+    keeps (Term.split series n e) h =
         let k = keeps e h in
         record { written = λ Γ Δ c r A g. k .written Γ Δ c r _ g; used = λ Γ Δ c r C g f. k .used Γ Δ c r _ g (λ E s i. f (Expression.split n E) s i) }
-    keeps (Term.join e) h =
+    keeps (Term.join series e) h =
         let k = keeps e h in
         record { written = λ Γ Δ c r A g. k .written Γ Δ c r _ g; used = λ Γ Δ c r C g f. k .used Γ Δ c r _ g (λ E s i. f (Expression.join _ E) s i) }
     keeps (Term.first e) h =
@@ -140,7 +140,7 @@ module _ (P : ℤ → Type 0) (none : P (pos 0)) where
           written = λ Γ Δ c r A g. k .used Γ Δ c r _ g (λ E s i. assign-literals P _ (Expression.second E) A c s i);
           used = λ Γ Δ c r C g f. k .used Γ Δ c r _ g (λ E s i. f (Expression.second E) s i);
         }
-    keeps (Term.index n e) h =
+    keeps (Term.index series n e) h =
         let k = keeps e h in
         record {
           written = λ Γ Δ c r A g. k .used Γ Δ c r _ g (λ E s i. assign-literals P _ (Expression.index E (Offset.literal n)) A c s i);

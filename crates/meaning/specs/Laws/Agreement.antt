@@ -5,18 +5,20 @@ use Prim.Native.Nat.{ℕ, zero, suc, _*_, _/_, _<_}
 use native.Mathlib.Nat.{zero-add, le-of-suc-le-suc}
 use native.Mathlib.Omega.{arith}
 use lib.ListN.{length, getD}
-use Rattle.meaning.specs.Types.{DataType, arrayLength, element, firstType, secondType, number, array}
-use Rattle.meaning.specs.Terms.{LoopKind, Term}
+use Rattle.meaning.specs.Types.{DataType, Series, arrayLength, element, firstType, secondType, seriesOf, number}
+use Rattle.meaning.specs.Types.{array}
+use Rattle.meaning.specs.Terms.{LoopKind, Term, seriesIn}
 use Rattle.meaning.specs.Typing.{typeOf}
 use Rattle.meaning.specs.Numbers.{NumberDomain}
 use Rattle.meaning.specs.Sequence.{upFrom, inTurn}
 use Rattle.meaning.specs.Values.{Datum, arrayOf, elements, firstOf, secondOf, groups, DatumOf, noDatum}
 use Rattle.meaning.specs.Values.{numberOf, value}
 use Rattle.meaning.specs.Paths.{first, second}
-use Rattle.meaning.specs.Laws.Typing.{IsArray, WellTyped}
+use Rattle.meaning.specs.Laws.Typing.{IsSeries, MayBeIn, WellTyped}
 use Rattle.meaning.specs.Laws.PathValues.{PathValue, noPathValue, elementAt, valueAt}
 use Rattle.meaning.specs.Laws.Represents.{Represents, Elements, represented-elements, represents-map}
 use Rattle.meaning.specs.Laws.Represents.{represents-reduce, represents-zip, represents-split, represents-join}
+use Rattle.meaning.specs.Laws.Represents.{represents-series, represents-elements, represents-groups}
 
 -- X are the inputs' values by paths, Y by lists.
 module _ (𝓝 : NumberDomain) (I : List DataType) (X : ℕ → PathValue 𝓝) (Y : List (DatumOf 𝓝))
@@ -47,23 +49,26 @@ module _ (𝓝 : NumberDomain) (I : List DataType) (X : ℕ → PathValue 𝓝) 
   unfolding Agrees
   agree-as Γ e fs vs t q r = subst (λ t. Represents 𝓝 t (at Γ e fs) (of e vs)) q r
 
-  -- of an array: its elements agree
+  -- of an array or a vector: its elements agree
   agree-elements : (Γ : List DataType) (e : Term) (fs : List (PathValue 𝓝)) (vs : List (DatumOf 𝓝))
-      → IsArray (typeOf I Γ e) → Agrees Γ e fs vs
+      → (series : Series) → IsSeries series (typeOf I Γ e) → Agrees Γ e fs vs
       → Elements 𝓝 (arrayLength (typeOf I Γ e)) (element (typeOf I Γ e)) (at Γ e fs) (elements (of e vs))
   unfolding Agrees
-  agree-elements Γ e fs vs isa r = represented-elements 𝓝 (typeOf I Γ e) (at Γ e fs) (of e vs) isa r
+  agree-elements Γ e fs vs series isa r = represented-elements 𝓝 series (typeOf I Γ e) (at Γ e fs) (of e vs) isa r
 
   agree-map : (Γ : List DataType) (kind : LoopKind) (a b : Term) (fs : List (PathValue 𝓝)) (vs : List (DatumOf 𝓝))
       → Elements 𝓝 (arrayLength (typeOf I Γ a)) (element (typeOf I Γ a)) (at Γ a fs) (elements (of a vs))
       → ((f : PathValue 𝓝) (v : DatumOf 𝓝)
       → Represents 𝓝 (element (typeOf I Γ a)) f v → Agrees (element (typeOf I Γ a) ∷ Γ) b (f ∷ fs) (v ∷ vs))
+      → MayBeIn (seriesIn kind) (typeOf I (element (typeOf I Γ a) ∷ Γ) b)
       → Agrees Γ (Term.map kind a b) fs vs
   unfolding Agrees valueAt value
-  agree-map Γ kind a b fs vs E body =
-      represents-map 𝓝 (arrayLength (typeOf I Γ a)) (typeOf I (element (typeOf I Γ a) ∷ Γ) b)
+  agree-map Γ kind a b fs vs E body fit =
+      represents-series 𝓝 (seriesIn kind) (arrayLength (typeOf I Γ a)) (typeOf I (element (typeOf I Γ a) ∷ Γ) b)
+      (at Γ (Term.map kind a b) fs) (of (Term.map kind a b) vs) fit
+      (represents-map 𝓝 (arrayLength (typeOf I Γ a)) (typeOf I (element (typeOf I Γ a) ∷ Γ) b)
       (at Γ (Term.map kind a b) fs) (λ x. of b (x ∷ vs)) (elements (of a vs)) (E .counted)
-      (λ i l. body (elementAt 𝓝 (at Γ a fs) i) (getD (elements (of a vs)) i (noDatum 𝓝)) (E .each i l))
+      (λ i l. body (elementAt 𝓝 (at Γ a fs) i) (getD (elements (of a vs)) i (noDatum 𝓝)) (E .each i l)))
 
   agree-reduce : (Γ : List DataType) (z a b : Term) (fs : List (PathValue 𝓝)) (vs : List (DatumOf 𝓝))
       → Agrees Γ z fs vs
@@ -88,20 +93,22 @@ module _ (𝓝 : NumberDomain) (I : List DataType) (X : ℕ → PathValue 𝓝) 
       (sym (zero-add j)) (E .each j (omega (arith, E .counted))))
       (at Γ z fs) (of z vs) start)
 
-  agree-split : (Γ : List DataType) (n : ℕ) (e : Term) (fs : List (PathValue 𝓝)) (vs : List (DatumOf 𝓝))
+  agree-split : (Γ : List DataType) (series : Series) (n : ℕ) (e : Term) (fs : List (PathValue 𝓝)) (vs : List (DatumOf 𝓝))
       → arrayLength (typeOf I Γ e) / n * n ≡ arrayLength (typeOf I Γ e)
       → Elements 𝓝 (arrayLength (typeOf I Γ e)) (element (typeOf I Γ e)) (at Γ e fs) (elements (of e vs))
-      → Agrees Γ (Term.split n e) fs vs
+      → MayBeIn series (element (typeOf I Γ e))
+      → Agrees Γ (Term.split series n e) fs vs
   unfolding Agrees valueAt value
-  agree-split Γ n e fs vs q E =
+  agree-split Γ series n e fs vs q E fit =
       let m : ℕ = arrayLength (typeOf I Γ e) / n in
       let t : DataType = element (typeOf I Γ e) in
       let l : List (DatumOf 𝓝) = elements (of e vs) in
       subst
       (λ (j : ℕ).
-      Represents 𝓝 (array m (array n t)) (at Γ (Term.split n e) fs) (arrayOf (groups (j / n) n l)))
+      Represents 𝓝 (array m (seriesOf series n t)) (at Γ (Term.split series n e) fs) (arrayOf (groups (j / n) n l)))
       (sym (E .counted))
-      (represents-split 𝓝 m n t (at Γ e fs) l (subst (λ (j : ℕ). Elements 𝓝 j t (at Γ e fs) l) (sym q) E))
+      (represents-groups 𝓝 series m n t (at Γ (Term.split series n e) fs) (arrayOf (groups m n l)) fit
+      (represents-split 𝓝 m n t (at Γ e fs) l (subst (λ (j : ℕ). Elements 𝓝 j t (at Γ e fs) l) (sym q) E)))
 
   pub value-represented : (Γ : List DataType) (e : Term) → WellTyped I Γ e
       → (fs : List (PathValue 𝓝)) (vs : List (DatumOf 𝓝)) → RepresentsAll Γ fs vs
@@ -118,15 +125,17 @@ module _ (𝓝 : NumberDomain) (I : List DataType) (X : ℕ → PathValue 𝓝) 
       (agree-as Γ e fs vs number (h .2) (value-represented Γ e (h .0) fs vs E))
       (agree-as Γ f fs vs number (h .3) (value-represented Γ f (h .1) fs vs E))
   value-represented Γ (Term.map kind a b) h fs vs E =
-      agree-map Γ kind a b fs vs (agree-elements Γ a fs vs (h .1) (value-represented Γ a (h .0) fs vs E))
+      agree-map Γ kind a b fs vs
+      (agree-elements Γ a fs vs (seriesIn kind) (h .1) (value-represented Γ a (h .0) fs vs E))
       (λ f v r.
       value-represented (element (typeOf I Γ a) ∷ Γ) b (h .2) (f ∷ fs) (v ∷ vs)
       (represents-push Γ fs vs (element (typeOf I Γ a)) f v E r))
+      (h .3)
   value-represented Γ (Term.reduce z a b) h fs vs E =
       let s : DataType = element (typeOf I Γ a) in
       let t : DataType = typeOf I Γ z in
       agree-reduce Γ z a b fs vs (value-represented Γ z (h .0) fs vs E)
-      (agree-elements Γ a fs vs (h .2) (value-represented Γ a (h .1) fs vs E))
+      (agree-elements Γ a fs vs Series.arrays (h .2) (value-represented Γ a (h .1) fs vs E))
       (λ f g v x r q.
       agree-as (t ∷ s ∷ Γ) b (f ∷ g ∷ fs) (v ∷ x ∷ vs) t (h .4)
       (value-represented (t ∷ s ∷ Γ) b (h .3) (f ∷ g ∷ fs) (v ∷ x ∷ vs)
@@ -136,19 +145,26 @@ module _ (𝓝 : NumberDomain) (I : List DataType) (X : ℕ → PathValue 𝓝) 
       let s : DataType = element (typeOf I Γ a) in
       let t : DataType = element (typeOf I Γ b) in
       represents-zip 𝓝 n s t (at Γ a fs) (at Γ b fs) (elements (of a vs)) (elements (of b vs))
-      (agree-elements Γ a fs vs (h .2) (value-represented Γ a (h .0) fs vs E))
+      (agree-elements Γ a fs vs Series.arrays (h .2) (value-represented Γ a (h .0) fs vs E))
       (subst (λ (m : ℕ). Elements 𝓝 m t (at Γ b fs) (elements (of b vs))) (sym (h .4))
-      (agree-elements Γ b fs vs (h .3) (value-represented Γ b (h .1) fs vs E)))
+      (agree-elements Γ b fs vs Series.arrays (h .3) (value-represented Γ b (h .1) fs vs E)))
   value-represented Γ (Term.pair a b) h fs vs E =
       (of a vs, of b vs, refl, value-represented Γ a (h .0) fs vs E, value-represented Γ b (h .1) fs vs E)
-  value-represented Γ (Term.split n e) h fs vs E =
-      agree-split Γ n e fs vs (h .2) (agree-elements Γ e fs vs (h .1) (value-represented Γ e (h .0) fs vs E))
-  value-represented Γ (Term.join e) h fs vs E =
+  value-represented Γ (Term.split series n e) h fs vs E =
+      agree-split Γ series n e fs vs (h .2)
+      (agree-elements Γ e fs vs Series.arrays (h .1) (value-represented Γ e (h .0) fs vs E)) (h .4)
+  value-represented Γ (Term.join series e) h fs vs E =
       let m : ℕ = arrayLength (typeOf I Γ e) in
       let n : ℕ = arrayLength (element (typeOf I Γ e)) in
       represents-join 𝓝 m n (element (element (typeOf I Γ e))) (at Γ e fs) (elements (of e vs))
-      (subst (λ (t : DataType). Elements 𝓝 m t (at Γ e fs) (elements (of e vs))) (h .2)
-      (agree-elements Γ e fs vs (h .1) (value-represented Γ e (h .0) fs vs E)))
+      (let E : Elements 𝓝 m (element (typeOf I Γ e)) (at Γ e fs) (elements (of e vs)) =
+      agree-elements Γ e fs vs Series.arrays (h .1) (value-represented Γ e (h .0) fs vs E) in
+      record {
+        counted = E .counted;
+        each = λ i l.
+            represents-elements 𝓝 series (element (typeOf I Γ e)) (elementAt 𝓝 (at Γ e fs) i)
+            (getD (elements (of e vs)) i (noDatum 𝓝)) (h .2) (E .each i l);
+      })
   value-represented Γ (Term.first e) h fs vs E =
       let t : DataType = firstType (typeOf I Γ e) in
       let both : DataType = DataType.pair t (secondType (typeOf I Γ e)) in
@@ -159,5 +175,5 @@ module _ (𝓝 : NumberDomain) (I : List DataType) (X : ℕ → PathValue 𝓝) 
       let both : DataType = DataType.pair (firstType (typeOf I Γ e)) t in
       let q = agree-as Γ e fs vs both (h .1) (value-represented Γ e (h .0) fs vs E) in
       subst (λ (v : DatumOf 𝓝). Represents 𝓝 t (λ p. at Γ e fs (second ∷ p)) v) (sym (ap secondOf (q .2))) (q .4)
-  value-represented Γ (Term.index k e) h fs vs E =
-      agree-elements Γ e fs vs (h .1) (value-represented Γ e (h .0) fs vs E) .each k (h .2)
+  value-represented Γ (Term.index series k e) h fs vs E =
+      agree-elements Γ e fs vs series (h .1) (value-represented Γ e (h .0) fs vs E) .each k (h .2)

@@ -23,7 +23,7 @@ visit-of-way : (way visit rest : List ℕ) → visitAfter (visitAfter way visit)
 visit-of-way [] visit rest = refl
 visit-of-way (i ∷ way) visit rest = visit-of-way way (i ∷ visit) rest
 
--- The order that a choice takes at the end of a way, n being the rounds of the `par` there; elsewhere the rising one
+-- The order that a choice takes at the end of a way, n being the rounds of the `par` or `lanes` there; elsewhere the rising one
 
 abbrev orderIf : (m n : ℕ) → Dec (m ≡ n) → Order LoopKind.parallel m → List ℕ
 orderIf m n (yes e) o = o .0
@@ -36,6 +36,7 @@ orderAt (seq c d) ch (zero ∷ way) n = orderAt c (ch .0) way n
 orderAt (seq c d) ch (suc i ∷ way) n = orderAt d (ch .1) way n
 orderAt (loop LoopKind.parallel m b) ch [] n = orderIf m n (ℕ-discrete m n) (ch .0)
 orderAt (loop LoopKind.sequential m b) ch [] n = upFrom 0 n
+orderAt (loop LoopKind.lanes m b) ch [] n = orderIf m n (ℕ-discrete m n) (ch .0)
 orderAt (loop kind m b) ch (i ∷ way) n = orderAt b (ch .1 i) way n
 orderAt (new c b) ch way n = orderAt b ch way n
 
@@ -54,8 +55,10 @@ order-fair (seq c d) ch (zero ∷ way) n = order-fair c (ch .0) way n
 order-fair (seq c d) ch (suc i ∷ way) n = order-fair d (ch .1) way n
 order-fair (loop LoopKind.parallel m b) ch [] n = if-fair m n (ℕ-discrete m n) (ch .0)
 order-fair (loop LoopKind.sequential m b) ch [] n = Permᴰ·refl (upFrom 0 n)
+order-fair (loop LoopKind.lanes m b) ch [] n = if-fair m n (ℕ-discrete m n) (ch .0)
 order-fair (loop LoopKind.parallel m b) ch (i ∷ way) n = order-fair b (ch .1 i) way n
 order-fair (loop LoopKind.sequential m b) ch (i ∷ way) n = order-fair b (ch .1 i) way n
+order-fair (loop LoopKind.lanes m b) ch (i ∷ way) n = order-fair b (ch .1 i) way n
 order-fair (new c b) ch way n = order-fair b ch way n
 
 -- the arbiter that names at each visit the order that the choice takes there
@@ -103,6 +106,15 @@ module _ (𝓝 : NumberDomain) where
       run-by-same π b (ch .1 i) (i ∷ visit) (λ way k. same (i ∷ way) k) (withCounter i ρ)
       (roundRoom a LoopKind.sequential n b i) x)
       st
+  run-by-same π (loop LoopKind.lanes n b) ch visit same ρ a st =
+      let F : ℕ → State 𝓝 → State 𝓝 =
+      λ i. runBy 𝓝 π b (i ∷ visit) (withCounter i ρ) (roundRoom a LoopKind.lanes n b i) in
+      same-rounds (ch .0 .0) (λ i. run 𝓝 b (ch .1 i) (withCounter i ρ) (roundRoom a LoopKind.lanes n b i)) F
+      (λ i x.
+      run-by-same π b (ch .1 i) (i ∷ visit) (λ way k. same (i ∷ way) k) (withCounter i ρ)
+      (roundRoom a LoopKind.lanes n b i) x)
+      st
+      ∙ ap (λ (is : List ℕ). inTurn is F st) (sym (same [] n ∙ if-same n (ℕ-discrete n n) (ch .0)))
   run-by-same π (new c b) ch visit same ρ a st =
       run-by-same π b ch visit same (withRegion (regionRoom a c b) ρ) (bodyRoom a c b) st
 
@@ -115,7 +127,7 @@ module _ (𝓝 : NumberDomain) where
       ap (λ (w : List ℕ). orderAt c ch w n) (visit-of-way way [] [] ∙ append-nil way))
       ρ a st
 
-  -- The run in which every `par` takes the order named.
+  -- The run in which every `par` and every `lanes` takes the order named.
   pub run-by-name : (o : (n : ℕ) → Order LoopKind.parallel n) (c : Command) (visit : List ℕ)
       → (ρ : Environment) (a : ℕ) (st : State 𝓝)
       → run 𝓝 c (always o c) ρ a st ≡ runBy 𝓝 (λ v n. o n .0) c visit ρ a st
@@ -136,6 +148,12 @@ module _ (𝓝 : NumberDomain) where
       (λ i. run 𝓝 b (always o b) (withCounter i ρ) (roundRoom a LoopKind.sequential n b i))
       (λ i. runBy 𝓝 (λ v n. o n .0) b (i ∷ visit) (withCounter i ρ) (roundRoom a LoopKind.sequential n b i))
       (λ i x. run-by-name o b (i ∷ visit) (withCounter i ρ) (roundRoom a LoopKind.sequential n b i) x)
+      st
+  run-by-name o (loop LoopKind.lanes n b) visit ρ a st =
+      same-rounds (o n .0)
+      (λ i. run 𝓝 b (always o b) (withCounter i ρ) (roundRoom a LoopKind.lanes n b i))
+      (λ i. runBy 𝓝 (λ v n. o n .0) b (i ∷ visit) (withCounter i ρ) (roundRoom a LoopKind.lanes n b i))
+      (λ i x. run-by-name o b (i ∷ visit) (withCounter i ρ) (roundRoom a LoopKind.lanes n b i) x)
       st
   run-by-name o (new c b) visit ρ a st =
       run-by-name o b visit (withRegion (regionRoom a c b) ρ) (bodyRoom a c b) st

@@ -4,20 +4,21 @@ use mathlib.Core.List.{List, _∷_}
 use Prim.Native.Nat.{ℕ, suc}
 use native.Mathlib.Omega.{arith}
 use lib.ListN.{length}
-use Rattle.meaning.specs.Types.{DataType, cells, number, array}
+use Rattle.meaning.specs.Types.{DataType, cells, number, array, vector}
 use Rattle.meaning.specs.Terms.{LoopKind}
 use Rattle.meaning.specs.Loops.{Offset, Command}
 use Rattle.meaning.specs.Layout.{firstRoom, secondRoom, roundRoom}
 use Rattle.meaning.specs.Runs.{Orders, run}
 use Rattle.meaning.specs.Paths.{Path, first}
 use Rattle.meaning.specs.Expressions.{Expression, Acceptor}
-use Rattle.meaning.specs.Translation.{assign}
+use Rattle.meaning.specs.Translation.{assignNumber, assign}
 use Rattle.meaning.specs.Laws.Layout.{outside-none}
+use Rattle.meaning.specs.Laws.Paths.{same-sym, same-vector}
 use Rattle.meaning.specs.Laws.Levels.{extends-refl, extends-push}
 use Rattle.meaning.specs.Laws.Holds.{Setting, StateOf, Contents, environment, CellSet, Holds, innermost-counter}
-use Rattle.meaning.specs.Laws.Holds.{holds-on, holds-index, holds-first, holds-second}
-use Rattle.meaning.specs.Laws.Into.{Into, into-on, into-index, into-first, into-second}
-use Rattle.meaning.specs.Laws.Wrote.{Wrote, set-wrote, pair-wrote}
+use Rattle.meaning.specs.Laws.Holds.{holds-on, holds-same, holds-index, holds-first, holds-second}
+use Rattle.meaning.specs.Laws.Into.{Into, into-on, into-same, into-index, into-first, into-second}
+use Rattle.meaning.specs.Laws.Wrote.{Wrote, wrote-same, set-wrote, pair-wrote}
 use Rattle.meaning.specs.Laws.Rounds.{loop-wrote}
 
 -- It opens no region: of the cells from b on it changes none.
@@ -56,3 +57,20 @@ assign-wrote (DataType.pair s t) {W} {E} {P} {f} {g} {cs} {rs} {S} a b st h k ch
     (λ x sx. sx)))
     (into-second (into-on k (extends-refl cs) (extends-refl rs) (omega (arith, H .sameLength)) (k .apart)))
     (ch .1))
+assign-wrote (vector w) {W} {E} {P} {f} {g} {cs} {rs} {S} a b st h k ch =
+    let c : Offset = Offset.counter (length cs) in
+    let body : Command = assignNumber (Expression.index E c) (Acceptor.index P c) (suc (length cs)) (length rs) in
+    let h′ : Holds W cs rs (st .store) S E (array w number) f = holds-same (same-vector w) h in
+    let k′ : Into W cs rs P (array w number) g S (length (st .store)) = into-same (same-vector w) k in
+    wrote-same (same-sym (same-vector w)) (omega arith)
+    (loop-wrote W w number g f b 0 1 (k′ .distinct) (λ p ok. outside-none b (g p)) S (st .store) (k′ .apart refl)
+    (λ x sx. outside-none b x)
+    (λ i. run (W .domain) body (ch .1 i) (environment W (i ∷ cs) rs) (roundRoom a LoopKind.lanes w body i))
+    (λ i l st₁ ag ln.
+    set-wrote {L = length (st₁ .store)} (roundRoom a LoopKind.lanes w body i) b st₁
+    (holds-index c i (holds-on h′ (extends-push i cs) (extends-refl rs) ag (λ x sx. sx)) (innermost-counter i cs) l)
+    (into-index c i (innermost-counter i cs) l
+    (into-on k′ (extends-push i cs) (extends-refl rs) (omega arith) (k′ .apart)))
+    (omega arith)
+    (ch .1 i))
+    LoopKind.lanes (ch .0) st (λ x sx. refl) refl)

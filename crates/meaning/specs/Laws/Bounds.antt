@@ -1,16 +1,19 @@
 -- Bounds: the offset of a path whose indices are in range is in range, and its bound is below the cells of the type.
 use mathlib.Core.Path.{_≡_, refl, sym, ap, ap₂, _∙_, subst}
+use mathlib.Core.Logic.{⊎-elim}
 use mathlib.Core.List.{List, [], _∷_}
 use Prim.Native.Nat.{ℕ, _+_, _*_, _-_, _/_, _≤_, _<_, min}
 use native.Mathlib.Nat.{mul-le-mul-right, mul-comm, one-mul, div-le-self}
 use native.Mathlib.Omega.{arith}
 use lib.ListN.{length}
-use Rattle.meaning.specs.Types.{DataType, cells, arrayLength, element, number, array}
+use Rattle.meaning.specs.Types.{DataType, Series, cells, arrayLength, element, seriesOf, number, array, vector}
+use Rattle.meaning.specs.Terms.{LoopKind, seriesIn}
 use Rattle.meaning.specs.Loops.{Offset, plus, times, over, rest}
 use Rattle.meaning.specs.Paths.{Path, index, first, second}
 use Rattle.meaning.specs.Offsets.{summands, sumOnto, sumOf, offsetOf, offsetFromInnermost}
-use Rattle.meaning.specs.Limits.{IsCount, bound, counterBound, OffsetPasses, OffsetFits, CellsWithin}
-use Rattle.meaning.specs.Laws.Typing.{IsArray}
+use Rattle.meaning.specs.Limits.{IsCount, IsWidth, RoundsInRange, bound, counterBound, OffsetPasses}
+use Rattle.meaning.specs.Limits.{OffsetFits, CellsWithin}
+use Rattle.meaning.specs.Laws.Typing.{IsSeries, MayBeIn}
 use Rattle.meaning.specs.Laws.Groups.{group-below, quotient-below}
 use Rattle.meaning.specs.Laws.Paths.{PathOf, cellOf, cellOf-below}
 use Rattle.meaning.specs.Laws.Evaluation.{pathBy, Additive, totalBy, summands-total, offset-is-cell}
@@ -55,6 +58,18 @@ fits-from-innermost ns o n h =
 
 -- Sizes within the limits
 
+pub width-is-count : (w : ℕ) → IsWidth w → IsCount w
+width-is-count w h =
+    ⊎-elim (λ e. (omega arith, omega arith))
+    (⊎-elim (λ e. (omega arith, omega arith)) (⊎-elim (λ e. (omega arith, omega arith)) (λ e. (omega arith, omega arith))))
+    h
+
+-- the rounds of a loop
+pub rounds-are-count : (kind : LoopKind) (n : ℕ) → RoundsInRange kind n → IsCount n
+rounds-are-count LoopKind.parallel n h = h
+rounds-are-count LoopKind.sequential n h = h
+rounds-are-count LoopKind.lanes n h = width-is-count n h
+
 pub cells-positive : (t : DataType) → CellsWithin t → 1 ≤ cells t
 cells-positive number f = omega arith
 cells-positive (array n t) f =
@@ -63,11 +78,13 @@ cells-positive (array n t) f =
     let k = cells-positive t (f .2) in
     omega arith
 cells-positive (DataType.pair s t) f = let h = cells-positive s (f .1) in omega arith
+cells-positive (vector w) f = width-is-count w f .0
 
 pub cells-within : (t : DataType) → CellsWithin t → cells t ≤ 4096
 cells-within number f = omega arith
 cells-within (array n t) f = f .1
 cells-within (DataType.pair s t) f = f .0
+cells-within (vector w) f = width-is-count w f .1
 
 pub length-within : (n : ℕ) (t : DataType) → CellsWithin (array n t) → n ≤ 4096
 length-within n t f =
@@ -97,6 +114,10 @@ PathWithin ns (DataType.pair s t) [] = ⊥
 PathWithin ns (DataType.pair s t) (index i ∷ p) = ⊥
 PathWithin ns (DataType.pair s t) (first ∷ p) = PathWithin ns s p
 PathWithin ns (DataType.pair s t) (second ∷ p) = PathWithin ns t p
+PathWithin ns (vector w) [] = ⊥
+PathWithin ns (vector w) (index o ∷ p) = OffsetFits (length ns) (levelBound ns) o w × PathWithin ns number p
+PathWithin ns (vector w) (first ∷ p) = ⊥
+PathWithin ns (vector w) (second ∷ p) = ⊥
 
 pub within-array : (ns : List ℕ) (n : ℕ) (t : DataType) (B : Path Offset → Type 0)
     → ((o : Offset) (p : Path Offset)
@@ -116,15 +137,70 @@ within-pair ns s t B h k (index o ∷ p) i = absurd i
 within-pair ns s t B h k (first ∷ p) i = h p i
 within-pair ns s t B h k (second ∷ p) i = k p i
 
+-- Two types that the same paths lead into, as in `Laws.Paths`
+pub record SameWithin (s t : DataType) : Type 0 where
+  pub to : (ns : List ℕ) (p : Path Offset) → PathWithin ns s p → PathWithin ns t p
+  pub from : (ns : List ℕ) (p : Path Offset) → PathWithin ns t p → PathWithin ns s p
+
+within-refl : (t : DataType) → SameWithin t t
+within-refl t = record { to = λ ns p i. i; from = λ ns p i. i }
+
+pub within-sym : {s t : DataType} → SameWithin s t → SameWithin t s
+within-sym h = record { to = h .from; from = h .to }
+
+pub within-vector : (w : ℕ) → SameWithin (vector w) (array w number)
+within-vector w = record { to = to; from = from }
+  where
+    to : (ns : List ℕ) (p : Path Offset) → PathWithin ns (vector w) p → PathWithin ns (array w number) p
+    to ns [] i = i
+    to ns (index o ∷ p) i = i
+    to ns (first ∷ p) i = i
+    to ns (second ∷ p) i = i
+
+    from : (ns : List ℕ) (p : Path Offset) → PathWithin ns (array w number) p → PathWithin ns (vector w) p
+    from ns [] i = i
+    from ns (index o ∷ p) i = i
+    from ns (first ∷ p) i = i
+    from ns (second ∷ p) i = i
+
+pub within-groups : (m : ℕ) {s t : DataType} → SameWithin s t → SameWithin (array m s) (array m t)
+within-groups m {s} {t} h = record {
+  to = λ ns. within-array ns m s (λ p. PathWithin ns (array m t) p) (λ o p l i. (l, h .to ns p i));
+  from = λ ns. within-array ns m t (λ p. PathWithin ns (array m s) p) (λ o p l i. (l, h .from ns p i));
+}
+
+pub within-series : (series : Series) (n : ℕ) (t : DataType) → MayBeIn series t → SameWithin (seriesOf series n t) (array n t)
+within-series Series.arrays n t h = within-refl (array n t)
+within-series Series.vectors n t h =
+    subst (λ (s : DataType). SameWithin (vector n) (array n s)) (sym h) (within-vector n)
+
+pub within-elements : (series : Series) (t : DataType) → IsSeries series t
+    → SameWithin t (array (arrayLength t) (element t))
+within-elements series t h =
+    subst (λ (s : DataType). SameWithin s (array (arrayLength s) (element s))) (sym h)
+    (go series (arrayLength t) (element t))
+  where
+    go : (series : Series) (n : ℕ) (t : DataType)
+        → SameWithin (seriesOf series n t) (array (arrayLength (seriesOf series n t)) (element (seriesOf series n t)))
+    go Series.arrays n t = within-refl (array n t)
+    go Series.vectors n t = within-vector n
+
+number-within-path : (ns : List ℕ) (p : Path Offset)
+    → PathWithin ns number p → PathOf number (pathBy (boundUnder ns) p)
+number-within-path ns [] i = tt
+number-within-path ns (x ∷ p) i = absurd i
+
 within-path : (ns : List ℕ) (t : DataType) (p : Path Offset) → PathWithin ns t p → PathOf t (pathBy (boundUnder ns) p)
-within-path ns number [] i = tt
-within-path ns number (x ∷ p) i = absurd i
+within-path ns number p i = number-within-path ns p i
 within-path ns (array n t) p i =
     within-array ns n t (λ r. PathOf (array n t) (pathBy (boundUnder ns) r))
     (λ o r h k. (h .1, within-path ns t r k)) p i
 within-path ns (DataType.pair s t) p i =
     within-pair ns s t (λ r. PathOf (DataType.pair s t) (pathBy (boundUnder ns) r)) (λ r k. within-path ns s r k)
     (λ r k. within-path ns t r k) p i
+within-path ns (vector w) p i =
+    within-array ns w number (λ r. PathOf (vector w) (pathBy (boundUnder ns) r))
+    (λ o r h k. (h .1, number-within-path ns r k)) p (within-vector w .to ns p i)
 
 -- The offset of such a path is in range, and its bound is a cell of the type
 
@@ -163,6 +239,12 @@ summands-pass ns (DataType.pair s t) p f i =
     (λ r k. summands-pass ns s r (f .1) k)
     (λ r k. (omega arith, summands-pass ns t r (f .2) k))
     p i
+summands-pass ns (vector w) p f i =
+    let count : IsCount w = width-is-count w f in
+    let most = count .1 in
+    within-array ns w number (λ r. AllPass (length ns) (levelBound ns) (summands (vector w) r))
+    (λ o r h k. let l = h .1 in ((h .0, (omega arith, omega arith), omega arith), tt))
+    p (within-vector w .to ns p i)
 
 pub offset-fits : (ns : List ℕ) (t : DataType) (p : Path Offset)
     → CellsWithin t → PathWithin ns t p → OffsetFits (length ns) (levelBound ns) (offsetOf t p) (cells t)
@@ -195,8 +277,8 @@ flat-fits k c m n e count all a =
     let smaller = div-le-self (bound c e) n in
     (((a .0, count, omega arith), quotient-below (bound c e) m n l), ((a .0, count, omega arith), omega arith))
 
-pub groups-within : (m n : ℕ) (t : DataType) → CellsWithin (array m (array n t)) → m * n ≤ 4096
-groups-within m n t f =
+array-groups-within : (m n : ℕ) (t : DataType) → CellsWithin (array m (array n t)) → m * n ≤ 4096
+array-groups-within m n t f =
     let a : 1 * n ≤ cells t * n = mul-le-mul-right n (cells-positive t (f .2 .2)) in
     let b : n ≤ n * cells t = (let e = one-mul n in let c = mul-comm (cells t) n in omega arith) in
     let c : n * m ≤ n * cells t * m = mul-le-mul-right m b in
@@ -204,6 +286,12 @@ groups-within m n t f =
     let e = mul-comm (n * cells t) m in
     let l = f .1 in
     omega arith
+
+-- how many groups, and of how many elements: arrays, or vectors
+pub groups-within : (series : Series) (m n : ℕ) (t : DataType) → CellsWithin (array m (seriesOf series n t))
+    → IsCount n × (m * n ≤ 4096)
+groups-within Series.arrays m n t f = ((f .2 .0, length-within n t (f .2)), array-groups-within m n t f)
+groups-within Series.vectors m n t f = (width-is-count n (f .2), f .1)
 
 -- an offset into n elements, under all further loops
 abbrev pub IndexFits : List ℕ → Offset → ℕ → Type 0
@@ -216,7 +304,17 @@ counter-fits n ns count ns′ e =
     let most = count .1 in
     ((omega (arith, e .longer), omega arith), omega arith)
 
-pub length-is-count : (t : DataType) → IsArray t → CellsWithin t → IsCount (arrayLength t)
-length-is-count t isa f =
-    let g : CellsWithin (array (arrayLength t) (element t)) = subst (λ (x : DataType). CellsWithin x) isa f in
-    (g .0, length-within (arrayLength t) (element t) g)
+pub length-is-count : (series : Series) (t : DataType) → IsSeries series t → CellsWithin t → IsCount (arrayLength t)
+length-is-count series t isa f =
+    go series (arrayLength t) (element t) (subst (λ (x : DataType). CellsWithin x) isa f)
+  where
+    go : (series : Series) (n : ℕ) (t : DataType) → CellsWithin (seriesOf series n t) → IsCount n
+    go Series.arrays n t g = (g .0, length-within n t g)
+    go Series.vectors n t g = width-is-count n g
+
+-- the rounds of a map are in range
+pub rounds-in-range : (kind : LoopKind) (t : DataType) → IsSeries (seriesIn kind) t → CellsWithin t
+    → RoundsInRange kind (arrayLength t)
+rounds-in-range LoopKind.parallel t isa f = length-is-count Series.arrays t isa f
+rounds-in-range LoopKind.sequential t isa f = length-is-count Series.arrays t isa f
+rounds-in-range LoopKind.lanes t isa f = subst (λ (x : DataType). CellsWithin x) isa f

@@ -8,7 +8,7 @@ use native.Mathlib.Nat.{le-of-suc-le-suc, mul-comm, mul-le-mul-right}
 use native.Mathlib.Omega.{arith}
 use lib.ListN.{length, getD, take, drop, length-map}
 use lib.Seq.{take-add, drop-drop, drop-cons}
-use Rattle.meaning.specs.Types.{DataType, cells, number, array}
+use Rattle.meaning.specs.Types.{DataType, cells, number, array, vector}
 use Rattle.meaning.specs.Numbers.{NumberDomain}
 use Rattle.meaning.specs.Sequence.{upFrom}
 use Rattle.meaning.specs.Values.{Datum, ofList, flatten, flattenAll, DatumOf, noNumber, noDatum}
@@ -62,6 +62,15 @@ module _ (𝓝 : NumberDomain) where
     datum-represented t₁ s b,
     counted-on t₂ s b (cells t₁) (datumAt 𝓝 t₂ s (b + cells t₁)) (datum-represented t₂ s (b + cells t₁)),
   )
+  datum-represented (vector w) s b =
+      let d : ℕ → DatumOf 𝓝 = λ i. Datum.number (cell 𝓝 s (b + i)) in (
+        map d (upFrom 0 w),
+        refl,
+        length-map (upFrom 0 w) d ∙ upFrom-length 0 w,
+        λ i l.
+            getD-map d (upFrom 0 w) i (noDatum 𝓝) 0 (omega (arith, upFrom-length 0 w))
+            ∙ ap (λ (x : ℕ). Datum.number (cell 𝓝 s (b + x))) (getD-upFrom 0 w i 0 l ∙ omega arith),
+      )
 
   pub inputs-represented : (I : List DataType) (b : ℕ) (s : Store 𝓝) (k : ℕ) → k < length I
       → Represents 𝓝 (getD I k number)
@@ -117,6 +126,17 @@ module _ (𝓝 : NumberDomain) where
       ∙ flat-value t₂ (λ p. f (second ∷ p)) (r .1) s (b + cells t₁) (r .4)
       (λ p ok. ap (cell 𝓝 s) (add-assoc b (cells t₁) (cellOf t₂ p)) ∙ h (second ∷ p) ok) (omega arith))
       ∙ sym (ap flatten (r .2))
+  flat-value (vector w) f v s b r h l =
+      let e : length (r .0) * 1 ≡ w = omega (arith, r .2) in
+      ap (λ (m : ℕ). take m (drop b s)) (sym e)
+      ∙ flat-list 1 s (r .0) b
+      (λ j lj.
+      let lj′ : j < w = omega (arith, r .2) in
+      ap (take 1) (drop-cons s (b + 1 * j) (noNumber 𝓝) (omega arith))
+      ∙ ap (λ (x : 𝓝 .Number). x ∷ [])
+      (ap (cell 𝓝 s) (omega arith) ∙ h (index j ∷ []) (lj′, tt))
+      ∙ sym (ap flatten (r .3 j lj′)))
+      ∙ sym (ap flatten (r .1))
 
   -- so a value read from cells, laid into cells, is those cells again
   pub read-flattened : (t : DataType) (s : Store 𝓝) (b : ℕ)

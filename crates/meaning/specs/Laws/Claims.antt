@@ -15,13 +15,13 @@ use Rattle.meaning.specs.Expressions.{Expression, Acceptor}
 use Rattle.meaning.specs.Translation.{assign, Write, Use, noExpression}
 use Rattle.meaning.specs.Laws.Layout.{Inside, Outside, Part, part-refl, part-trans, inside-part, outside-part}
 use Rattle.meaning.specs.Laws.Layout.{not-both}
-use Rattle.meaning.specs.Laws.Paths.{PathOf}
+use Rattle.meaning.specs.Laws.Paths.{PathOf, SamePaths, same-sym}
 use Rattle.meaning.specs.Laws.Levels.{Extends, extends-refl, extends-trans}
 use Rattle.meaning.specs.Laws.PathValues.{noPathValue}
 use Rattle.meaning.specs.Laws.Holds.{Setting, StoreOf, StateOf, Contents, cellAt, environment, CellSet, Agree}
-use Rattle.meaning.specs.Laws.Holds.{Holds, holds-on}
-use Rattle.meaning.specs.Laws.Into.{Into, into-on}
-use Rattle.meaning.specs.Laws.Wrote.{Wrote}
+use Rattle.meaning.specs.Laws.Holds.{Holds, holds-on, holds-same}
+use Rattle.meaning.specs.Laws.Into.{Into, into-on, into-same}
+use Rattle.meaning.specs.Laws.Wrote.{Wrote, wrote-same}
 use Rattle.meaning.specs.Laws.Assign.{assign-wrote}
 
 -- What a command finds as its run begins: the inputs' and the variables' expressions hold their values, relying on
@@ -254,6 +254,18 @@ module _ {W : Setting} {Γ : List DataType} where
       (keeps cs rs₂ (st₂ .store) S₂ E F (F₁ env) (F₂ env) (holds-after (H₁ .holds) (H₁ .free) H₂) (H₂ .holds))))
       ch′))
       ch
+
+  -- in another type that the same paths lead into
+  pub uses-same : (useE : Use) (t t′ : DataType) (k : ℕ) (F : List (Contents W) → Contents W)
+      → SamePaths t t′ → UsesRightly W useE Γ t k F → UsesRightly W useE Γ t′ k F
+  uses-same useE t t′ k F same uses =
+      use-one useE t t′ k F (λ E. E) (λ f. f) (λ cs rs s S E f h. holds-same same h) uses
+
+  pub writes-same : (writeE : Write) (t t′ : DataType) (k : ℕ) (F : List (Contents W) → Contents W)
+      → SamePaths t t′ → WritesRightly W writeE Γ t k F → WritesRightly W writeE Γ t′ k F
+  writes-same writeE t t′ k F same writes Δ env cs rs S a st P g G I clear ch =
+      wrote-same same refl
+      (writes Δ env cs rs S a st P g G (into-same (same-sym same) I) (λ p ok. clear p (same .to p ok)) ch)
 
   -- a use, then an assignment of what was used
   pub assign-used : (useE : Use) (t : DataType) (k : ℕ) (F : List (Contents W) → Contents W)

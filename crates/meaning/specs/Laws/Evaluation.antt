@@ -5,11 +5,11 @@ use mathlib.Core.List.{List, [], _∷_}
 use Prim.Native.Nat.{ℕ, _+_, _*_, _<_}
 use native.Mathlib.Nat.{add-assoc}
 use native.Mathlib.Omega.{arith}
-use Rattle.meaning.specs.Types.{DataType, cells, number, array}
+use Rattle.meaning.specs.Types.{DataType, cells, number, array, vector}
 use Rattle.meaning.specs.Loops.{Offset, plus, times}
 use Rattle.meaning.specs.Paths.{Path, index, first, second}
 use Rattle.meaning.specs.Offsets.{summands, sumOnto, sumOf, offsetOf}
-use Rattle.meaning.specs.Laws.Paths.{PathOf, cellOf}
+use Rattle.meaning.specs.Laws.Paths.{PathOf, cellOf, same-vector}
 
 -- Paths of offsets, and the paths of numbers that they come to
 
@@ -74,6 +74,10 @@ module _ (ev : Offset → ℕ) (add : Additive ev) where
       (λ r k. summands-total s r k)
       (λ r k. ap₂ _+_ (add .ofLiteral (cells s)) (summands-total t r k))
       p ok
+  summands-total (vector w) p ok =
+      along-array ev w number (λ r. totalBy ev (summands (vector w) r) ≡ cellOf (vector w) (pathBy ev r))
+      (λ o r h k. ap₂ _+_ (add .ofTimes 1 o) refl)
+      p (same-vector w .to (pathBy ev p) ok)
 
   -- the offset of a path is its cell
   pub offset-is-cell : (t : DataType) (p : Path Offset)

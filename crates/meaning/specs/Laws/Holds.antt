@@ -14,7 +14,7 @@ use Rattle.meaning.specs.Paths.{Path, tail, byPart, index, first, second
 use Rattle.meaning.specs.Expressions.{Expression}
 use Rattle.meaning.specs.Offsets.{readAt}
 use Rattle.meaning.specs.Laws.Groups.{group-below, quotient-below, remainder-below}
-use Rattle.meaning.specs.Laws.Paths.{PathOf, cellOf, flatPath, groupPath, unzippedPath}
+use Rattle.meaning.specs.Laws.Paths.{PathOf, SamePaths, cellOf, flatPath, groupPath, unzippedPath}
 use Rattle.meaning.specs.Laws.Evaluation.{along-array, along-pair, offset-is-cell}
 use Rattle.meaning.specs.Laws.Levels.{atLevel, Extends, extends-trans, level-top, numberUnder, pathUnder}
 use Rattle.meaning.specs.Laws.Levels.{number-additive}
@@ -88,6 +88,14 @@ pub holds-on : {W : Setting} {cs rs cs′ rs′ : List ℕ} {s s′ : StoreOf W}
 holds-on h ec er ag sub = record {
   read = λ cs″ rs″ s″ ec′ er′ ag′ p ok.
       h .read cs″ rs″ s″ (extends-trans ec ec′) (extends-trans er er′) (λ x k. ag′ x (sub x k) ∙ ag x k) p ok;
+}
+
+-- in another type that the same paths lead into
+pub holds-same : {W : Setting} {cs rs : List ℕ} {s : StoreOf W} {S : CellSet} {E : Expression} {t t′ : DataType}
+    {f : Contents W}
+    → SamePaths t t′ → Holds W cs rs s S E t f → Holds W cs rs s S E t′ f
+holds-same same h = record {
+  read = λ cs′ rs′ s′ ec er ag p ok. h .read cs′ rs′ s′ ec er ag p (same .from (pathUnder cs′ p) ok);
 }
 
 module _ {W : Setting} {cs rs : List ℕ} {s : StoreOf W} {S : CellSet} where

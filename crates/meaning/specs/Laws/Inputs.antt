@@ -6,7 +6,7 @@ use native.Mathlib.Nat.{suc-mul, mul-comm, mul-le-mul-right}
 use native.Mathlib.Omega.{arith}
 use lib.ListN.{take}
 use lib.Seq.{getD-take}
-use Rattle.meaning.specs.Types.{DataType, cells, number, array}
+use Rattle.meaning.specs.Types.{DataType, cells, number, array, vector}
 use Rattle.meaning.specs.Terms.{LoopKind, Plan}
 use Rattle.meaning.specs.Numbers.{NumberDomain}
 use Rattle.meaning.specs.Sequence.{upFrom}
@@ -42,6 +42,12 @@ module _ (𝓝 : NumberDomain) (s s′ : Store 𝓝) where
       ap₂ (λ (v w : DatumOf 𝓝). Datum.pair v w)
       (same-datum t₁ b (λ x low high. same x low (omega arith)))
       (same-datum t₂ (b + cells t₁) (λ x low high. same x (omega arith) (omega arith)))
+  same-datum (vector w) b same =
+      ap (λ (l : List (DatumOf 𝓝)). arrayOf l)
+      (map-same (λ i. Datum.number (cell 𝓝 s (b + i))) (λ i. Datum.number (cell 𝓝 s′ (b + i))) (upFrom 0 w)
+      (λ i m.
+      let fit = rounds-below LoopKind.sequential w tt i m in
+      ap (λ (x : 𝓝 .Number). Datum.number x) (same (b + i) (omega arith) (omega (arith, fit)))))
 
   same-inputs : (I : List DataType) (b : ℕ) → SameCells b (allCells (map cells I))
       → inputData 𝓝 b I s ≡ inputData 𝓝 b I s′

@@ -1,12 +1,12 @@
 -- What it is for an acceptor to have its cells somewhere, and that each way of making an acceptor keeps it.
 use mathlib.Core.Path.{_≡_, refl, sym, ap, ap₂, _∙_, subst}
 use mathlib.Core.Logic.{_≢_}
-use mathlib.Core.Bool.{false}
-use mathlib.Core.List.{List, _∷_}
+use mathlib.Core.Bool.{false, true≢false}
+use mathlib.Core.List.{List, [], _∷_}
 use Prim.Native.Nat.{ℕ, _+_, _*_, _≤_, _<_}
 use native.Mathlib.Nat.{le-trans}
 use native.Mathlib.Omega.{arith}
-use Rattle.meaning.specs.Types.{DataType, isNumber, cells, array}
+use Rattle.meaning.specs.Types.{DataType, isNumber, cells, number, array, vector}
 use Rattle.meaning.specs.Loops.{Offset, plus, times, over, rest}
 use Rattle.meaning.specs.Runs.{addressOf}
 use Rattle.meaning.specs.Paths.{Step, Path, tail, index, first, second}
@@ -14,7 +14,8 @@ use Rattle.meaning.specs.Expressions.{Acceptor}
 use Rattle.meaning.specs.Offsets.{zippedAt, writeAt}
 use Rattle.meaning.specs.Laws.Groups.{group-below, quotient-below, remainder-below}
 use Rattle.meaning.specs.Laws.Layout.{Inside, Outside, not-both}
-use Rattle.meaning.specs.Laws.Paths.{PathOf, cellOf, on-array, on-groups, flatPath, groupPath, unzippedPath}
+use Rattle.meaning.specs.Laws.Paths.{PathOf, SamePaths, cellOf, on-array, on-groups, flatPath, groupPath}
+use Rattle.meaning.specs.Laws.Paths.{unzippedPath}
 use Rattle.meaning.specs.Laws.Paths.{zippedPath, group-path-injective, flat-path-injective, cellOf-below}
 use Rattle.meaning.specs.Laws.Paths.{cellOf-injective}
 use Rattle.meaning.specs.Laws.Evaluation.{along-array, offset-is-cell}
@@ -28,6 +29,19 @@ writing W cs rs P p = addressOf (W .out) (atLevel cs) (atLevel rs) (writeAt P p)
 -- x is no cell of a value of type t whose cells are at g
 abbrev pub NotAt : DataType → (Path ℕ → ℕ) → ℕ → Type 0
 NotAt t g x = (p : Path ℕ) → PathOf t p → g p ≢ x
+
+-- of two types that the same paths lead into either both are numbers or neither is
+not-number-same : (t t′ : DataType) → SamePaths t t′ → isNumber t′ ≡ false → isNumber t ≡ false
+not-number-same number t′ same h = absurd (none t′ h (same .to [] tt))
+  where
+    none : (t : DataType) → isNumber t ≡ false → PathOf t [] → ⊥
+    none number h ok = true≢false h
+    none (array n t) h ok = ok
+    none (DataType.pair s t) h ok = ok
+    none (vector w) h ok = ok
+not-number-same (array n t) t′ same h = refl
+not-number-same (DataType.pair s t) t′ same h = refl
+not-number-same (vector w) t′ same h = refl
 
 -- Acceptor P has its cells of type t at g, under all further counters and regions. They are distinct, lie in a
 -- store of L cells, and are apart from the cells of S. A number need not be apart: the one `set` into its cell is
@@ -50,6 +64,16 @@ into-on h ec er l k = record {
   distinct = h .distinct;
   inStore = λ p ok. le-trans (h .inStore p ok) l;
   apart = k;
+}
+
+-- in another type that the same paths lead into
+pub into-same : {W : Setting} {cs rs : List ℕ} {P : Acceptor} {t t′ : DataType} {g : Path ℕ → ℕ} {S : CellSet} {L : ℕ}
+    → SamePaths t t′ → Into W cs rs P t g S L → Into W cs rs P t′ g S L
+into-same {t = t} {t′ = t′} same h = record {
+  lies = λ cs′ rs′ ec er p ok. h .lies cs′ rs′ ec er p (same .from (pathUnder cs′ p) ok);
+  distinct = λ p r ok ok′ e. h .distinct p r (same .from p ok) (same .from r ok′) e;
+  inStore = λ p ok. h .inStore p (same .from p ok);
+  apart = λ c x sx p ok. h .apart (not-number-same t t′ same c) x sx p (same .from p ok);
 }
 
 module _ {W : Setting} {cs rs : List ℕ} {P : Acceptor} {S : CellSet} {L : ℕ} where

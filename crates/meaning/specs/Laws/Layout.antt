@@ -91,11 +91,25 @@ round-inside a LoopKind.parallel n b i h =
     let fit : suc i * room b ≤ n * room b = mul-le-mul-right (room b) h in
     record { from = omega arith; below = omega (arith, fit, suc-mul i (room b)) }
 round-inside a LoopKind.sequential n b i h = record { from = omega arith; below = omega arith }
+round-inside a LoopKind.lanes n b i h =
+    let fit : suc i * room b ≤ n * room b = mul-le-mul-right (room b) h in
+    record { from = omega arith; below = omega (arith, suc-mul i (room b)) }
 
-pub rounds-apart : (a n : ℕ) (b : Command) (i j : ℕ) → i < j
-    → Apart (roundRoom a LoopKind.parallel n b i) (room b) (roundRoom a LoopKind.parallel n b j) (room b)
+-- the loops whose rounds have cells of their own
+abbrev pub OwnCells : LoopKind → Type 0
+OwnCells LoopKind.parallel = Unit {0}
+OwnCells LoopKind.sequential = ⊥
+OwnCells LoopKind.lanes = Unit {0}
+
+-- two rounds of a `par` or a `lanes` have no cell in common
+pub rounds-apart : (a : ℕ) (kind : LoopKind) → OwnCells kind → (n : ℕ) (b : Command) (i j : ℕ) → i < j
+    → Apart (roundRoom a kind n b i) (room b) (roundRoom a kind n b j) (room b)
 unfolding roundRoom
-rounds-apart a n b i j h =
+rounds-apart a LoopKind.parallel own n b i j h =
+    let fit : suc i * room b ≤ j * room b = mul-le-mul-right (room b) h in
+    Apart.before (omega (arith, suc-mul i (room b)))
+rounds-apart a LoopKind.sequential own n b i j h = absurd own
+rounds-apart a LoopKind.lanes own n b i j h =
     let fit : suc i * room b ≤ j * room b = mul-le-mul-right (room b) h in
     Apart.before (omega (arith, fit, suc-mul i (room b)))
 

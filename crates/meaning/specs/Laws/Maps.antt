@@ -1,5 +1,5 @@
 -- Maps are written and used rightly: a round for each element, in any order; and a region for the map that is used.
-use mathlib.Core.Path.{refl, subst}
+use mathlib.Core.Path.{refl}
 use mathlib.Core.List.{List, _∷_}
 use Prim.Native.Nat.{ℕ, suc, _+_, _*_}
 use native.Mathlib.Omega.{arith}
@@ -13,14 +13,13 @@ use Rattle.meaning.specs.Paths.{Path, headIndex, tail, index}
 use Rattle.meaning.specs.Expressions.{Expression, Acceptor}
 use Rattle.meaning.specs.Translation.{Write, Use, writeMap, useWritten}
 use Rattle.meaning.specs.Counts.{mapWrites}
-use Rattle.meaning.specs.Laws.Typing.{IsArray}
 use Rattle.meaning.specs.Laws.Layout.{Outside, Part, part-trans, outside-part, apart-outside, first-inside}
 use Rattle.meaning.specs.Laws.Layout.{second-inside, round-inside, region-inside, body-inside, region-apart}
-use Rattle.meaning.specs.Laws.Paths.{PathOf, cellOf}
+use Rattle.meaning.specs.Laws.Paths.{PathOf, SamePaths, cellOf}
 use Rattle.meaning.specs.Laws.Levels.{extends-refl, extends-push}
 use Rattle.meaning.specs.Laws.PathValues.{elementAt}
 use Rattle.meaning.specs.Laws.Holds.{Setting, StateOf, Contents, environment, Holds, innermost-counter}
-use Rattle.meaning.specs.Laws.Holds.{innermost-region, holds-on, holds-index}
+use Rattle.meaning.specs.Laws.Holds.{innermost-region, holds-on, holds-same, holds-index}
 use Rattle.meaning.specs.Laws.Into.{Into, into-on, into-index, whole-inside, whole-apart, into-region}
 use Rattle.meaning.specs.Laws.Wrote.{Wrote, wrote-inside}
 use Rattle.meaning.specs.Laws.Rounds.{loop-wrote}
@@ -60,11 +59,12 @@ module _ {W : Setting} {Γ : List DataType} where
   -- [6.7] The array used, and a round for each element.
   pub write-map-rightly : (kind : LoopKind) (useA : Use) (writeB : Write) (ta tb : DataType) (ka kb : ℕ)
       (Fa Fb : List (Contents W) → Contents W)
-      → IsArray ta → UsesRightly W useA Γ ta ka Fa → WritesRightly W writeB (element ta ∷ Γ) tb kb Fb
+      → SamePaths ta (array (arrayLength ta) (element ta)) → UsesRightly W useA Γ ta ka Fa
+      → WritesRightly W writeB (element ta ∷ Γ) tb kb Fb
       → WritesRightly W (writeMap kind ta useA writeB) Γ (array (arrayLength ta) tb) (mapWrites ka (arrayLength ta) kb)
       (λ env p. Fb (elementAt (W .domain) (Fa env) (headIndex 0 p) ∷ env) (tail p))
   unfolding writeMap run
-  write-map-rightly kind useA writeB ta tb ka kb Fa Fb isa uses writes Δ env cs rs S a st P g G I clear ch =
+  write-map-rightly kind useA writeB ta tb ka kb Fa Fb same uses writes Δ env cs rs S a st P g G I clear ch =
       let n : ℕ = arrayLength ta in
       let i₀ : Offset = Offset.counter (length cs) in
       let f : Contents W = λ p. Fb (elementAt (W .domain) (Fa env) (headIndex 0 p) ∷ env) (tail p) in
@@ -78,7 +78,7 @@ module _ {W : Setting} {Γ : List DataType} where
       let I′ : Into W cs rs′ P (array n tb) g S′ (length (st′ .store)) = into-after I clear H in
       let G′ : Precondition W cs rs′ (st′ .store) S′ Γ Δ env a′ (room (loop kind n b)) = precondition-after G H in
       let h : Holds W cs rs′ (st′ .store) S′ A (array n (element ta)) (Fa env) =
-      subst (λ t. Holds W cs rs′ (st′ .store) S′ A t (Fa env)) isa (H .holds) in
+      holds-same same (H .holds) in
       let clear′ : (p : Path ℕ) → PathOf (array n tb) p → Outside a′ (room (loop kind n b)) (g p) =
       λ p ok. outside-part (H .part) (clear p ok) in
       wrote-after H (H .part)

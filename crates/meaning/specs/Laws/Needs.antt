@@ -15,6 +15,7 @@ use Rattle.meaning.specs.Layout.{room, firstRoom, secondRoom, roundRoom,
 use Rattle.meaning.specs.Runs.{entry}
 use Rattle.meaning.specs.Counts.{commandWrites}
 use Rattle.meaning.specs.Limits.{IsCount, CommandPasses, LoopsPass}
+use Rattle.meaning.specs.Laws.Bounds.{rounds-are-count}
 
 rounds-by-writes : (m : ℕ) (kind : LoopKind) (n : ℕ) (b : Command) → 1 ≤ n → (1 ≤ commandWrites b) × (room b ≤ m * commandWrites b)
     → (1 ≤ n * commandWrites b) × (room (loop kind n b) ≤ m * (n * commandWrites b))
@@ -24,10 +25,14 @@ rounds-by-writes m kind n b l h = go kind
     a-round : commandWrites b ≤ n * commandWrites b
     a-round = let r = mul-le-mul-right (commandWrites b) l in omega (arith, r, one-mul (commandWrites b))
 
-    go : (k : LoopKind) → (1 ≤ n * commandWrites b) × (room (loop k n b) ≤ m * (n * commandWrites b))
-    go LoopKind.parallel =
+    own-cells : (1 ≤ n * commandWrites b) × (n * room b ≤ m * (n * commandWrites b))
+    own-cells =
         (omega (arith, h .0, a-round), let r = mul-le-mul-left n (h .1) in omega (arith, r, mul-left-comm n m (commandWrites b)))
+
+    go : (k : LoopKind) → (1 ≤ n * commandWrites b) × (room (loop k n b) ≤ m * (n * commandWrites b))
+    go LoopKind.parallel = own-cells
     go LoopKind.sequential = (omega (arith, h .0, a-round), let r = mul-le-mul-left m a-round in omega (arith, h .1, r))
+    go LoopKind.lanes = own-cells
 
 -- A region is open for at least one write, and at most 256 are open around one another.
 pub room-by-writes : (ins : List ℕ) (out : ℕ) (ns rs : List ℕ) (c : Command) → CommandPasses ins out ns rs c
@@ -39,7 +44,7 @@ room-by-writes ins out ns rs (seq c d) h =
     let b = room-by-writes ins out ns rs d (h .1) in
     (omega (arith, a .0), omega (arith, a .1, b .1, mul-add (4096 * (256 - length rs)) (commandWrites c) (commandWrites d)))
 room-by-writes ins out ns rs (loop kind n b) h =
-    rounds-by-writes (4096 * (256 - length rs)) kind n b (h .0 .0) (room-by-writes ins out (n ∷ ns) rs b (h .2))
+    rounds-by-writes (4096 * (256 - length rs)) kind n b (rounds-are-count kind n (h .0) .0) (room-by-writes ins out (n ∷ ns) rs b (h .2))
 room-by-writes ins out ns rs (new c b) h =
     let a = room-by-writes ins out ns (c ∷ rs) b (h .2) in
     let w : ℕ = commandWrites b in
@@ -57,9 +62,9 @@ cells-few (c ∷ cs) h = let a = cells-few cs (λ k l. h (suc k) (suc-le-suc l))
 pub need-by-writes : (L : Loops) → LoopsPass L → need L ≤ 36864 + 1048576 * commandWrites (L .command)
 unfolding need
 need-by-writes L h =
-    let a = cells-few (L .inputs) (h .inputCells) in
-    let b = room-by-writes (L .inputs) (L .output) [] [] (L .command) (h .passes) in
-    omega (arith, a, b .1, h .outputCells .1, h .inputsFew)
+    let a = cells-few (L .inputs) (h .within .inputCells) in
+    let b = room-by-writes (L .inputs) (L .output) [] [] (L .command) (h .within .passes) in
+    omega (arith, a, b .1, h .within .outputCells .1, h .within .inputsFew)
 
 -- ---- Reached
 
@@ -83,22 +88,33 @@ reached-seq c d a h g = go (leb (room d) (room c)) refl
     go true e = first (let l = leb-true (room d) (room c) e in omega (arith, l)) h
     go false e = second (let l = leb-false (room d) (room c) e in omega (arith, l)) g
 
--- of a `par` in its last round, of a `for` in every one
+-- where each round has its own cells, in the last one
+reached-last : (kind : LoopKind) (n : ℕ) (b : Command) (a : ℕ) → 1 ≤ n
+    → room (loop kind n b) ≡ n * room b → roundRoom a kind n b (n - 1) ≡ a + (n - 1) * room b
+    → ((e : ℕ) → Reached b e) → Reached (loop kind n b) a
+reached-last kind n b a l all at h = go (h (roundRoom a kind n b (n - 1)))
+  where
+    last : roundRoom a kind n b (n - 1) + room b ≡ a + room (loop kind n b)
+    last =
+        let e : suc (n - 1) ≡ n = omega (arith, l) in
+        let f = suc-mul (n - 1) (room b) in
+        omega (arith, f, ap (λ (m : ℕ). m * room b) e, all, at)
+
+    go : Reached b (roundRoom a kind n b (n - 1)) → Reached (loop kind n b) a
+    go (inl z) = inl (all ∙ ap (λ (m : ℕ). n * m) z ∙ mul-zero n)
+    go (inr x) =
+        inr (n - 1, omega (arith, l), subst (λ (e : ℕ). EndsBefore e b (roundRoom a kind n b (n - 1))) last x)
+
+-- of a `par` or a `lanes` in its last round, of a `for` in every one
 reached-loop : (kind : LoopKind) (n : ℕ) (b : Command) (a : ℕ) → 1 ≤ n → ((e : ℕ) → Reached b e) → Reached (loop kind n b) a
 unfolding room roundRoom
-reached-loop LoopKind.parallel n b a l h = go (h (a + (n - 1) * room b))
-  where
-    last : a + (n - 1) * room b + room b ≡ a + n * room b
-    last = let e : suc (n - 1) ≡ n = omega (arith, l) in let f = suc-mul (n - 1) (room b) in omega (arith, f, ap (λ (m : ℕ). m * room b) e)
-
-    go : Reached b (a + (n - 1) * room b) → Reached (loop LoopKind.parallel n b) a
-    go (inl z) = inl (ap (λ (m : ℕ). n * m) z ∙ mul-zero n)
-    go (inr x) = inr (n - 1, omega (arith, l), subst (λ (e : ℕ). EndsBefore e b (a + (n - 1) * room b)) last x)
+reached-loop LoopKind.parallel n b a l h = reached-last LoopKind.parallel n b a l refl refl h
 reached-loop LoopKind.sequential n b a l h = go (h a)
   where
     go : Reached b a → Reached (loop LoopKind.sequential n b) a
     go (inl z) = inl z
     go (inr x) = inr (0, l, x)
+reached-loop LoopKind.lanes n b a l h = reached-last LoopKind.lanes n b a l refl refl h
 
 reached-new : (c : ℕ) (b : Command) (a : ℕ) → Reached b (a + c) → Reached (new c b) a
 unfolding room regionRoom bodyRoom
@@ -110,12 +126,13 @@ room-reached : (ins : List ℕ) (out : ℕ) (ns rs : List ℕ) (c : Command) (a 
 unfolding CommandPasses room
 room-reached ins out ns rs (Command.assignment p v) a h = inl refl
 room-reached ins out ns rs (seq c d) a h = reached-seq c d a (room-reached ins out ns rs c a (h .0)) (room-reached ins out ns rs d a (h .1))
-room-reached ins out ns rs (loop kind n b) a h = reached-loop kind n b a (h .0 .0) (λ e. room-reached ins out (n ∷ ns) rs b e (h .2))
+room-reached ins out ns rs (loop kind n b) a h =
+    reached-loop kind n b a (rounds-are-count kind n (h .0) .0) (λ e. room-reached ins out (n ∷ ns) rs b e (h .2))
 room-reached ins out ns rs (new c b) a h = reached-new c b a (room-reached ins out ns (c ∷ rs) b (a + c) (h .2))
 
 pub need-reached : (L : Loops) → LoopsPass L → (need L ≡ regionsFrom L) ⊎ EndsBefore (need L) (L .command) (regionsFrom L)
 unfolding need
-need-reached L h = go (room-reached (L .inputs) (L .output) [] [] (L .command) (regionsFrom L) (h .passes))
+need-reached L h = go (room-reached (L .inputs) (L .output) [] [] (L .command) (regionsFrom L) (h .within .passes))
   where
     go : Reached (L .command) (regionsFrom L) → (regionsFrom L + room (L .command) ≡ regionsFrom L)
         ⊎ EndsBefore (regionsFrom L + room (L .command)) (L .command) (regionsFrom L)

@@ -46,6 +46,15 @@ module _ (𝓝 : NumberDomain) where
         (λ i x. every-order π fair b (i ∷ visit) .1 (withCounter i ρ) (roundRoom a LoopKind.parallel n b i) x)
         st,
   )
+  every-order π fair (loop LoopKind.lanes n b) visit = (
+    ((π visit n, fair visit n), λ i. every-order π fair b (i ∷ visit) .0),
+    λ ρ a st.
+        in-turn-same (π visit n)
+        (λ i. run 𝓝 b (every-order π fair b (i ∷ visit) .0) (withCounter i ρ) (roundRoom a LoopKind.lanes n b i))
+        (λ i. runBy 𝓝 π b (i ∷ visit) (withCounter i ρ) (roundRoom a LoopKind.lanes n b i))
+        (λ i x. every-order π fair b (i ∷ visit) .1 (withCounter i ρ) (roundRoom a LoopKind.lanes n b i) x)
+        st,
+  )
   every-order π fair (loop LoopKind.sequential n b) visit = (
     (tt, λ i. every-order π fair b (i ∷ visit) .0),
     λ ρ a st.
@@ -102,6 +111,7 @@ upFrom-length k (suc n) = ap suc (upFrom-length (suc k) n)
 rounds-permuted : (kind : LoopKind) (n : ℕ) (o : Order kind n) → List·Permᴰ (roundsIn kind n o) (upFrom 0 n)
 rounds-permuted LoopKind.parallel n o = o .1
 rounds-permuted LoopKind.sequential n o = Permᴰ·refl (upFrom 0 n)
+rounds-permuted LoopKind.lanes n o = o .1
 
 pub rounds-below : (kind : LoopKind) (n : ℕ) (o : Order kind n) (i : ℕ) → List·Memᴰ i (roundsIn kind n o) → i < n
 rounds-below kind n o i h =

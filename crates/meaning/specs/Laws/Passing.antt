@@ -15,7 +15,7 @@ use Rattle.meaning.specs.Offsets.{offsetOf, readAt, writeAt, valueFromIn
 use Rattle.meaning.specs.Limits.{IsCount, counterBound, OffsetFits, ValuePasses, PlacePasses, CellsWithin}
 use Rattle.meaning.specs.Laws.Levels.{atLevel, Extends, extends-trans, level-top}
 use Rattle.meaning.specs.Laws.Bounds.{levelBound, fits-from-innermost, PathWithin, within-array, within-pair}
-use Rattle.meaning.specs.Laws.Bounds.{offset-fits, group-fits, flat-fits, IndexFits}
+use Rattle.meaning.specs.Laws.Bounds.{SameWithin, offset-fits, group-fits, flat-fits, IndexFits}
 
 -- expression E read at a path, and acceptor P written at one, under loops of ns rounds and regions of rs cells, by
 -- level
@@ -42,6 +42,15 @@ reads-on h a b = record { read = λ ns″ rs″ c d p i. h .read ns″ rs″ (ex
 pub writes-on : {out : ℕ} {ns rs ns′ rs′ : List ℕ} {P : Acceptor} {t : DataType}
     → WritesPass out ns rs P t → Extends ns ns′ → Extends rs rs′ → WritesPass out ns′ rs′ P t
 writes-on h a b = record { write = λ ns″ rs″ c d p i. h .write ns″ rs″ (extends-trans a c) (extends-trans b d) p i }
+
+-- in another type that the same paths lead into
+pub reads-same : {ins ns rs : List ℕ} {E : Expression} {t t′ : DataType}
+    → SameWithin t t′ → ReadsPass ins ns rs E t → ReadsPass ins ns rs E t′
+reads-same same h = record { read = λ ns′ rs′ a b p i. h .read ns′ rs′ a b p (same .from ns′ p i) }
+
+pub writes-same : {out : ℕ} {ns rs : List ℕ} {P : Acceptor} {t t′ : DataType}
+    → SameWithin t t′ → WritesPass out ns rs P t → WritesPass out ns rs P t′
+writes-same same h = record { write = λ ns′ rs′ a b p i. h .write ns′ rs′ a b p (same .from ns′ p i) }
 
 -- What passes by level passes from 0 innermost
 

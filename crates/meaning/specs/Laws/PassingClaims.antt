@@ -7,19 +7,21 @@ use Prim.Native.Nat.{ℕ, zero, suc, _+_, _≤_, _<_}
 use native.Mathlib.Nat.{le-of-suc-le-suc}
 use native.Mathlib.Omega.{arith}
 use lib.ListN.{length, getD}
-use Rattle.meaning.specs.Types.{DataType, isNumber, cells, levels, arrayLength, element, number, array}
-use Rattle.meaning.specs.Terms.{LoopKind}
+use Rattle.meaning.specs.Types.{DataType, Series, isNumber, cells, levels, arrayLength, element, number, array, vector}
+use Rattle.meaning.specs.Terms.{LoopKind, seriesIn}
 use Rattle.meaning.specs.Loops.{Offset, Command}
 use Rattle.meaning.specs.Expressions.{Expression, Acceptor}
 use Rattle.meaning.specs.Offsets.{readAt, writeAt}
 use Rattle.meaning.specs.Translation.{assign, Write, Use, writeMap, bodyInto, roundByNext, useReduce}
 use Rattle.meaning.specs.Translation.{useWritten, noExpression}
 use Rattle.meaning.specs.Limits.{IsCount, CommandPasses, CellsWithin, TypeWithin}
-use Rattle.meaning.specs.Laws.Typing.{IsArray}
+use Rattle.meaning.specs.Laws.Typing.{IsArray, IsSeries}
 use Rattle.meaning.specs.Laws.Levels.{Extends, extends-refl, extends-trans, extends-push}
 use Rattle.meaning.specs.Laws.Bounds.{cells-positive, cells-within, length-within, counter-fits}
-use Rattle.meaning.specs.Laws.Bounds.{length-is-count}
-use Rattle.meaning.specs.Laws.Passing.{ReadsPass, WritesPass, reads-on, writes-on, value-passes-innermost}
+use Rattle.meaning.specs.Laws.Bounds.{length-is-count, rounds-in-range, width-is-count, SameWithin, within-sym, within-vector}
+use Rattle.meaning.specs.Laws.Bounds.{within-elements}
+use Rattle.meaning.specs.Laws.Passing.{ReadsPass, WritesPass, reads-on, writes-on, reads-same, writes-same}
+use Rattle.meaning.specs.Laws.Passing.{value-passes-innermost}
 use Rattle.meaning.specs.Laws.Passing.{place-passes-innermost, reads-index, reads-first, reads-second}
 use Rattle.meaning.specs.Laws.Passing.{writes-index, writes-first, writes-second, reads-region, writes-region}
 
@@ -59,6 +61,24 @@ assign-passes H (DataType.pair s t) ns rs f l h k = (
   assign-passes H s ns rs (f .1) (omega arith) (reads-first h) (writes-first k),
   assign-passes H t ns rs (f .2) (omega arith) (reads-second h) (writes-second k),
 )
+assign-passes H (vector w) {E} {P} ns rs f l h k =
+    let count : IsCount w = width-is-count w f in
+    let i : Offset = Offset.counter (length ns) in
+    let h′ : ReadsPass (inputCellsOf H) (w ∷ ns) rs (Expression.index E i) number =
+    reads-index i (reads-on (reads-same (within-vector w) h) (extends-push w ns) (extends-refl rs))
+    (counter-fits w ns count) in
+    let k′ : WritesPass (H .output) (w ∷ ns) rs (Acceptor.index P i) number =
+    writes-index i (writes-on (writes-same (within-vector w) k) (extends-push w ns) (extends-refl rs))
+    (counter-fits w ns count) in (
+      f,
+      omega arith,
+      (
+        place-passes-innermost (H .output) (w ∷ ns) rs (writeAt (Acceptor.index P i) [])
+            (k′ .write (w ∷ ns) rs (extends-refl (w ∷ ns)) (extends-refl rs) [] tt),
+        value-passes-innermost (inputCellsOf H) (w ∷ ns) rs (readAt (Expression.index E i) [])
+            (h′ .read (w ∷ ns) rs (extends-refl (w ∷ ns)) (extends-refl rs) [] tt),
+      ),
+    )
 
 -- The claims
 
@@ -159,6 +179,15 @@ module _ {H : Heading} {Γ : List DataType} where
       (λ rs₂ F e₂ l₂ h₂.
       K rs₂ (make E F) (extends-trans e₁ e₂) (omega arith) (keeps ns rs₂ E F (reads-on h₁ (extends-refl ns) e₂) h₂)))
 
+  -- in another type that the same paths lead into
+  pub use-same-passes : (useE : Use) (t t′ : DataType) (b : ℕ)
+      → SameWithin t t′ → UsePasses H useE Γ t b → UsePasses H useE Γ t′ b
+  use-same-passes useE t t′ b same uses = use-one-passes useE t t′ b (λ E. E) (λ ns rs E h. reads-same same h) uses
+
+  pub write-same-passes : (writeE : Write) (t t′ : DataType) (b : ℕ)
+      → SameWithin t t′ → WritePasses H writeE Γ t b → WritePasses H writeE Γ t′ b
+  write-same-passes writeE t t′ b same writes Δ ns rs P G k = writes Δ ns rs P G (writes-same (within-sym same) k)
+
   pub assign-used-passes : (useE : Use) (t : DataType) (b : ℕ)
       → TypeWithin t → UsePasses H useE Γ t b
       → WritePasses H (λ G D c r P. useE G D c r (λ E r′. assign t E P c r′)) Γ t b
@@ -183,19 +212,19 @@ module _ {H : Heading} {Γ : List DataType} where
   )
 
   pub write-map-passes : (kind : LoopKind) (useA : Use) (writeB : Write) (ta tb : DataType) (ba bb : ℕ)
-      → IsArray ta → CellsWithin ta → suc (length Γ) ≤ 16
+      → IsSeries (seriesIn kind) ta → CellsWithin ta → suc (length Γ) ≤ 16
       → UsePasses H useA Γ ta ba → WritePasses H writeB (element ta ∷ Γ) tb bb
       → WritePasses H (writeMap kind ta useA writeB) Γ (array (arrayLength ta) tb) (ba + bb)
   unfolding writeMap CommandPasses
   write-map-passes kind useA writeB ta tb ba bb isa f few uses writes Δ ns rs P G k =
       let n : ℕ = arrayLength ta in
       let i : Offset = Offset.counter (length ns) in
-      let count : IsCount n = length-is-count ta isa f in
+      let count : IsCount n = length-is-count (seriesIn kind) ta isa f in
       uses Δ ns rs _ (scope-on G (extends-refl rs) (omega (arith, G .regionsFew)))
       (λ rs′ A e l h.
       let h′ : ReadsPass (inputCellsOf H) ns rs′ A (array n (element ta)) =
-      subst (λ (t : DataType). ReadsPass (inputCellsOf H) ns rs′ A t) isa h in (
-        count,
+      reads-same (within-elements (seriesIn kind) ta isa) h in (
+        rounds-in-range kind ta isa f,
         omega (arith, G .loopsFew, G .variablesFew),
         writes (Expression.index A i ∷ Δ) (n ∷ ns) rs′ (Acceptor.index P i)
             (scope-loop n (scope-on G e (omega (arith, G .regionsFew))) few
@@ -252,7 +281,7 @@ module _ {H : Heading} {Γ : List DataType} where
   unfolding useReduce CommandPasses
   use-reduce-passes useA useZ writeB ta tz ba bz bb isa fa fz few usesA usesZ writes Δ ns rs C G K =
       let n : ℕ = arrayLength ta in
-      let count : IsCount n = length-is-count ta isa fa in
+      let count : IsCount n = length-is-count Series.arrays ta isa fa in
       let cellsCount : IsCount (cells tz) = (cells-positive tz (fz .0), cells-within tz (fz .0)) in
       usesA Δ ns rs _ (scope-on G (extends-refl rs) (omega (arith, G .regionsFew)))
       (λ rs₁ A e₁ l₁ h₁.

@@ -12,7 +12,8 @@ use Rattle.meaning.specs.Expressions.{Acceptor}
 use Rattle.meaning.specs.Offsets.{offsetOf}
 use Rattle.meaning.specs.Translation.{planType, translation}
 use Rattle.meaning.specs.Rows.{termRows, allTypeRows, planRows}
-use Rattle.meaning.specs.Limits.{IsCount, OffsetFits, LoopsPass, CellsWithin, TypeWithin, PlanWithin}
+use Rattle.meaning.specs.Limits.{IsCount, OffsetFits, LoopsWithin, CellsWithin, TypeWithin}
+use Rattle.meaning.specs.Limits.{PlanWithin}
 use Rattle.meaning.specs.Laws.Typing.{WellTyped}
 use Rattle.meaning.specs.Laws.Layout.{entry-cells}
 use Rattle.meaning.specs.Laws.Bounds.{levelBound, cells-positive, cells-within, offset-fits}
@@ -30,11 +31,11 @@ rowCount (Term.map kind a b) = suc (rowCount a + rowCount b)
 rowCount (Term.reduce z a b) = suc (rowCount z + (rowCount a + rowCount b))
 rowCount (Term.zip a b) = suc (rowCount a + rowCount b)
 rowCount (Term.pair a b) = suc (rowCount a + rowCount b)
-rowCount (Term.split n e) = suc (rowCount e)
-rowCount (Term.join e) = suc (rowCount e)
+rowCount (Term.split series n e) = suc (rowCount e)
+rowCount (Term.join series e) = suc (rowCount e)
 rowCount (Term.first e) = suc (rowCount e)
 rowCount (Term.second e) = suc (rowCount e)
-rowCount (Term.index k e) = suc (rowCount e)
+rowCount (Term.index series k e) = suc (rowCount e)
 
 rows-of-both : (e f : Term) → length (termRows e) ≡ rowCount e → length (termRows f) ≡ rowCount f
     → length (termRows e ++ termRows f) ≡ rowCount e + rowCount f
@@ -54,11 +55,11 @@ rows-counted (Term.reduce z a b) =
     ∙ ap₂ _+_ (rows-counted z) (rows-of-both a b (rows-counted a) (rows-counted b)))
 rows-counted (Term.zip a b) = ap suc (rows-of-both a b (rows-counted a) (rows-counted b))
 rows-counted (Term.pair a b) = ap suc (rows-of-both a b (rows-counted a) (rows-counted b))
-rows-counted (Term.split n e) = ap suc (rows-counted e)
-rows-counted (Term.join e) = ap suc (rows-counted e)
+rows-counted (Term.split series n e) = ap suc (rows-counted e)
+rows-counted (Term.join series e) = ap suc (rows-counted e)
 rows-counted (Term.first e) = ap suc (rows-counted e)
 rows-counted (Term.second e) = ap suc (rows-counted e)
-rows-counted (Term.index k e) = ap suc (rows-counted e)
+rows-counted (Term.index series k e) = ap suc (rows-counted e)
 
 -- fewer regions than rows
 regions-few : (e : Term) → regionsAround e < rowCount e
@@ -72,11 +73,11 @@ regions-few (Term.reduce z a b) =
     let h = regions-few z in let k = regions-few a in let l = regions-few b in omega arith
 regions-few (Term.zip a b) = let h = regions-few a in let k = regions-few b in omega arith
 regions-few (Term.pair a b) = let h = regions-few a in let k = regions-few b in omega arith
-regions-few (Term.split n e) = let h = regions-few e in omega arith
-regions-few (Term.join e) = let h = regions-few e in omega arith
+regions-few (Term.split series n e) = let h = regions-few e in omega arith
+regions-few (Term.join series e) = let h = regions-few e in omega arith
 regions-few (Term.first e) = let h = regions-few e in omega arith
 regions-few (Term.second e) = let h = regions-few e in omega arith
-regions-few (Term.index k e) = let h = regions-few e in omega arith
+regions-few (Term.index series k e) = let h = regions-few e in omega arith
 
 term-rows-few : (P : Plan) → length (planRows P) ≤ 256 → rowCount (P .term) ≤ 256
 unfolding planRows
@@ -92,9 +93,9 @@ input-count I k h f =
     subst (λ (n : ℕ). IsCount n) (sym (entry-cells I k h))
     (cells-positive (getD I k number) f, cells-within (getD I k number) f)
 
-pub translation-passes : (P : Plan) → WellTyped (P .inputs) [] (P .term) → PlanWithin P → LoopsPass (translation P)
+pub translation-within : (P : Plan) → WellTyped (P .inputs) [] (P .term) → PlanWithin P → LoopsWithin (translation P)
 unfolding translation
-translation-passes P wt L =
+translation-within P wt L =
     let I : List DataType = P .inputs in
     let T : DataType = planType P in
     let H : Heading = record { inputTypes = I; output = cells T } in

@@ -6,23 +6,24 @@ use native.Mathlib.Omega.{arith}
 use lib.ListN.{length, getD}
 use lib.IntN.{ℤ}
 use Rattle.arithmetic.specs.Arithmetic.{Operation}
-use Rattle.meaning.specs.Types.{DataType, arrayLength, element, firstType, secondType, number, array}
-use Rattle.meaning.specs.Terms.{LoopKind, Term}
+use Rattle.meaning.specs.Types.{DataType, Series, arrayLength, element, firstType, secondType, number, array}
+use Rattle.meaning.specs.Terms.{LoopKind, Term, seriesIn}
 use Rattle.meaning.specs.Typing.{typeOf}
 use Rattle.meaning.specs.Loops.{Offset}
 use Rattle.meaning.specs.Expressions.{Expression, Acceptor}
 use Rattle.meaning.specs.Translation.{useWritten, noExpression, writeTerm, useTerm}
 use Rattle.meaning.specs.Limits.{IsCount, CommandPasses, CellsWithin, TypeWithin, TermWithin}
-use Rattle.meaning.specs.Laws.Typing.{IsArray, IsPair, WellTyped}
+use Rattle.meaning.specs.Laws.Typing.{IsArray, IsPair, IsSeries, MayBeIn, WellTyped}
 use Rattle.meaning.specs.Laws.Levels.{extends-refl}
-use Rattle.meaning.specs.Laws.Bounds.{length-within, groups-within, length-is-count}
+use Rattle.meaning.specs.Laws.Bounds.{SameWithin, within-sym, within-groups, within-series, within-elements}
+use Rattle.meaning.specs.Laws.Bounds.{groups-within, length-is-count}
 use Rattle.meaning.specs.Laws.Passing.{reads-literal, reads-negate, reads-operation, reads-index, reads-first}
 use Rattle.meaning.specs.Laws.Passing.{reads-second, reads-pair, reads-zip, reads-split, reads-join}
 use Rattle.meaning.specs.Laws.Passing.{writes-first, writes-second, writes-zip-first, writes-zip-second}
 use Rattle.meaning.specs.Laws.Passing.{writes-split, writes-join}
 use Rattle.meaning.specs.Laws.PassingClaims.{Heading, scope-on, UsePasses, WritePasses, use-one-passes}
 use Rattle.meaning.specs.Laws.PassingClaims.{use-two-passes, assign-used-passes, use-written-passes}
-use Rattle.meaning.specs.Laws.PassingClaims.{write-map-passes, use-reduce-passes}
+use Rattle.meaning.specs.Laws.PassingClaims.{use-same-passes, write-same-passes, write-map-passes, use-reduce-passes}
 
 -- how many regions a term's loops may have in force at once
 abbrev pub regionsAround : Term → ℕ
@@ -35,11 +36,11 @@ regionsAround (Term.map kind a b) = suc (regionsAround a + regionsAround b)
 regionsAround (Term.reduce z a b) = suc (suc (regionsAround a + regionsAround z + regionsAround b))
 regionsAround (Term.zip a b) = regionsAround a + regionsAround b
 regionsAround (Term.pair a b) = regionsAround a + regionsAround b
-regionsAround (Term.split n e) = regionsAround e
-regionsAround (Term.join e) = regionsAround e
+regionsAround (Term.split series n e) = regionsAround e
+regionsAround (Term.join series e) = regionsAround e
 regionsAround (Term.first e) = regionsAround e
 regionsAround (Term.second e) = regionsAround e
-regionsAround (Term.index k e) = regionsAround e
+regionsAround (Term.index series k e) = regionsAround e
 
 -- every term within the limits has a type within the limits
 pub type-within : (I Γ : List DataType) (e : Term) → TermWithin I Γ e → TypeWithin (typeOf I Γ e)
@@ -52,11 +53,11 @@ type-within I Γ (Term.map kind a b) h = h .0
 type-within I Γ (Term.reduce z a b) h = h .0
 type-within I Γ (Term.zip a b) h = h .0
 type-within I Γ (Term.pair a b) h = h .0
-type-within I Γ (Term.split n e) h = h .0
-type-within I Γ (Term.join e) h = h .0
+type-within I Γ (Term.split series n e) h = h .0
+type-within I Γ (Term.join series e) h = h .0
 type-within I Γ (Term.first e) h = h .0
 type-within I Γ (Term.second e) h = h .0
-type-within I Γ (Term.index k e) h = h .0
+type-within I Γ (Term.index series k e) h = h .0
 
 module _ (H : Heading) where
   abbrev I : List DataType
@@ -124,15 +125,21 @@ module _ (H : Heading) where
       record { used = U; written = assign-used-passes (useTerm I both) number (regionsAround both) number-within U }
 
   passes-map : (Γ : List DataType) (kind : LoopKind) (a b : Term)
-      → IsArray (typeOf I Γ a) → CellsWithin (typeOf I Γ a) → CellsWithin (typeOf I Γ (Term.map kind a b))
+      → IsSeries (seriesIn kind) (typeOf I Γ a)
+      → MayBeIn (seriesIn kind) (typeOf I (element (typeOf I Γ a) ∷ Γ) b)
+      → CellsWithin (typeOf I Γ a) → CellsWithin (typeOf I Γ (Term.map kind a b))
       → suc (length Γ) ≤ 16
       → Passes Γ a → Passes (element (typeOf I Γ a) ∷ Γ) b → Passes Γ (Term.map kind a b)
   unfolding writeTerm useTerm useWritten
-  passes-map Γ kind a b isa fa fm few R T =
+  passes-map Γ kind a b isa fit fa fm few R T =
       let whole : Term = Term.map kind a b in
+      let n : ℕ = arrayLength (typeOf I Γ a) in
+      let t : DataType = typeOf I (element (typeOf I Γ a) ∷ Γ) b in
       let L : WritePasses H (writeTerm I whole) Γ (typeOf I Γ whole) (regionsAround a + regionsAround b) =
-      write-map-passes kind (useTerm I a) (writeTerm I b) (typeOf I Γ a) (typeOf I (element (typeOf I Γ a) ∷ Γ) b)
-      (regionsAround a) (regionsAround b) isa fa few (R .used) (T .written) in
+      write-same-passes (writeTerm I whole) (array n t) (typeOf I Γ whole) (regionsAround a + regionsAround b)
+      (within-sym (within-series (seriesIn kind) n t fit))
+      (write-map-passes kind (useTerm I a) (writeTerm I b) (typeOf I Γ a) t (regionsAround a) (regionsAround b) isa fa
+      few (R .used) (T .written)) in
       record {
         used = use-written-passes (writeTerm I whole) (typeOf I Γ whole) (regionsAround a + regionsAround b) fm L;
         written = λ Δ ns rs P G k. L Δ ns rs P (scope-on G (extends-refl rs) (omega (arith, G .regionsFew))) k;
@@ -187,42 +194,53 @@ module _ (H : Heading) where
     );
   }
 
-  passes-split : (Γ : List DataType) (n : ℕ) (e : Term)
+  passes-split : (Γ : List DataType) (series : Series) (n : ℕ) (e : Term)
       → IsArray (typeOf I Γ e) → arrayLength (typeOf I Γ e) / n * n ≡ arrayLength (typeOf I Γ e)
-      → CellsWithin (typeOf I Γ (Term.split n e)) → Passes Γ e → Passes Γ (Term.split n e)
+      → MayBeIn series (element (typeOf I Γ e))
+      → CellsWithin (typeOf I Γ (Term.split series n e)) → Passes Γ e → Passes Γ (Term.split series n e)
   unfolding writeTerm useTerm
-  passes-split Γ n e ise q f R =
+  passes-split Γ series n e ise q fit f R =
+      let whole : Term = Term.split series n e in
       let m : ℕ = arrayLength (typeOf I Γ e) / n in
       let t : DataType = element (typeOf I Γ e) in
       let ise′ : typeOf I Γ e ≡ array (m * n) t = ise ∙ ap (λ (l : ℕ). array l t) (sym q) in
-      let count : IsCount n = (f .2 .0, length-within n t (f .2)) in
-      let all : m * n ≤ 4096 = groups-within m n t f in
+      let g : IsCount n × (m * n ≤ 4096) = groups-within series m n t f in
+      let same : SameWithin (array m (array n t)) (typeOf I Γ whole) =
+      within-groups m (within-sym (within-series series n t fit)) in
       record {
         used =
-            use-one-passes (useTerm I e) (array (m * n) t) (typeOf I Γ (Term.split n e)) (regionsAround e)
-            (Expression.split n) (λ ns rs E h. reads-split m n count all h) (used-as ise′ R);
-        written = λ Δ ns rs P G k.
-            written-as ise′ R Δ ns rs (Acceptor.split n P) G (writes-split m n count all k);
+            use-same-passes (useTerm I whole) (array m (array n t)) (typeOf I Γ whole) (regionsAround e) same
+            (use-one-passes (useTerm I e) (array (m * n) t) (array m (array n t)) (regionsAround e)
+            (Expression.split n) (λ ns rs E h. reads-split m n (g .0) (g .1) h) (used-as ise′ R));
+        written =
+            write-same-passes (writeTerm I whole) (array m (array n t)) (typeOf I Γ whole) (regionsAround e) same
+            (λ Δ ns rs P G k.
+            written-as ise′ R Δ ns rs (Acceptor.split n P) G (writes-split m n (g .0) (g .1) k));
       }
 
-  passes-join : (Γ : List DataType) (e : Term)
-      → IsArray (typeOf I Γ e) → IsArray (element (typeOf I Γ e)) → CellsWithin (typeOf I Γ e)
-      → Passes Γ e → Passes Γ (Term.join e)
+  passes-join : (Γ : List DataType) (series : Series) (e : Term)
+      → IsArray (typeOf I Γ e) → IsSeries series (element (typeOf I Γ e)) → CellsWithin (typeOf I Γ e)
+      → Passes Γ e → Passes Γ (Term.join series e)
   unfolding writeTerm useTerm
-  passes-join Γ e ise isi f R =
+  passes-join Γ series e ise isi f R =
       let m : ℕ = arrayLength (typeOf I Γ e) in
       let n : ℕ = arrayLength (element (typeOf I Γ e)) in
       let t : DataType = element (element (typeOf I Γ e)) in
-      let ise′ : typeOf I Γ e ≡ array m (array n t) = ise ∙ ap (λ (l : DataType). array m l) isi in
-      let g : CellsWithin (array m (array n t)) = subst (λ (x : DataType). CellsWithin x) ise′ f in
-      let count : IsCount n = (g .2 .0, length-within n t (g .2)) in
-      let all : m * n ≤ 4096 = groups-within m n t g in
+      let inner : DataType = array m (element (typeOf I Γ e)) in
+      let g : IsCount n × (m * n ≤ 4096) =
+      groups-within series m n t
+      (subst (λ (x : DataType). CellsWithin x) (ise ∙ ap (λ (l : DataType). array m l) isi) f) in
+      let same : SameWithin inner (array m (array n t)) =
+      within-groups m (within-elements series (element (typeOf I Γ e)) isi) in
       record {
         used =
-            use-one-passes (useTerm I e) (array m (array n t)) (typeOf I Γ (Term.join e)) (regionsAround e)
-            (Expression.join n) (λ ns rs E h. reads-join m n count all h) (used-as ise′ R);
+            use-one-passes (useTerm I e) (array m (array n t)) (typeOf I Γ (Term.join series e)) (regionsAround e)
+            (Expression.join n) (λ ns rs E h. reads-join m n (g .0) (g .1) h)
+            (use-same-passes (useTerm I e) inner (array m (array n t)) (regionsAround e) same (used-as ise R));
         written = λ Δ ns rs P G k.
-            written-as ise′ R Δ ns rs (Acceptor.join n P) G (writes-join m n count all k);
+            write-same-passes (writeTerm I e) inner (array m (array n t)) (regionsAround e) same (written-as ise R) Δ ns
+            rs
+            (Acceptor.join n P) G (writes-join m n (g .0) (g .1) k);
       }
 
   passes-first : (Γ : List DataType) (e : Term)
@@ -245,18 +263,20 @@ module _ (H : Heading) where
       (λ ns rs E h. reads-second h) (used-as ise R) in
       record { used = U; written = assign-used-passes (useTerm I (Term.second e)) t (regionsAround e) f U }
 
-  passes-index : (Γ : List DataType) (k : ℕ) (e : Term)
-      → IsArray (typeOf I Γ e) → k < arrayLength (typeOf I Γ e) → CellsWithin (typeOf I Γ e)
-      → TypeWithin (typeOf I Γ (Term.index k e)) → Passes Γ e → Passes Γ (Term.index k e)
+  passes-index : (Γ : List DataType) (series : Series) (k : ℕ) (e : Term)
+      → IsSeries series (typeOf I Γ e) → k < arrayLength (typeOf I Γ e) → CellsWithin (typeOf I Γ e)
+      → TypeWithin (typeOf I Γ (Term.index series k e)) → Passes Γ e → Passes Γ (Term.index series k e)
   unfolding writeTerm useTerm
-  passes-index Γ k e ise l fa f R =
+  passes-index Γ series k e ise l fa f R =
       let n : ℕ = arrayLength (typeOf I Γ e) in
       let t : DataType = element (typeOf I Γ e) in
-      let few = (length-is-count (typeOf I Γ e) ise fa) .1 in
-      let U : UsePasses H (useTerm I (Term.index k e)) Γ t (regionsAround e) =
+      let few = (length-is-count series (typeOf I Γ e) ise fa) .1 in
+      let U : UsePasses H (useTerm I (Term.index series k e)) Γ t (regionsAround e) =
       use-one-passes (useTerm I e) (array n t) t (regionsAround e) (λ E. Expression.index E (Offset.literal k))
-      (λ ns rs E h. reads-index (Offset.literal k) h (λ ns′ x. (omega arith, l))) (used-as ise R) in
-      record { used = U; written = assign-used-passes (useTerm I (Term.index k e)) t (regionsAround e) f U }
+      (λ ns rs E h. reads-index (Offset.literal k) h (λ ns′ x. (omega arith, l)))
+      (use-same-passes (useTerm I e) (typeOf I Γ e) (array n t) (regionsAround e)
+      (within-elements series (typeOf I Γ e) ise) (R .used)) in
+      record { used = U; written = assign-used-passes (useTerm I (Term.index series k e)) t (regionsAround e) f U }
 
   pub passes : (Γ : List DataType) (e : Term) → WellTyped I Γ e → TermWithin I Γ e → Passes Γ e
   passes Γ (Term.input k) h l = passes-input Γ k h l
@@ -266,7 +286,7 @@ module _ (H : Heading) where
   passes Γ (Term.operation o e f) h l =
       passes-operation Γ o e f (h .2) (h .3) (passes Γ e (h .0) (l .0)) (passes Γ f (h .1) (l .1))
   passes Γ (Term.map kind a b) h l =
-      passes-map Γ kind a b (h .1) (type-within I Γ a (l .1) .0) (l .0 .0) (l .3) (passes Γ a (h .0) (l .1))
+      passes-map Γ kind a b (h .1) (h .3) (type-within I Γ a (l .1) .0) (l .0 .0) (l .3) (passes Γ a (h .0) (l .1))
       (passes (element (typeOf I Γ a) ∷ Γ) b (h .2) (l .2))
   passes Γ (Term.reduce z a b) h l =
       passes-reduce Γ z a b (h .2) (type-within I Γ a (l .2) .0) (l .0) (l .4) (h .4) (passes Γ z (h .0) (l .1))
@@ -274,10 +294,10 @@ module _ (H : Heading) where
   passes Γ (Term.zip a b) h l =
       passes-zip Γ a b (h .2) (h .3) (h .4) (passes Γ a (h .0) (l .1)) (passes Γ b (h .1) (l .2))
   passes Γ (Term.pair a b) h l = passes-pair Γ a b (passes Γ a (h .0) (l .1)) (passes Γ b (h .1) (l .2))
-  passes Γ (Term.split n e) h l = passes-split Γ n e (h .1) (h .2) (l .0 .0) (passes Γ e (h .0) (l .1))
-  passes Γ (Term.join e) h l =
-      passes-join Γ e (h .1) (h .2) (type-within I Γ e (l .1) .0) (passes Γ e (h .0) (l .1))
+  passes Γ (Term.split series n e) h l = passes-split Γ series n e (h .1) (h .2) (h .4) (l .0 .0) (passes Γ e (h .0) (l .1))
+  passes Γ (Term.join series e) h l =
+      passes-join Γ series e (h .1) (h .2) (type-within I Γ e (l .1) .0) (passes Γ e (h .0) (l .1))
   passes Γ (Term.first e) h l = passes-first Γ e (h .1) (l .0) (passes Γ e (h .0) (l .1))
   passes Γ (Term.second e) h l = passes-second Γ e (h .1) (l .0) (passes Γ e (h .0) (l .1))
-  passes Γ (Term.index k e) h l =
-      passes-index Γ k e (h .1) (h .2) (type-within I Γ e (l .1) .0) (l .0) (passes Γ e (h .0) (l .1))
+  passes Γ (Term.index series k e) h l =
+      passes-index Γ series k e (h .1) (h .2) (type-within I Γ e (l .1) .0) (l .0) (passes Γ e (h .0) (l .1))

@@ -37,8 +37,8 @@ module _ (𝓝 : NumberDomain) where
   valueAt I X Γ (Term.zip a b) env =
       λ p. byPart (tail p) (valueAt I X Γ a env (unzippedPath p)) (valueAt I X Γ b env (unzippedPath p))
   valueAt I X Γ (Term.pair a b) env = λ p. byPart p (valueAt I X Γ a env (tail p)) (valueAt I X Γ b env (tail p))
-  valueAt I X Γ (Term.split n e) env = λ p. valueAt I X Γ e env (flatPath n p)
-  valueAt I X Γ (Term.join e) env = λ p. valueAt I X Γ e env (groupPath (arrayLength (element (typeOf I Γ e))) p)
+  valueAt I X Γ (Term.split series n e) env = λ p. valueAt I X Γ e env (flatPath n p)
+  valueAt I X Γ (Term.join series e) env = λ p. valueAt I X Γ e env (groupPath (arrayLength (element (typeOf I Γ e))) p)
   valueAt I X Γ (Term.first e) env = λ p. valueAt I X Γ e env (first ∷ p)
   valueAt I X Γ (Term.second e) env = λ p. valueAt I X Γ e env (second ∷ p)
-  valueAt I X Γ (Term.index k e) env = λ p. valueAt I X Γ e env (index k ∷ p)
+  valueAt I X Γ (Term.index series k e) env = λ p. valueAt I X Γ e env (index k ∷ p)

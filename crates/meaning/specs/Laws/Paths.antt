@@ -4,8 +4,9 @@ use mathlib.Core.List.{[], _∷_}
 use Prim.Native.Nat.{ℕ, _+_, _*_, _/_, _%_, _<_}
 use native.Mathlib.Nat.{div-add-mod}
 use native.Mathlib.Omega.{arith}
-use Rattle.meaning.specs.Types.{DataType, cells, number, array}
+use Rattle.meaning.specs.Types.{DataType, Series, cells, arrayLength, element, seriesOf, number, array, vector}
 use Rattle.meaning.specs.Paths.{Step, Path, headIndex, tail, byPart, index, first, second}
+use Rattle.meaning.specs.Laws.Typing.{IsSeries, MayBeIn}
 use Rattle.meaning.specs.Laws.Groups.{group-below, group-injective}
 
 -- a path that leads to a cell of a value of this type
@@ -20,12 +21,17 @@ PathOf (DataType.pair s t) [] = ⊥
 PathOf (DataType.pair s t) (index i ∷ p) = ⊥
 PathOf (DataType.pair s t) (first ∷ p) = PathOf s p
 PathOf (DataType.pair s t) (second ∷ p) = PathOf t p
+PathOf (vector w) [] = ⊥
+PathOf (vector w) (index i ∷ p) = (i < w) × PathOf number p
+PathOf (vector w) (first ∷ p) = ⊥
+PathOf (vector w) (second ∷ p) = ⊥
 
 -- [3.4] the cell that it leads to
 abbrev pub cellOf : DataType → Path ℕ → ℕ
 cellOf number p = 0
 cellOf (array n t) p = cells t * headIndex 0 p + cellOf t (tail p)
 cellOf (DataType.pair s t) p = byPart p (cellOf s (tail p)) (cells s + cellOf t (tail p))
+cellOf (vector w) p = 1 * headIndex 0 p + 0
 
 -- Cases of a path, by the type it leads into
 
@@ -55,6 +61,55 @@ pub on-groups : (m n : ℕ) (t : DataType) (B : Path ℕ → Type 0)
     → (p : Path ℕ) → PathOf (array m (array n t)) p → B p
 on-groups m n t B h =
     on-array m (array n t) B (λ i r l. on-array n t (λ p. B (index i ∷ p)) (λ j p l₂ ok. h i j p l l₂ ok) r)
+
+-- Two types that the same paths lead into: what is held or written in the one is held or written in the other. A vector
+-- has the paths of an array of numbers, so that the laws of arrays serve.
+
+pub record SamePaths (s t : DataType) : Type 0 where
+  pub to : (p : Path ℕ) → PathOf s p → PathOf t p
+  pub from : (p : Path ℕ) → PathOf t p → PathOf s p
+
+pub same-refl : (t : DataType) → SamePaths t t
+same-refl t = record { to = λ p ok. ok; from = λ p ok. ok }
+
+pub same-sym : {s t : DataType} → SamePaths s t → SamePaths t s
+same-sym h = record { to = h .from; from = h .to }
+
+pub same-vector : (w : ℕ) → SamePaths (vector w) (array w number)
+same-vector w = record { to = to; from = from }
+  where
+    to : (p : Path ℕ) → PathOf (vector w) p → PathOf (array w number) p
+    to [] ok = ok
+    to (index i ∷ p) ok = ok
+    to (first ∷ p) ok = ok
+    to (second ∷ p) ok = ok
+
+    from : (p : Path ℕ) → PathOf (array w number) p → PathOf (vector w) p
+    from [] ok = ok
+    from (index i ∷ p) ok = ok
+    from (first ∷ p) ok = ok
+    from (second ∷ p) ok = ok
+
+pub same-array : (m : ℕ) {s t : DataType} → SamePaths s t → SamePaths (array m s) (array m t)
+same-array m {s} {t} h = record {
+  to = on-array m s (λ p. PathOf (array m t) p) (λ i p l ok. (l, h .to p ok));
+  from = on-array m t (λ p. PathOf (array m s) p) (λ i p l ok. (l, h .from p ok));
+}
+
+-- n elements of type t, and the elements of a type, as an array
+pub same-series : (series : Series) (n : ℕ) (t : DataType) → MayBeIn series t → SamePaths (seriesOf series n t) (array n t)
+same-series Series.arrays n t h = same-refl (array n t)
+same-series Series.vectors n t h = subst (λ (s : DataType). SamePaths (vector n) (array n s)) (sym h) (same-vector n)
+
+pub same-elements : (series : Series) (t : DataType) → IsSeries series t → SamePaths t (array (arrayLength t) (element t))
+same-elements series t h =
+    subst (λ (s : DataType). SamePaths s (array (arrayLength s) (element s))) (sym h)
+    (go series (arrayLength t) (element t))
+  where
+    go : (series : Series) (n : ℕ) (t : DataType)
+        → SamePaths (seriesOf series n t) (array (arrayLength (seriesOf series n t)) (element (seriesOf series n t)))
+    go Series.arrays n t = same-refl (array n t)
+    go Series.vectors n t = same-vector n
 
 -- Paths regrouped: numbers for the offsets of `grouped`, `ungrouped`, `unzipped` and `zippedAt`
 
@@ -109,6 +164,8 @@ cellOf-below (DataType.pair s t) p ok =
     (λ r k. let h = cellOf-below s r k in omega arith)
     (λ r k. let h = cellOf-below t r k in omega arith)
     p ok
+cellOf-below (vector w) p ok =
+    on-array w number (λ r. cellOf (vector w) r < w) (λ i r l k. omega arith) p (same-vector w .to p ok)
 
 pub cellOf-injective : (t : DataType) (p r : Path ℕ) → PathOf t p → PathOf t r → cellOf t p ≡ cellOf t r → p ≡ r
 cellOf-injective number p r ok ok′ = λ e. on-number (λ y. y ≡ r) (on-number (λ z. [] ≡ z) refl r ok′) p ok
@@ -134,3 +191,12 @@ cellOf-injective (DataType.pair s t) p r ok ok′ =
     (λ z k′ e. ap (λ (π : Path ℕ). second ∷ π) (cellOf-injective t y z k k′ (omega arith)))
     r ok′)
     p ok
+cellOf-injective (vector w) p r ok ok′ =
+    on-array w number (λ y. cellOf (vector w) y ≡ cellOf (vector w) r → y ≡ r)
+    (λ i y l k.
+    on-array w number (λ z. cellOf (vector w) (index i ∷ y) ≡ cellOf (vector w) z → index i ∷ y ≡ z)
+    (λ j z l′ k′ e.
+    ap₂ (λ (x : ℕ) (π : Path ℕ). index x ∷ π) (omega arith)
+    (on-number (λ v. v ≡ z) (on-number (λ v. [] ≡ v) refl z k′) y k))
+    r (same-vector w .to r ok′))
+    p (same-vector w .to p ok)

@@ -6,12 +6,12 @@ use native.Mathlib.Nat.{div-add-mod, add-zero, mul-comm, suc-mul, mul-le-mul-rig
 use native.Mathlib.Omega.{arith}
 use lib.ListN.{length, getD, take, drop, length-map, length-drop}
 use lib.Seq.{getD-take, getD-drop, length-take-le}
-use Rattle.meaning.specs.Types.{DataType, arrayLength, element, number, array}
+use Rattle.meaning.specs.Types.{DataType, Series, arrayLength, element, seriesOf, number, array, vector}
 use Rattle.meaning.specs.Numbers.{NumberDomain}
 use Rattle.meaning.specs.Sequence.{upFrom, inTurn}
 use Rattle.meaning.specs.Values.{Datum, arrayOf, elements, zipped, groups, joined, DatumOf, noDatum}
 use Rattle.meaning.specs.Paths.{tail, byPart, index, first, second}
-use Rattle.meaning.specs.Laws.Typing.{IsArray}
+use Rattle.meaning.specs.Laws.Typing.{IsSeries, MayBeIn}
 use Rattle.meaning.specs.Laws.Groups.{group-below, quotient-below, remainder-below}
 use Rattle.meaning.specs.Laws.Paths.{flatPath, groupPath, unzippedPath}
 use Rattle.meaning.specs.Laws.PathValues.{PathValue, elementAt}
@@ -33,17 +33,40 @@ module _ (𝓝 : NumberDomain) where
       × (v ≡ Datum.pair a b)
       × Represents s (λ p. f (first ∷ p)) a
       × Represents t (λ p. f (second ∷ p)) b
+  Represents (vector w) f v =
+      (l : List (DatumOf 𝓝))
+      × (v ≡ arrayOf l)
+      × (length l ≡ w)
+      × ((i : ℕ) → i < w → getD l i (noDatum 𝓝) ≡ Datum.number (elementAt 𝓝 f i []))
+
+  -- a vector's value is that of an array of numbers
+  pub represents-series : (series : Series) (n : ℕ) (t : DataType) (f : PathValue 𝓝) (v : DatumOf 𝓝)
+      → MayBeIn series t → Represents (array n t) f v → Represents (seriesOf series n t) f v
+  represents-series Series.arrays n t f v h r = r
+  represents-series Series.vectors n t f v h r = subst (λ (s : DataType). Represents (array n s) f v) h r
+
+  pub represents-elements : (series : Series) (t : DataType) (f : PathValue 𝓝) (v : DatumOf 𝓝)
+      → IsSeries series t → Represents t f v → Represents (array (arrayLength t) (element t)) f v
+  represents-elements series t f v h =
+      subst (λ (s : DataType). Represents s f v → Represents (array (arrayLength s) (element s)) f v) (sym h)
+      (go series (arrayLength t) (element t))
+    where
+      go : (series : Series) (n : ℕ) (t : DataType)
+          → Represents (seriesOf series n t) f v
+          → Represents (array (arrayLength (seriesOf series n t)) (element (seriesOf series n t))) f v
+      go Series.arrays n t r = r
+      go Series.vectors n t r = r
 
   -- the n elements of list l, of type t, are those of f
   pub record Elements (n : ℕ) (t : DataType) (f : PathValue 𝓝) (l : List (DatumOf 𝓝)) : Type 0 where
     pub counted : length l ≡ n
     pub each : (i : ℕ) → i < n → Represents t (elementAt 𝓝 f i) (getD l i (noDatum 𝓝))
 
-  -- the elements of a value whose type is an array's
-  pub represented-elements : (t : DataType) (f : PathValue 𝓝) (v : DatumOf 𝓝)
-      → IsArray t → Represents t f v → Elements (arrayLength t) (element t) f (elements v)
-  represented-elements t f v isa r =
-      let q : Represents (array (arrayLength t) (element t)) f v = subst (λ (x : DataType). Represents x f v) isa r in
+  -- the elements of a value whose type is an array's, or a vector's
+  pub represented-elements : (series : Series) (t : DataType) (f : PathValue 𝓝) (v : DatumOf 𝓝)
+      → IsSeries series t → Represents t f v → Elements (arrayLength t) (element t) f (elements v)
+  represented-elements series t f v isa r =
+      let q : Represents (array (arrayLength t) (element t)) f v = represents-elements series t f v isa r in
       let e : elements v ≡ q .0 = elements-of (q .0) (q .1) in
       subst (Elements (arrayLength t) (element t) f) (sym e) (record { counted = q .2; each = q .3 })
 
@@ -97,6 +120,16 @@ module _ (𝓝 : NumberDomain) where
           k .each i li,
         ),
       )
+
+  -- groups that are vectors, where arrays are represented
+  pub represents-groups : (series : Series) (m n : ℕ) (t : DataType) (f : PathValue 𝓝) (v : DatumOf 𝓝)
+      → MayBeIn series t → Represents (array m (array n t)) f v → Represents (array m (seriesOf series n t)) f v
+  represents-groups series m n t f v h r = (
+    r .0,
+    r .1,
+    r .2,
+    λ i l. represents-series series n t (elementAt 𝓝 f i) (getD (r .0) i (noDatum 𝓝)) h (r .3 i l),
+  )
 
   pub represents-split : (m n : ℕ) (t : DataType) (f : PathValue 𝓝) (l : List (DatumOf 𝓝))
       → Elements (m * n) t f l

@@ -130,7 +130,7 @@ loops-touch-below L h =
       countersBelow = λ d l. absurd (not-suc-le-zero l);
       regionsBelow = λ d l. absurd (not-suc-le-zero l);
     })
-    (h .passes) (le-refl (need L))
+    (h .within .passes) (le-refl (need L))
 
 -- What touches only cells below L leaves the others as they were.
 module _ (𝓝 : NumberDomain) where

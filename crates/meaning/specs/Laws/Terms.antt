@@ -6,21 +6,24 @@ use native.Mathlib.Nat.{zero-add}
 use lib.ListN.{length, getD}
 use lib.IntN.{ℤ}
 use Rattle.arithmetic.specs.Arithmetic.{Operation}
-use Rattle.meaning.specs.Types.{DataType, cells, arrayLength, element, firstType, secondType, number, array}
-use Rattle.meaning.specs.Terms.{LoopKind, Term}
+use Rattle.meaning.specs.Types.{DataType, Series, cells, arrayLength, element, firstType, secondType, number}
+use Rattle.meaning.specs.Types.{array}
+use Rattle.meaning.specs.Terms.{LoopKind, Term, seriesIn}
 use Rattle.meaning.specs.Typing.{typeOf}
 use Rattle.meaning.specs.Loops.{Offset}
 use Rattle.meaning.specs.Paths.{tail, byPart, index, first, second}
 use Rattle.meaning.specs.Expressions.{Expression}
 use Rattle.meaning.specs.Translation.{useWritten, noExpression, writeTerm, useTerm}
 use Rattle.meaning.specs.Counts.{writesInto, writesOnUse}
-use Rattle.meaning.specs.Laws.Typing.{IsArray, IsPair, WellTyped}
-use Rattle.meaning.specs.Laws.Paths.{flatPath, groupPath, unzippedPath}
+use Rattle.meaning.specs.Laws.Typing.{IsArray, IsPair, IsSeries, MayBeIn, WellTyped}
+use Rattle.meaning.specs.Laws.Paths.{SamePaths, same-sym, same-array, same-series, same-elements, flatPath}
+use Rattle.meaning.specs.Laws.Paths.{groupPath, unzippedPath}
 use Rattle.meaning.specs.Laws.PathValues.{valueAt}
 use Rattle.meaning.specs.Laws.Holds.{Setting, Contents, holds-literal, holds-negate, holds-operation}
 use Rattle.meaning.specs.Laws.Holds.{holds-index, holds-first, holds-second, holds-pair, holds-zip, holds-split}
 use Rattle.meaning.specs.Laws.Holds.{holds-join}
-use Rattle.meaning.specs.Laws.Claims.{UsesRightly, WritesRightly, after-nothing, use-one, use-two, assign-used}
+use Rattle.meaning.specs.Laws.Claims.{UsesRightly, WritesRightly, after-nothing, use-one, use-two, uses-same}
+use Rattle.meaning.specs.Laws.Claims.{writes-same, assign-used}
 use Rattle.meaning.specs.Laws.Maps.{use-written, write-map-rightly}
 use Rattle.meaning.specs.Laws.Parts.{write-pair, write-zip, write-split, write-join}
 use Rattle.meaning.specs.Laws.Reductions.{use-reduce}
@@ -106,14 +109,20 @@ module _ (W : Setting) where
       record { used = U; written = assign-used (useTerm I both) number (writesOnUse I Γ both) (at Γ both) U }
 
   right-map : (Γ : List DataType) (kind : LoopKind) (a b : Term)
-      → IsArray (typeOf I Γ a) → Right Γ a → Right (element (typeOf I Γ a) ∷ Γ) b → Right Γ (Term.map kind a b)
+      → IsSeries (seriesIn kind) (typeOf I Γ a)
+      → MayBeIn (seriesIn kind) (typeOf I (element (typeOf I Γ a) ∷ Γ) b)
+      → Right Γ a → Right (element (typeOf I Γ a) ∷ Γ) b → Right Γ (Term.map kind a b)
   unfolding writeTerm useTerm valueAt useWritten
-  right-map Γ kind a b isa R T =
+  right-map Γ kind a b isa fit R T =
       let whole : Term = Term.map kind a b in
+      let n : ℕ = arrayLength (typeOf I Γ a) in
       let Γ′ : List DataType = element (typeOf I Γ a) ∷ Γ in
       let H : WritesRightly W (writeTerm I whole) Γ (typeOf I Γ whole) (writesInto I Γ whole) (at Γ whole) =
-      write-map-rightly kind (useTerm I a) (writeTerm I b) (typeOf I Γ a) (typeOf I Γ′ b) (writesOnUse I Γ a)
-      (writesInto I Γ′ b) (at Γ a) (at Γ′ b) isa (R .used) (T .written) in
+      writes-same (writeTerm I whole) (array n (typeOf I Γ′ b)) (typeOf I Γ whole) (writesInto I Γ whole) (at Γ whole)
+      (same-sym (same-series (seriesIn kind) n (typeOf I Γ′ b) fit))
+      (write-map-rightly kind (useTerm I a) (writeTerm I b) (typeOf I Γ a) (typeOf I Γ′ b) (writesOnUse I Γ a)
+      (writesInto I Γ′ b) (at Γ a) (at Γ′ b) (same-elements (seriesIn kind) (typeOf I Γ a) isa) (R .used)
+      (T .written)) in
       record {
         used = use-written (writeTerm I whole) (typeOf I Γ whole) (writesInto I Γ whole) (at Γ whole) H;
         written = H;
@@ -166,34 +175,47 @@ module _ (W : Setting) where
         (at Γ a) (at Γ b) (R .written) (T .written);
   }
 
-  right-split : (Γ : List DataType) (n : ℕ) (e : Term)
+  right-split : (Γ : List DataType) (series : Series) (n : ℕ) (e : Term)
       → IsArray (typeOf I Γ e) → arrayLength (typeOf I Γ e) / n * n ≡ arrayLength (typeOf I Γ e)
-      → Right Γ e → Right Γ (Term.split n e)
+      → MayBeIn series (element (typeOf I Γ e))
+      → Right Γ e → Right Γ (Term.split series n e)
   unfolding writeTerm useTerm valueAt
-  right-split Γ n e ise q R =
+  right-split Γ series n e ise q fit R =
+      let whole : Term = Term.split series n e in
       let m : ℕ = arrayLength (typeOf I Γ e) / n in
       let t : DataType = element (typeOf I Γ e) in
       let ise′ : typeOf I Γ e ≡ array (m * n) t = ise ∙ ap (λ (l : ℕ). array l t) (sym q) in
+      let same : SamePaths (array m (array n t)) (typeOf I Γ whole) =
+      same-array m (same-sym (same-series series n t fit)) in
       record {
         used =
-            use-one (useTerm I e) (array (m * n) t) (typeOf I Γ (Term.split n e)) (writesOnUse I Γ e) (at Γ e)
-            (Expression.split n) (λ f p. f (flatPath n p)) (λ cs rs s S E f h. holds-split m n h) (used-as ise′ R);
-        written = write-split (writeTerm I e) m n t (writesInto I Γ e) (at Γ e) (written-as ise′ R);
+            uses-same (useTerm I whole) (array m (array n t)) (typeOf I Γ whole) (writesOnUse I Γ e) (at Γ whole) same
+            (use-one (useTerm I e) (array (m * n) t) (array m (array n t)) (writesOnUse I Γ e) (at Γ e)
+            (Expression.split n) (λ f p. f (flatPath n p)) (λ cs rs s S E f h. holds-split m n h) (used-as ise′ R));
+        written =
+            writes-same (writeTerm I whole) (array m (array n t)) (typeOf I Γ whole) (writesInto I Γ e) (at Γ whole) same
+            (write-split (writeTerm I e) m n t (writesInto I Γ e) (at Γ e) (written-as ise′ R));
       }
 
-  right-join : (Γ : List DataType) (e : Term)
-      → IsArray (typeOf I Γ e) → IsArray (element (typeOf I Γ e)) → Right Γ e → Right Γ (Term.join e)
+  right-join : (Γ : List DataType) (series : Series) (e : Term)
+      → IsArray (typeOf I Γ e) → IsSeries series (element (typeOf I Γ e)) → Right Γ e → Right Γ (Term.join series e)
   unfolding writeTerm useTerm valueAt
-  right-join Γ e ise isi R =
+  right-join Γ series e ise isi R =
       let m : ℕ = arrayLength (typeOf I Γ e) in
       let n : ℕ = arrayLength (element (typeOf I Γ e)) in
       let t : DataType = element (element (typeOf I Γ e)) in
-      let ise′ : typeOf I Γ e ≡ array m (array n t) = ise ∙ ap (λ (l : DataType). array m l) isi in
+      let inner : DataType = array m (element (typeOf I Γ e)) in
+      let same : SamePaths inner (array m (array n t)) =
+      same-array m (same-elements series (element (typeOf I Γ e)) isi) in
       record {
         used =
-            use-one (useTerm I e) (array m (array n t)) (typeOf I Γ (Term.join e)) (writesOnUse I Γ e) (at Γ e)
-            (Expression.join n) (λ f p. f (groupPath n p)) (λ cs rs s S E f h. holds-join m n h) (used-as ise′ R);
-        written = write-join (writeTerm I e) m n t (writesInto I Γ e) (at Γ e) (written-as ise′ R);
+            use-one (useTerm I e) (array m (array n t)) (typeOf I Γ (Term.join series e)) (writesOnUse I Γ e) (at Γ e)
+            (Expression.join n) (λ f p. f (groupPath n p)) (λ cs rs s S E f h. holds-join m n h)
+            (uses-same (useTerm I e) inner (array m (array n t)) (writesOnUse I Γ e) (at Γ e) same (used-as ise R));
+        written =
+            write-join (writeTerm I e) m n t (writesInto I Γ e) (at Γ e)
+            (writes-same (writeTerm I e) inner (array m (array n t)) (writesInto I Γ e) (at Γ e) same
+            (written-as ise R));
       }
 
   right-first : (Γ : List DataType) (e : Term) → IsPair (typeOf I Γ e) → Right Γ e → Right Γ (Term.first e)
@@ -224,20 +246,21 @@ module _ (W : Setting) where
             (at Γ (Term.second e)) U;
       }
 
-  right-index : (Γ : List DataType) (k : ℕ) (e : Term)
-      → IsArray (typeOf I Γ e) → k < arrayLength (typeOf I Γ e) → Right Γ e → Right Γ (Term.index k e)
+  right-index : (Γ : List DataType) (series : Series) (k : ℕ) (e : Term)
+      → IsSeries series (typeOf I Γ e) → k < arrayLength (typeOf I Γ e) → Right Γ e → Right Γ (Term.index series k e)
   unfolding writeTerm useTerm valueAt
-  right-index Γ k e ise l R =
+  right-index Γ series k e ise l R =
       let n : ℕ = arrayLength (typeOf I Γ e) in
       let t : DataType = element (typeOf I Γ e) in
-      let U : UsesRightly W (useTerm I (Term.index k e)) Γ t (writesOnUse I Γ e) (at Γ (Term.index k e)) =
+      let U : UsesRightly W (useTerm I (Term.index series k e)) Γ t (writesOnUse I Γ e) (at Γ (Term.index series k e)) =
       use-one (useTerm I e) (array n t) t (writesOnUse I Γ e) (at Γ e) (λ E. Expression.index E (Offset.literal k))
       (λ f p. f (index k ∷ p)) (λ cs rs s S E f h. holds-index (Offset.literal k) k h (λ cs′ ec. refl) l)
-      (used-as ise R) in
+      (uses-same (useTerm I e) (typeOf I Γ e) (array n t) (writesOnUse I Γ e) (at Γ e)
+      (same-elements series (typeOf I Γ e) ise) (R .used)) in
       record {
         used = U;
-        written = assign-used (useTerm I (Term.index k e)) t (writesOnUse I Γ e)
-            (at Γ (Term.index k e)) U;
+        written = assign-used (useTerm I (Term.index series k e)) t (writesOnUse I Γ e)
+            (at Γ (Term.index series k e)) U;
       }
 
   pub right : (Γ : List DataType) (e : Term) → WellTyped I Γ e → Right Γ e
@@ -247,14 +270,14 @@ module _ (W : Setting) where
   right Γ (Term.negate e) h = right-negate Γ e (h .1) (right Γ e (h .0))
   right Γ (Term.operation o e f) h = right-operation Γ o e f (h .2) (h .3) (right Γ e (h .0)) (right Γ f (h .1))
   right Γ (Term.map kind a b) h =
-      right-map Γ kind a b (h .1) (right Γ a (h .0)) (right (element (typeOf I Γ a) ∷ Γ) b (h .2))
+      right-map Γ kind a b (h .1) (h .3) (right Γ a (h .0)) (right (element (typeOf I Γ a) ∷ Γ) b (h .2))
   right Γ (Term.reduce z a b) h =
       right-reduce Γ z a b (h .2) (h .4) (right Γ z (h .0)) (right Γ a (h .1))
       (right (typeOf I Γ z ∷ element (typeOf I Γ a) ∷ Γ) b (h .3))
   right Γ (Term.zip a b) h = right-zip Γ a b (h .2) (h .3) (h .4) (right Γ a (h .0)) (right Γ b (h .1))
   right Γ (Term.pair a b) h = right-pair Γ a b (right Γ a (h .0)) (right Γ b (h .1))
-  right Γ (Term.split n e) h = right-split Γ n e (h .1) (h .2) (right Γ e (h .0))
-  right Γ (Term.join e) h = right-join Γ e (h .1) (h .2) (right Γ e (h .0))
+  right Γ (Term.split series n e) h = right-split Γ series n e (h .1) (h .2) (h .4) (right Γ e (h .0))
+  right Γ (Term.join series e) h = right-join Γ series e (h .1) (h .2) (right Γ e (h .0))
   right Γ (Term.first e) h = right-first Γ e (h .1) (right Γ e (h .0))
   right Γ (Term.second e) h = right-second Γ e (h .1) (right Γ e (h .0))
-  right Γ (Term.index k e) h = right-index Γ k e (h .1) (h .2) (right Γ e (h .0))
+  right Γ (Term.index series k e) h = right-index Γ series k e (h .1) (h .2) (right Γ e (h .0))

@@ -15,8 +15,8 @@ use Rattle.meaning.specs.Terms.{LoopKind, Term}
 use Rattle.meaning.specs.Typing.{typeOf}
 use Rattle.meaning.specs.Loops.{Offset, Command, seq, loop, new}
 use Rattle.meaning.specs.Expressions.{Expression, Acceptor}
-use Rattle.meaning.specs.Translation.{assign, writeMap, reduceRound, useReduce, useWritten, noExpression}
-use Rattle.meaning.specs.Translation.{writeTerm, useTerm}
+use Rattle.meaning.specs.Translation.{assign, writeMap, reduceRound, useReduce, useWritten}
+use Rattle.meaning.specs.Translation.{noExpression, writeTerm, useTerm}
 use Rattle.meaning.specs.Rows.{loopWord, commandRows}
 
 -- the regions that a use leaves open for C
@@ -30,11 +30,11 @@ regionsOpened (Term.map kind a b) = 1
 regionsOpened (Term.reduce z a b) = regionsOpened a + regionsOpened z + 1
 regionsOpened (Term.zip a b) = regionsOpened a + regionsOpened b
 regionsOpened (Term.pair a b) = regionsOpened a + regionsOpened b
-regionsOpened (Term.split n e) = regionsOpened e
-regionsOpened (Term.join e) = regionsOpened e
+regionsOpened (Term.split series n e) = regionsOpened e
+regionsOpened (Term.join series e) = regionsOpened e
 regionsOpened (Term.first e) = regionsOpened e
 regionsOpened (Term.second e) = regionsOpened e
-regionsOpened (Term.index k e) = regionsOpened e
+regionsOpened (Term.index series k e) = regionsOpened e
 
 module _ (I : List DataType) where
   -- the expression that C gets
@@ -51,12 +51,12 @@ module _ (I : List DataType) where
       Expression.zip (expressionOf a Γ Δ r) (expressionOf b Γ Δ (r + regionsOpened a))
   expressionOf (Term.pair a b) Γ Δ r =
       Expression.pair (expressionOf a Γ Δ r) (expressionOf b Γ Δ (r + regionsOpened a))
-  expressionOf (Term.split n e) Γ Δ r = Expression.split n (expressionOf e Γ Δ r)
-  expressionOf (Term.join e) Γ Δ r =
+  expressionOf (Term.split series n e) Γ Δ r = Expression.split n (expressionOf e Γ Δ r)
+  expressionOf (Term.join series e) Γ Δ r =
       Expression.join (arrayLength (element (typeOf I Γ e))) (expressionOf e Γ Δ r)
   expressionOf (Term.first e) Γ Δ r = Expression.first (expressionOf e Γ Δ r)
   expressionOf (Term.second e) Γ Δ r = Expression.second (expressionOf e Γ Δ r)
-  expressionOf (Term.index k e) Γ Δ r = Expression.index (expressionOf e Γ Δ r) (Offset.literal k)
+  expressionOf (Term.index series k e) Γ Δ r = Expression.index (expressionOf e Γ Δ r) (Offset.literal k)
 
   -- the rounds of a reduction whose array is A and whose total is region r
   abbrev pub reduceLoop : Term → Term → Term → List DataType → List Expression → ℕ → ℕ → Expression → Command
@@ -92,11 +92,11 @@ module _ (I : List DataType) where
       (expressionOf z Γ Δ (r + regionsOpened a)))
   useRows (Term.zip a b) Γ Δ c r = useRows a Γ Δ c r ++ useRows b Γ Δ c (r + regionsOpened a)
   useRows (Term.pair a b) Γ Δ c r = useRows a Γ Δ c r ++ useRows b Γ Δ c (r + regionsOpened a)
-  useRows (Term.split n e) Γ Δ c r = useRows e Γ Δ c r
-  useRows (Term.join e) Γ Δ c r = useRows e Γ Δ c r
+  useRows (Term.split series n e) Γ Δ c r = useRows e Γ Δ c r
+  useRows (Term.join series e) Γ Δ c r = useRows e Γ Δ c r
   useRows (Term.first e) Γ Δ c r = useRows e Γ Δ c r
   useRows (Term.second e) Γ Δ c r = useRows e Γ Δ c r
-  useRows (Term.index k e) Γ Δ c r = useRows e Γ Δ c r
+  useRows (Term.index series k e) Γ Δ c r = useRows e Γ Δ c r
 
   -- The rows of a use are the rows put first, and then C's: of term e, with these variables, counters and regions
   abbrev UseIsRows : Term → List DataType → List Expression → ℕ → ℕ → Type 0
@@ -173,12 +173,12 @@ module _ (I : List DataType) where
       use-rows-of-two a b Γ Δ c r (use-rows a Γ Δ c r) (use-rows b Γ Δ c (r + regionsOpened a)) Expression.zip C
   use-rows (Term.pair a b) Γ Δ c r C =
       use-rows-of-two a b Γ Δ c r (use-rows a Γ Δ c r) (use-rows b Γ Δ c (r + regionsOpened a)) Expression.pair C
-  use-rows (Term.split n e) Γ Δ c r C = use-rows e Γ Δ c r (λ E m. C (Expression.split n E) m)
-  use-rows (Term.join e) Γ Δ c r C =
+  use-rows (Term.split series n e) Γ Δ c r C = use-rows e Γ Δ c r (λ E m. C (Expression.split n E) m)
+  use-rows (Term.join series e) Γ Δ c r C =
       use-rows e Γ Δ c r (λ E n. C (Expression.join (arrayLength (element (typeOf I Γ e))) E) n)
   use-rows (Term.first e) Γ Δ c r C = use-rows e Γ Δ c r (λ E n. C (Expression.first E) n)
   use-rows (Term.second e) Γ Δ c r C = use-rows e Γ Δ c r (λ E n. C (Expression.second E) n)
-  use-rows (Term.index k e) Γ Δ c r C = use-rows e Γ Δ c r (λ E n. C (Expression.index E (Offset.literal k)) n)
+  use-rows (Term.index series k e) Γ Δ c r C = use-rows e Γ Δ c r (λ E n. C (Expression.index E (Offset.literal k)) n)
 
   -- Written terms
 
@@ -193,11 +193,11 @@ module _ (I : List DataType) where
   IsAssigned (Term.reduce z a b) = Unit {0}
   IsAssigned (Term.zip a b) = ⊥
   IsAssigned (Term.pair a b) = ⊥
-  IsAssigned (Term.split n e) = ⊥
-  IsAssigned (Term.join e) = ⊥
+  IsAssigned (Term.split series n e) = ⊥
+  IsAssigned (Term.join series e) = ⊥
   IsAssigned (Term.first e) = Unit {0}
   IsAssigned (Term.second e) = Unit {0}
-  IsAssigned (Term.index k e) = Unit {0}
+  IsAssigned (Term.index series k e) = Unit {0}
 
   -- what they are: a use, then an assignment by type
   write-is-use : (e : Term) → IsAssigned e → (Γ : List DataType) (Δ : List Expression) (c r : ℕ) (P : Acceptor)
@@ -212,11 +212,11 @@ module _ (I : List DataType) where
   write-is-use (Term.reduce z a b) i Γ Δ c r P = refl
   write-is-use (Term.zip a b) i Γ Δ c r P = absurd i
   write-is-use (Term.pair a b) i Γ Δ c r P = absurd i
-  write-is-use (Term.split n e) i Γ Δ c r P = absurd i
-  write-is-use (Term.join e) i Γ Δ c r P = absurd i
+  write-is-use (Term.split series n e) i Γ Δ c r P = absurd i
+  write-is-use (Term.join series e) i Γ Δ c r P = absurd i
   write-is-use (Term.first e) i Γ Δ c r P = refl
   write-is-use (Term.second e) i Γ Δ c r P = refl
-  write-is-use (Term.index k e) i Γ Δ c r P = refl
+  write-is-use (Term.index series k e) i Γ Δ c r P = refl
 
   pub write-rows-assigned : (e : Term) → IsAssigned e
       → (Γ : List DataType) (Δ : List Expression) (c r : ℕ) (P : Acceptor)

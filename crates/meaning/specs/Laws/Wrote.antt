@@ -18,7 +18,7 @@ use Rattle.meaning.specs.Translation.{assign}
 use Rattle.meaning.specs.Laws.Groups.{group-below, quotient-below, remainder-below, quotient-of-group}
 use Rattle.meaning.specs.Laws.Groups.{remainder-of-group}
 use Rattle.meaning.specs.Laws.Layout.{Outside, Part, outside-part}
-use Rattle.meaning.specs.Laws.Paths.{PathOf, on-number, on-array, on-pair, on-groups, flatPath, groupPath}
+use Rattle.meaning.specs.Laws.Paths.{PathOf, SamePaths, on-number, on-array, on-pair, on-groups, flatPath, groupPath}
 use Rattle.meaning.specs.Laws.Paths.{zippedPath, second-not-first}
 use Rattle.meaning.specs.Laws.Levels.{extends-refl, place-from-innermost, value-from-innermost}
 use Rattle.meaning.specs.Laws.Holds.{Setting, StoreOf, StateOf, Contents, cellAt, environment, CellSet, Holds}
@@ -40,6 +40,16 @@ wrote-inside p H = record {
   kept = λ x h o. H .kept x h (outside-part p o);
   sameLength = H .sameLength;
   counted = H .counted;
+}
+
+-- in another type that the same paths lead into, by as many writes
+pub wrote-same : {W : Setting} {g : Path ℕ → ℕ} {t t′ : DataType} {f : Contents W} {a n k k′ : ℕ} {st st′ : StateOf W}
+    → SamePaths t t′ → k ≡ k′ → Wrote W g t f a n k st st′ → Wrote W g t′ f a n k′ st st′
+wrote-same same e H = record {
+  written = λ p ok. H .written p (same .from p ok);
+  kept = λ x h o. H .kept x (λ p ok. h p (same .to p ok)) o;
+  sameLength = H .sameLength;
+  counted = omega (arith, H .counted);
 }
 
 -- One `set`

@@ -10,7 +10,7 @@ use Rattle.meaning.specs.Layout.{firstRoom, secondRoom, roundRoom, regionRoom, 
 use Rattle.meaning.specs.Runs.{Environment, withCounter, withRegion}
 use Rattle.meaning.specs.Steps.{SetStep}
 use Rattle.mixing.specs.Mixing.{Takes, AllEnded, Mixed, joined, Together, OneEach, Mixing}
-use Rattle.mixing.specs.Cores.{Work, workOfRounds, work, Ended, Goes, Done}
+use Rattle.mixing.specs.Cores.{Work, besides, inSequence, workOfRounds, work, Ended, Goes, Done}
 
 -- One piece of work and then another
 
@@ -58,9 +58,6 @@ AllDone [] (x ∷ xs) = ⊥
 AllDone (w ∷ ws) [] = ⊥
 AllDone (w ∷ ws) (x ∷ xs) = Done w x × AllDone ws xs
 
-abbrev besides : List Work → Work
-besides ws = workOfRounds LoopKind.parallel ws
-
 -- a step taken of the rounds' lists is one that some core does
 abbrev Taken : List Work → SetStep → List (List SetStep) → Type 0
 Taken ws s ys = (ws′ : List Work) × Goes (besides ws) s (besides ws′) × AllDone ws′ ys
@@ -93,20 +90,20 @@ mixed-done ws xs (s ∷ l) h m =
     let r : Taken ws s (m .0) = takes-goes ws xs (m .0) s h (m .1) in
     (besides (r .0), r .1, mixed-done (r .0) (m .0) l (r .2) (m .2))
 
-joined-done : (ws : List Work) (xs : List (List SetStep))
-    → AllDone ws xs → Done (workOfRounds LoopKind.sequential ws) (joined xs)
+joined-done : (ws : List Work) (xs : List (List SetStep)) → AllDone ws xs → Done (inSequence ws) (joined xs)
 joined-done [] [] h = tt
 joined-done [] (x ∷ xs) h = absurd h
 joined-done (w ∷ ws) [] h = absurd h
 joined-done (w ∷ ws) (x ∷ xs) h =
-    then-done w (workOfRounds LoopKind.sequential ws) x (joined xs) (h .0) (joined-done ws xs (h .1))
+    then-done w (inSequence ws) x (joined xs) (h .0) (joined-done ws xs (h .1))
 
 together-done : (kind : LoopKind) (ws : List Work) (xs : List (List SetStep)) (l : List SetStep)
     → AllDone ws xs → Together kind xs l → Done (workOfRounds kind ws) l
 together-done LoopKind.parallel ws xs l h m = mixed-done ws xs l h m
 together-done LoopKind.sequential ws xs l h m =
     let behind : l ≡ joined xs = m in
-    subst (Done (workOfRounds LoopKind.sequential ws)) (sym behind) (joined-done ws xs h)
+    subst (Done (inSequence ws)) (sym behind) (joined-done ws xs h)
+together-done LoopKind.lanes ws xs l h m = mixed-done ws xs l h m
 
 -- and what some core does is the next step of one of the rounds
 abbrev Moved : List Work → SetStep → Work → Type 0
@@ -155,18 +152,18 @@ done-mixed ws (s ∷ l) h =
     let b = m .2 (r .0) (r .1) in
     (b .0, b .1, (r .0, b .2, r .2))
 
-done-joined : (ws : List Work) (l : List SetStep)
-    → Done (workOfRounds LoopKind.sequential ws) l → RoundsDone LoopKind.sequential ws l
+done-joined : (ws : List Work) (l : List SetStep) → Done (inSequence ws) l → RoundsDone LoopKind.sequential ws l
 done-joined [] [] h = ([], tt, refl)
 done-joined [] (s ∷ l) h = absurd (h .1)
 done-joined (w ∷ ws) l h =
-    let p : Parted w (workOfRounds LoopKind.sequential ws) l = done-then w (workOfRounds LoopKind.sequential ws) l h in
+    let p : Parted w (inSequence ws) l = done-then w (inSequence ws) l h in
     let r : RoundsDone LoopKind.sequential ws (p .1) = done-joined ws (p .1) (p .3) in
     (p .0 ∷ r .0, (p .2, r .1), p .4 ∙ ap (λ (m : List SetStep). p .0 ++ m) (r .2))
 
 done-together : (kind : LoopKind) (ws : List Work) (l : List SetStep) → Done (workOfRounds kind ws) l → RoundsDone kind ws l
 done-together LoopKind.parallel ws l h = done-mixed ws l h
 done-together LoopKind.sequential ws l h = done-joined ws l h
+done-together LoopKind.lanes ws l h = done-mixed ws l h
 
 -- Commands
 

@@ -74,6 +74,7 @@ each-together : (φ : SetStep → Type 0) (kind : LoopKind) (xs : List (List Set
     → Together kind xs l → EachOf φ xs → Each φ l
 each-together φ LoopKind.parallel xs l m h = each-mixed φ xs l m h
 each-together φ LoopKind.sequential xs l m h = subst (Each φ) (sym m) (each-joined φ xs h)
+each-together φ LoopKind.lanes xs l m h = each-mixed φ xs l m h
 
 -- No step of a round depends on a step of a later one
 
@@ -167,7 +168,7 @@ each-of-mixing Z R (loop kind n b) ρ a h l m =
 each-of-mixing Z R (new c b) ρ a h l m =
     each-of-mixing Z R b (withRegion (regionRoom a c b) ρ) (bodyRoom a c b) h l m
 
--- The rounds of a `par` without races
+-- The rounds of a loop that are apart
 
 -- a step that reads nothing that these steps write
 not-read : (s : SetStep) (l : List SetStep) → StepReads (λ x. Each (λ u. writtenBy u ≢ x) l) s
@@ -188,9 +189,9 @@ independent-of s b ρ a h l m =
     (step-reads-more
     (λ x q. each-more (λ u r. r .0) l (each-of-mixing (λ y. y ≢ x) (λ y. Unit {0}) b ρ a q l m)) s (h .1))))
 
-module _ (n : ℕ) (b : Command) (ρ : Environment) (a : ℕ) (apart : RoundsApart n b ρ a) where
+module _ (kind : LoopKind) (n : ℕ) (b : Command) (ρ : Environment) (a : ℕ) (apart : RoundsApart kind n b ρ a) where
   abbrev Round : ℕ → List SetStep → Type 0
-  Round j x = Mixing b (withCounter j ρ) (roundRoom a LoopKind.parallel n b j) x
+  Round j x = Mixing b (withCounter j ρ) (roundRoom a kind n b j) x
 
   -- a mixing of round i against those of later rounds, k from j on
   against-later : (i : ℕ) (x : List SetStep) → Round i x → (k j : ℕ) → i < j → j + k ≤ n
@@ -205,8 +206,8 @@ module _ (n : ℕ) (b : Command) (ρ : Environment) (a : ℕ) (apart : RoundsApa
   against-later i x m (suc k) j l le (y ∷ ys) o =
       each-both (λ s. Each (λ u. Independent s u) y) (λ s. EachOf (λ u. Independent s u) ys) x
       (each-more
-      (λ s q. independent-of s b (withCounter j ρ) (roundRoom a LoopKind.parallel n b j) q y (o .0)) x
-      (each-of-mixing _ _ b (withCounter i ρ) (roundRoom a LoopKind.parallel n b i) (apart i j l (omega arith)) x m))
+      (λ s q. independent-of s b (withCounter j ρ) (roundRoom a kind n b j) q y (o .0)) x
+      (each-of-mixing _ _ b (withCounter i ρ) (roundRoom a kind n b i) (apart i j l (omega arith)) x m))
       (against-later i x m k (suc j) (omega arith) (omega arith) ys (o .1))
 
   unraced : (k i : ℕ) → i + k ≤ n → (xs : List (List SetStep)) → OneEach (upFrom i k) Round xs → Unraced xs
@@ -234,6 +235,18 @@ module _ (𝓝 : NumberDomain) where
       ∙ ap (inTurn (joined xs) (doStep 𝓝)) (h i (omega arith) x (o .0) st)
       ∙ joined-rounds n Round F h k (suc i) (omega arith) xs (o .1) (F i st)
 
+  -- rounds that are apart, mixed
+  mixed-rounds : (kind : LoopKind) (n : ℕ) (b : Command) (ρ : Environment) (a : ℕ) → RoundsApart kind n b ρ a
+      → (F : ℕ → State 𝓝 → State 𝓝)
+      → ((i : ℕ) → i < n → (x : List SetStep) → Mixing b (withCounter i ρ) (roundRoom a kind n b i) x
+      → (st : State 𝓝) → inTurn x (doStep 𝓝) st ≡ F i st)
+      → (xs : List (List SetStep)) → OneEach (upFrom 0 n) (λ i x. Mixing b (withCounter i ρ) (roundRoom a kind n b i) x) xs
+      → (l : List SetStep) → Mixed xs l
+      → (st : State 𝓝) → inTurn l (doStep 𝓝) st ≡ inTurn (upFrom 0 n) F st
+  mixed-rounds kind n b ρ a apart F each xs o l m st =
+      mixed-in-turn 𝓝 xs l m (unraced kind n b ρ a apart n 0 (omega arith) xs o) st
+      ∙ joined-rounds n (λ i x. Mixing b (withCounter i ρ) (roundRoom a kind n b i) x) F each n 0 (omega arith) xs o st
+
   pub mixing-is-forward : (c : Command) (ρ : Environment) (a : ℕ) → WithoutRaces c ρ a
       → (l : List SetStep) → Mixing c ρ a l
       → (st : State 𝓝) → inTurn l (doStep 𝓝) st ≡ run 𝓝 c (always forward c) ρ a st
@@ -246,16 +259,20 @@ module _ (𝓝 : NumberDomain) where
       ∙ mixing-is-forward d ρ (secondRoom a c d) (h .1) (m .1) (m .3)
       (run 𝓝 c (always forward c) ρ (firstRoom a c d) st)
   mixing-is-forward (loop LoopKind.parallel n b) ρ a h l m st =
-      mixed-in-turn 𝓝 (m .0) l (m .2) (unraced n b ρ a (h .1) n 0 (omega arith) (m .0) (m .1)) st
-      ∙ joined-rounds n (λ i x. Mixing b (withCounter i ρ) (roundRoom a LoopKind.parallel n b i) x)
+      mixed-rounds LoopKind.parallel n b ρ a (h .1)
       (λ i. run 𝓝 b (always forward b) (withCounter i ρ) (roundRoom a LoopKind.parallel n b i))
       (λ i li x q s. mixing-is-forward b (withCounter i ρ) (roundRoom a LoopKind.parallel n b i) (h .0 i li) x q s)
-      n 0 (omega arith) (m .0) (m .1) st
+      (m .0) (m .1) l (m .2) st
   mixing-is-forward (loop LoopKind.sequential n b) ρ a h l m st =
       ap (λ (x : List SetStep). inTurn x (doStep 𝓝) st) (m .2)
       ∙ joined-rounds n (λ i x. Mixing b (withCounter i ρ) (roundRoom a LoopKind.sequential n b i) x)
       (λ i. run 𝓝 b (always forward b) (withCounter i ρ) (roundRoom a LoopKind.sequential n b i))
       (λ i li x q s. mixing-is-forward b (withCounter i ρ) (roundRoom a LoopKind.sequential n b i) (h i li) x q s)
       n 0 (omega arith) (m .0) (m .1) st
+  mixing-is-forward (loop LoopKind.lanes n b) ρ a h l m st =
+      mixed-rounds LoopKind.lanes n b ρ a (h .1)
+      (λ i. run 𝓝 b (always forward b) (withCounter i ρ) (roundRoom a LoopKind.lanes n b i))
+      (λ i li x q s. mixing-is-forward b (withCounter i ρ) (roundRoom a LoopKind.lanes n b i) (h .0 i li) x q s)
+      (m .0) (m .1) l (m .2) st
   mixing-is-forward (new c b) ρ a h l m st =
       mixing-is-forward b (withRegion (regionRoom a c b) ρ) (bodyRoom a c b) h l m st

@@ -16,12 +16,12 @@ use Rattle.meaning.specs.Translation.{assign, Write, Use, useWritten, noExpress
 use Rattle.meaning.specs.Laws.Layout.{Inside, Outside, Part, Apart, part-refl, part-trans, inside-part}
 use Rattle.meaning.specs.Laws.Layout.{outside-part, apart-outside, not-both, first-inside, second-inside}
 use Rattle.meaning.specs.Laws.Layout.{region-inside, body-inside, region-apart}
-use Rattle.meaning.specs.Laws.Paths.{PathOf, cellOf}
+use Rattle.meaning.specs.Laws.Paths.{PathOf, SamePaths, same-sym, cellOf}
 use Rattle.meaning.specs.Laws.Levels.{Extends, extends-refl, extends-trans, extends-push}
 use Rattle.meaning.specs.Laws.Holds.{Setting, environment, CellSet, innermost-region}
-use Rattle.meaning.specs.Laws.Into.{Into, into-on, whole-inside, into-region}
+use Rattle.meaning.specs.Laws.Into.{Into, into-on, into-same, whole-inside, into-region}
 use Rattle.meaning.specs.Laws.Regions.{Added, region-onward}
-use Rattle.mixing.specs.Laws.ReadsOnly.{ReadsOnly, reads-on, reads-region}
+use Rattle.mixing.specs.Laws.ReadsOnly.{ReadsOnly, reads-on, reads-only-same, reads-region}
 use Rattle.mixing.specs.Laws.Orderly.{Orderly, orderly-seq, orderly-new, assign-orderly}
 
 -- What a command finds: the inputs' and the variables' expressions read cells of S only, which are all outside the
@@ -206,6 +206,18 @@ module _ {W : Setting} {L : ℕ} {Γ : List DataType} where
       (handed-both H₁
       (handed-making H₂
       (keeps cs rs₂ S₂ E F (reads-on (H₁ .reads) (extends-refl cs) (H₂ .extends) (H₂ .more)) (H₂ .reads))))))
+
+  -- in another type that the same paths lead into
+  pub uses-same-orderly : (useE : Use) (t t′ : DataType)
+      → SamePaths t t′ → UsesOrderly W L useE Γ t → UsesOrderly W L useE Γ t′
+  uses-same-orderly useE t t′ same uses =
+      use-one-orderly useE t t′ (λ E. E) (λ cs rs S E h. reads-only-same same h) uses
+
+  pub writes-same-orderly : (writeE : Write) (t t′ : DataType)
+      → SamePaths t t′ → WritesOrderly W L writeE Γ t → WritesOrderly W L writeE Γ t′
+  writes-same-orderly writeE t t′ same writes Δ cs rs S a P g Z R G I clear A into =
+      writes Δ cs rs S a P g Z R G (into-same (same-sym same) I) (λ p ok. clear p (same .to p ok)) A
+      (λ p ok. into p (same .to p ok))
 
   -- a use, then an assignment of what was used
   pub assign-used-orderly : (useE : Use) (t : DataType)

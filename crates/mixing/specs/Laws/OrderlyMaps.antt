@@ -17,13 +17,13 @@ use Rattle.meaning.specs.Expressions.{Expression, Acceptor}
 use Rattle.meaning.specs.Translation.{Write, Use, writeMap}
 use Rattle.meaning.specs.Laws.Typing.{IsArray}
 use Rattle.meaning.specs.Laws.Layout.{Inside, Outside, Part, inside-part, outside-part, apart-outside, not-both}
-use Rattle.meaning.specs.Laws.Layout.{round-inside, rounds-apart}
-use Rattle.meaning.specs.Laws.Paths.{PathOf}
+use Rattle.meaning.specs.Laws.Layout.{round-inside, OwnCells, rounds-apart}
+use Rattle.meaning.specs.Laws.Paths.{PathOf, SamePaths}
 use Rattle.meaning.specs.Laws.Levels.{extends-refl, extends-push}
 use Rattle.meaning.specs.Laws.Holds.{Setting, environment, CellSet, innermost-counter}
 use Rattle.meaning.specs.Laws.Into.{NotAt, Into, into-on, into-index}
-use Rattle.mixing.specs.Laws.ReadsOnly.{ReadsOnly, reads-on, reads-index}
-use Rattle.mixing.specs.Laws.Orderly.{Orderly, orderly-more, Disjoint, orderly-for, orderly-par, CellsAt, elements-apart}
+use Rattle.mixing.specs.Laws.ReadsOnly.{ReadsOnly, reads-on, reads-only-same, reads-index}
+use Rattle.mixing.specs.Laws.Orderly.{Orderly, orderly-more, Disjoint, orderly-for, orderly-own, CellsAt, elements-apart}
 use Rattle.mixing.specs.Laws.OrderlyClaims.{Footing, footing-on, footing-part, footing-push, Allows, UsesOrderly}
 use Rattle.mixing.specs.Laws.OrderlyClaims.{WritesOrderly, footing-after, allows-after, into-after}
 
@@ -35,14 +35,21 @@ module _ (S Z R : CellSet) (ρ : Environment) (a n : ℕ) (b : Command) (t : Dat
   abbrev roundReads : LoopKind → ℕ → CellSet
   roundReads kind i x = S x ⊎ Inside (roundRoom a kind n b i) (room b) x
 
-  rooms-disjoint : (i j : ℕ) → i ≢ j
-      → Disjoint (Inside (roundRoom a LoopKind.parallel n b i) (room b))
-      (Inside (roundRoom a LoopKind.parallel n b j) (room b))
-  rooms-disjoint i j ne x h k = go (decLt i j)
+  rooms-disjoint : (kind : LoopKind) → OwnCells kind → (i j : ℕ) → i ≢ j
+      → Disjoint (Inside (roundRoom a kind n b i) (room b)) (Inside (roundRoom a kind n b j) (room b))
+  rooms-disjoint kind own i j ne x h k = go (decLt i j)
     where
       go : Dec (i < j) → ⊥
-      go (yes l) = not-both k (apart-outside (rounds-apart a n b i j l) h)
-      go (no l) = not-both h (apart-outside (rounds-apart a n b j i (omega arith)) k)
+      go (yes l) = not-both k (apart-outside (rounds-apart a kind own n b i j l) h)
+      go (no l) = not-both h (apart-outside (rounds-apart a kind own n b j i (omega arith)) k)
+
+  -- by the cells of its own that each round has, or as a `for`
+  by-kind : (kind : LoopKind) → (OwnCells kind → Orderly Z R (loop kind n b) ρ a)
+      → ((i : ℕ) → i < n → Orderly Z R b (withCounter i ρ) (roundRoom a kind n b i))
+      → Orderly Z R (loop kind n b) ρ a
+  by-kind LoopKind.parallel own rising = own tt
+  by-kind LoopKind.sequential own rising = orderly-for rising
+  by-kind LoopKind.lanes own rising = own tt
 
   loop-orderly : (kind : LoopKind)
       → ((p r : Path ℕ) → PathOf (array n t) p → PathOf (array n t) r → g p ≡ g r → p ≡ r)
@@ -54,58 +61,49 @@ module _ (S Z R : CellSet) (ρ : Environment) (a n : ℕ) (b : Command) (t : Dat
       → ((i : ℕ) → i < n
       → Orderly (roundWrites kind i) (roundReads kind i) b (withCounter i ρ) (roundRoom a kind n b i))
       → Orderly Z R (loop kind n b) ρ a
-  loop-orderly kind distinct clear apart free A into each = finish kind clear free A each
+  loop-orderly kind distinct clear apart free A into each =
+      by-kind kind own-cells (λ i l. orderly-more (writes-more i l) (reads-more i l) (each i l))
     where
-      writes-more : (kind : LoopKind) → Allows S a (room (loop kind n b)) Z R
-          → (i : ℕ) → i < n → (x : ℕ) → roundWrites kind i x → Z x
-      writes-more kind A i l x =
+      writes-more : (i : ℕ) → i < n → (x : ℕ) → roundWrites kind i x → Z x
+      writes-more i l x =
           ⊎-elim (λ q. subst Z (q .2) (into (index i ∷ q .0) (l, q .1)))
           (λ h. A .roomWritten x (inside-part (round-inside a kind n b i l) h))
 
-      reads-more : (kind : LoopKind) → Allows S a (room (loop kind n b)) Z R
-          → (i : ℕ) → i < n → (x : ℕ) → roundReads kind i x → R x
-      reads-more kind A i l x =
+      reads-more : (i : ℕ) → i < n → (x : ℕ) → roundReads kind i x → R x
+      reads-more i l x =
           ⊎-elim (λ sx. A .relied x sx) (λ h. A .roomRead x (inside-part (round-inside a kind n b i l) h))
 
-      finish : (kind : LoopKind)
-          → ((p : Path ℕ) → PathOf (array n t) p → Outside a (room (loop kind n b)) (g p))
-          → ((x : ℕ) → S x → Outside a (room (loop kind n b)) x)
-          → Allows S a (room (loop kind n b)) Z R
-          → ((i : ℕ) → i < n
-          → Orderly (roundWrites kind i) (roundReads kind i) b (withCounter i ρ) (roundRoom a kind n b i))
-          → Orderly Z R (loop kind n b) ρ a
-      finish LoopKind.sequential clear free A each =
-          orderly-for
-          (λ i l. orderly-more (writes-more LoopKind.sequential A i l) (reads-more LoopKind.sequential A i l) (each i l))
-      finish LoopKind.parallel clear free A each =
+      own-cells : OwnCells kind → Orderly Z R (loop kind n b) ρ a
+      own-cells own =
           -- an element's cells are outside every round's room
           let outside : (i j : ℕ) → i < n → j < n
-          → Disjoint (CellsAt t (λ p. g (index i ∷ p))) (Inside (roundRoom a LoopKind.parallel n b j) (room b)) =
+          → Disjoint (CellsAt t (λ p. g (index i ∷ p))) (Inside (roundRoom a kind n b j) (room b)) =
           λ i j li lj x q h.
-          not-both (subst (Inside (roundRoom a LoopKind.parallel n b j) (room b)) (sym (q .2)) h)
-          (outside-part (round-inside a LoopKind.parallel n b j lj) (clear (index i ∷ q .0) (li, q .1))) in
-          orderly-par (roundWrites LoopKind.parallel) (roundReads LoopKind.parallel) each
+          not-both (subst (Inside (roundRoom a kind n b j) (room b)) (sym (q .2)) h)
+          (outside-part (round-inside a kind n b j lj) (clear (index i ∷ q .0) (li, q .1))) in
+          orderly-own kind (roundWrites kind) (roundReads kind) each
           (λ i j li lj ne x.
           ⊎-elim
           (λ q. ⊎-elim (λ q′. elements-apart n t g distinct i j li lj ne x q q′) (λ h. outside i j li lj x q h))
-          (λ h. ⊎-elim (λ q. outside j i lj li x q h) (λ k. rooms-disjoint i j ne x h k)))
+          (λ h. ⊎-elim (λ q. outside j i lj li x q h) (λ k. rooms-disjoint kind own i j ne x h k)))
           (λ i j li lj ne x.
           ⊎-elim
           (λ q.
           ⊎-elim (λ sx. apart x sx (index i ∷ q .0) (li, q .1) (q .2)) (λ h. outside i j li lj x q h))
           (λ h.
           ⊎-elim
-          (λ sx. not-both h (outside-part (round-inside a LoopKind.parallel n b i li) (free x sx)))
-          (λ k. rooms-disjoint i j ne x h k)))
-          (writes-more LoopKind.parallel A)
-          (reads-more LoopKind.parallel A)
+          (λ sx. not-both h (outside-part (round-inside a kind n b i li) (free x sx)))
+          (λ k. rooms-disjoint kind own i j ne x h k)))
+          writes-more
+          reads-more
 
 module _ {W : Setting} {L : ℕ} {Γ : List DataType} where
   pub write-map-orderly : (kind : LoopKind) (useA : Use) (writeB : Write) (ta tb : DataType)
-      → IsArray ta → UsesOrderly W L useA Γ ta → WritesOrderly W L writeB (element ta ∷ Γ) tb
+      → SamePaths ta (array (arrayLength ta) (element ta)) → UsesOrderly W L useA Γ ta
+      → WritesOrderly W L writeB (element ta ∷ Γ) tb
       → WritesOrderly W L (writeMap kind ta useA writeB) Γ (array (arrayLength ta) tb)
   unfolding writeMap
-  write-map-orderly kind useA writeB ta tb isa uses writes Δ cs rs S a P g Z R G I clear A into =
+  write-map-orderly kind useA writeB ta tb same uses writes Δ cs rs S a P g Z R G I clear A into =
       let n : ℕ = arrayLength ta in
       let i₀ : Offset = Offset.counter (length cs) in
       let body : Expression → ℕ → Command =
@@ -115,8 +113,7 @@ module _ {W : Setting} {L : ℕ} {Γ : List DataType} where
       let b : Command = body E (length rs′) in
       let I′ : Into W cs rs′ P (array n tb) g S′ L = into-after I clear H in
       let G′ : Footing W cs rs′ S′ Γ Δ a′ (room (loop kind n b)) L = footing-after G H in
-      let h : ReadsOnly W cs rs′ S′ E (array n (element ta)) =
-      subst (λ t. ReadsOnly W cs rs′ S′ E t) isa (H .reads) in
+      let h : ReadsOnly W cs rs′ S′ E (array n (element ta)) = reads-only-same same (H .reads) in
       let clear′ : (p : Path ℕ) → PathOf (array n tb) p → Outside a′ (room (loop kind n b)) (g p) =
       λ p ok. outside-part (H .part) (clear p ok) in
       loop-orderly S′ Z R (environment W cs rs′) a′ n b tb g kind (I′ .distinct) clear′ (I′ .apart refl) (G′ .free)

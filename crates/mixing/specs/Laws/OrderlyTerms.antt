@@ -6,7 +6,7 @@ use native.Mathlib.Nat.{le-refl, not-suc-le-zero}
 use native.Mathlib.Omega.{arith}
 use lib.ListN.{getD, length-map}
 use Rattle.meaning.specs.Types.{DataType, cells, arrayLength, element, firstType, secondType, number, array}
-use Rattle.meaning.specs.Terms.{Term, Plan}
+use Rattle.meaning.specs.Terms.{Term, Plan, seriesIn}
 use Rattle.meaning.specs.Typing.{typeOf}
 use Rattle.meaning.specs.Numbers.{clamped32}
 use Rattle.meaning.specs.Values.{noNumber}
@@ -17,7 +17,8 @@ use Rattle.meaning.specs.Expressions.{Expression, Acceptor}
 use Rattle.meaning.specs.Translation.{assign, useWritten, noExpression, writeTerm, useTerm, planType, translation}
 use Rattle.meaning.specs.Laws.Typing.{WellTyped}
 use Rattle.meaning.specs.Laws.Layout.{Outside, base-fits, entry-cells}
-use Rattle.meaning.specs.Laws.Paths.{cellOf, cellOf-below}
+use Rattle.meaning.specs.Laws.Paths.{SamePaths, same-sym, same-array, same-series, same-elements, cellOf}
+use Rattle.meaning.specs.Laws.Paths.{cellOf-below}
 use Rattle.meaning.specs.Laws.Holds.{Setting}
 use Rattle.meaning.specs.Laws.Into.{into-output}
 use Rattle.mixing.specs.Races.{WithoutRaces}
@@ -25,7 +26,8 @@ use Rattle.mixing.specs.Laws.ReadsOnly.{reads-literal, reads-negate, rea
 use Rattle.mixing.specs.Laws.ReadsOnly.{reads-first, reads-second, reads-pair, reads-zip, reads-split}
 use Rattle.mixing.specs.Laws.ReadsOnly.{reads-join, reads-input}
 use Rattle.mixing.specs.Laws.OrderlyClaims.{UsesOrderly, WritesOrderly, handed-nothing, use-one-orderly}
-use Rattle.mixing.specs.Laws.OrderlyClaims.{use-two-orderly, assign-used-orderly, use-written-orderly}
+use Rattle.mixing.specs.Laws.OrderlyClaims.{use-two-orderly, uses-same-orderly, writes-same-orderly, assign-used-orderly}
+use Rattle.mixing.specs.Laws.OrderlyClaims.{use-written-orderly}
 use Rattle.mixing.specs.Laws.OrderlyParts.{write-pair-orderly, write-zip-orderly, write-split-orderly}
 use Rattle.mixing.specs.Laws.OrderlyParts.{write-join-orderly}
 use Rattle.mixing.specs.Laws.OrderlyMaps.{write-map-orderly}
@@ -82,10 +84,13 @@ module _ (W : Setting) (L : ℕ) where
       (λ w. w)
   orderly Γ (Term.map kind a b) h =
       let whole : Term = Term.map kind a b in
+      let n : ℕ = arrayLength (typeOf I Γ a) in
       let Γ′ : List DataType = element (typeOf I Γ a) ∷ Γ in
       let M : WritesOrderly W L (writeTerm I whole) Γ (typeOf I Γ whole) =
-      write-map-orderly kind (useTerm I a) (writeTerm I b) (typeOf I Γ a) (typeOf I Γ′ b) (h .1)
-      (orderly Γ a (h .0) .used) (orderly Γ′ b (h .2) .written) in
+      writes-same-orderly (writeTerm I whole) (array n (typeOf I Γ′ b)) (typeOf I Γ whole)
+      (same-sym (same-series (seriesIn kind) n (typeOf I Γ′ b) (h .3)))
+      (write-map-orderly kind (useTerm I a) (writeTerm I b) (typeOf I Γ a) (typeOf I Γ′ b)
+      (same-elements (seriesIn kind) (typeOf I Γ a) (h .1)) (orderly Γ a (h .0) .used) (orderly Γ′ b (h .2) .written)) in
       record { used = use-written-orderly (writeTerm I whole) (typeOf I Γ whole) M; written = M }
   orderly Γ (Term.reduce z a b) h =
       assigned Γ (Term.reduce z a b)
@@ -117,28 +122,39 @@ module _ (W : Setting) (L : ℕ) where
             write-pair-orderly (writeTerm I a) (writeTerm I b) (typeOf I Γ a) (typeOf I Γ b) (OA .written)
             (OB .written);
       }
-  orderly Γ (Term.split n e) h =
+  orderly Γ (Term.split series n e) h =
+      let whole : Term = Term.split series n e in
       let m : ℕ = arrayLength (typeOf I Γ e) / n in
       let t : DataType = element (typeOf I Γ e) in
       let ise : typeOf I Γ e ≡ array (m * n) t = h .1 ∙ ap (λ (l : ℕ). array l t) (sym (h .2)) in
+      let same : SamePaths (array m (array n t)) (typeOf I Γ whole) =
+      same-array m (same-sym (same-series series n t (h .4))) in
       let O = orderly Γ e (h .0) in
       record {
         used =
-            use-one-orderly (useTerm I e) (array (m * n) t) (typeOf I Γ (Term.split n e)) (Expression.split n)
-            (λ cs rs S E q. reads-split m n q) (used-as ise O);
-        written = write-split-orderly (writeTerm I e) m n t (written-as ise O);
+            uses-same-orderly (useTerm I whole) (array m (array n t)) (typeOf I Γ whole) same
+            (use-one-orderly (useTerm I e) (array (m * n) t) (array m (array n t)) (Expression.split n)
+            (λ cs rs S E q. reads-split m n q) (used-as ise O));
+        written =
+            writes-same-orderly (writeTerm I whole) (array m (array n t)) (typeOf I Γ whole) same
+            (write-split-orderly (writeTerm I e) m n t (written-as ise O));
       }
-  orderly Γ (Term.join e) h =
+  orderly Γ (Term.join series e) h =
       let m : ℕ = arrayLength (typeOf I Γ e) in
       let n : ℕ = arrayLength (element (typeOf I Γ e)) in
       let t : DataType = element (element (typeOf I Γ e)) in
-      let ise : typeOf I Γ e ≡ array m (array n t) = h .1 ∙ ap (λ (l : DataType). array m l) (h .2) in
+      let inner : DataType = array m (element (typeOf I Γ e)) in
+      let same : SamePaths inner (array m (array n t)) =
+      same-array m (same-elements series (element (typeOf I Γ e)) (h .2)) in
       let O = orderly Γ e (h .0) in
       record {
         used =
-            use-one-orderly (useTerm I e) (array m (array n t)) (typeOf I Γ (Term.join e)) (Expression.join n)
-            (λ cs rs S E q. reads-join m n q) (used-as ise O);
-        written = write-join-orderly (writeTerm I e) m n t (written-as ise O);
+            use-one-orderly (useTerm I e) (array m (array n t)) (typeOf I Γ (Term.join series e)) (Expression.join n)
+            (λ cs rs S E q. reads-join m n q)
+            (uses-same-orderly (useTerm I e) inner (array m (array n t)) same (used-as (h .1) O));
+        written =
+            write-join-orderly (writeTerm I e) m n t
+            (writes-same-orderly (writeTerm I e) inner (array m (array n t)) same (written-as (h .1) O));
       }
   orderly Γ (Term.first e) h =
       let t : DataType = firstType (typeOf I Γ e) in
@@ -152,12 +168,14 @@ module _ (W : Setting) (L : ℕ) where
       (use-one-orderly (useTerm I e) (DataType.pair (firstType (typeOf I Γ e)) t) t Expression.second
       (λ cs rs S E q. reads-second q) (used-as (h .1) (orderly Γ e (h .0))))
       (λ w. w)
-  orderly Γ (Term.index k e) h =
+  orderly Γ (Term.index series k e) h =
       let n : ℕ = arrayLength (typeOf I Γ e) in
       let t : DataType = element (typeOf I Γ e) in
-      assigned Γ (Term.index k e)
+      assigned Γ (Term.index series k e)
       (use-one-orderly (useTerm I e) (array n t) t (λ E. Expression.index E (Offset.literal k))
-      (λ cs rs S E q. reads-index (Offset.literal k) k q (λ cs′ ec. refl) (h .2)) (used-as (h .1) (orderly Γ e (h .0))))
+      (λ cs rs S E q. reads-index (Offset.literal k) k q (λ cs′ ec. refl) (h .2))
+      (uses-same-orderly (useTerm I e) (typeOf I Γ e) (array n t) (same-elements series (typeOf I Γ e) (h .1))
+      (orderly Γ e (h .0) .used)))
       (λ w. w)
 
 -- A whole plan

@@ -96,12 +96,16 @@ one-each-map : (Round : ℕ → List SetStep → Type 0) (f : ℕ → List SetSt
 one-each-map Round f h [] = tt
 one-each-map Round f h (i ∷ is) = (h i, one-each-map Round f h is)
 
+permuted-mixed : (f : ℕ → List SetStep) {is js : List ℕ} → List·Permᴰ is js → Mixed (map f js) (stepsOfRounds is f)
+permuted-mixed f {is} {js} d =
+    mixed-permuted (map-permuted f d) (stepsOfRounds is f)
+    (subst (Mixed (map f is)) (sym (rounds-joined f is)) (joined-mixed (map f is)))
+
 steps-together : (kind : LoopKind) (n : ℕ) (o : Order kind n) (f : ℕ → List SetStep)
     → Together kind (map f (upFrom 0 n)) (stepsOfRounds (roundsIn kind n o) f)
-steps-together LoopKind.parallel n o f =
-    mixed-permuted (map-permuted f (o .1)) (stepsOfRounds (o .0) f)
-    (subst (Mixed (map f (o .0))) (sym (rounds-joined f (o .0))) (joined-mixed (map f (o .0))))
+steps-together LoopKind.parallel n o f = permuted-mixed f (o .1)
 steps-together LoopKind.sequential n o f = rounds-joined f (upFrom 0 n)
+steps-together LoopKind.lanes n o f = permuted-mixed f (o .1)
 
 pub steps-mixing : (c : Command) (ch : Orders c) (ρ : Environment) (a : ℕ) → Mixing c ρ a (steps c ch ρ a)
 unfolding Mixing steps

@@ -13,7 +13,7 @@ use Rattle.meaning.specs.Expressions.{Expression}
 use Rattle.meaning.specs.Offsets.{readAt, valueFromInnermost}
 use Rattle.meaning.specs.Limits.{ReadsIn}
 use Rattle.meaning.specs.Laws.Groups.{group-below, quotient-below, remainder-below}
-use Rattle.meaning.specs.Laws.Paths.{PathOf, cellOf}
+use Rattle.meaning.specs.Laws.Paths.{PathOf, SamePaths, cellOf}
 use Rattle.meaning.specs.Laws.Evaluation.{along-array, along-pair, offset-is-cell}
 use Rattle.meaning.specs.Laws.Levels.{atLevel, Extends, extends-trans, numberUnder, pathUnder, number-additive}
 use Rattle.meaning.specs.Laws.Levels.{offset-from-innermost}
@@ -37,6 +37,12 @@ reads-on {W} {E = E} h ec er more = record {
       reads-more more (W .bases) (atLevel cs″) (atLevel rs″) (readAt E p)
       (h .read cs″ rs″ (extends-trans ec ec′) (extends-trans er er′) p ok);
 }
+
+-- in another type that the same paths lead into
+pub reads-only-same : {W : Setting} {cs rs : List ℕ} {S : CellSet} {E : Expression} {t t′ : DataType}
+    → SamePaths t t′ → ReadsOnly W cs rs S E t → ReadsOnly W cs rs S E t′
+reads-only-same same h =
+    record { read = λ cs′ rs′ ec er p ok. h .read cs′ rs′ ec er p (same .from (pathUnder cs′ p) ok) }
 
 -- numbers from 0 innermost read the same cells as levels
 pub reads-from-innermost : (S : CellSet) (ins cs rs : List ℕ) (v : Value) → ReadsIn S ins (atLevel cs) (atLevel rs) v

@@ -22,7 +22,7 @@ abbrev μ-loop : tie.MeasureT-loop
 
 loop-holds : tie.Need-loop-holds Inv-loop μ-loop
 loop-holds c =
-    let long : length (c .built-in .result) ≡ 38 = search needs in
+    let long : length (c .built-in .result) ≡ 44 = search needs in
     record { listed = omega (arith, words-count); within = omega arith; long = long ∙ sym words-count; rest = refl; answer = refl; put = λ i h. absurd (not-suc-le-zero h) }
 
 returns : tie.Need-returns Inv-loop μ-loop

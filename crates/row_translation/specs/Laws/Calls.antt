@@ -41,11 +41,11 @@ regions-few (Term.reduce z a b) =
     omega (arith, regions-few z, regions-few a, length-append (termRows z) (termRows a ++ termRows b), length-append (termRows a) (termRows b))
 regions-few (Term.zip a b) = omega (arith, regions-few a, regions-few b, length-append (termRows a) (termRows b))
 regions-few (Term.pair a b) = omega (arith, regions-few a, regions-few b, length-append (termRows a) (termRows b))
-regions-few (Term.split n e) = omega (arith, regions-few e)
-regions-few (Term.join e) = omega (arith, regions-few e)
+regions-few (Term.split series n e) = omega (arith, regions-few e)
+regions-few (Term.join series e) = omega (arith, regions-few e)
 regions-few (Term.first e) = omega (arith, regions-few e)
 regions-few (Term.second e) = omega (arith, regions-few e)
-regions-few (Term.index k e) = omega (arith, regions-few e)
+regions-few (Term.index series k e) = omega (arith, regions-few e)
 
 -- room for m nodes more in a later state
 pub room-on : (n m : ℕ) (Y : List ℕ) (N : List ℤ) (T U : List ℕ) (s s′ : State) → Room n Y N T s → Grown T U (s .len) → s .len ≤ s′ .len

@@ -36,11 +36,11 @@ module _ (Y : List ℕ) (m : ℕ) (I Γ : List DataType) where
   noted-view (Term.reduce z a b) C h = (h .0, (h .1, h .2, h .3))
   noted-view (Term.zip a b) C h = (h .0, (h .1, h .2))
   noted-view (Term.pair a b) C h = (h .0, (h .1, h .2))
-  noted-view (Term.split n e) C h = (h .0, h .1)
-  noted-view (Term.join e) C h = (h .0, h .1)
+  noted-view (Term.split series n e) C h = (h .0, h .1)
+  noted-view (Term.join series e) C h = (h .0, h .1)
   noted-view (Term.first e) C h = (h .0, h .1)
   noted-view (Term.second e) C h = (h .0, h .1)
-  noted-view (Term.index k e) C h = (h .0, h .1)
+  noted-view (Term.index series k e) C h = (h .0, h .1)
 
   pub noted-here : (e : Term) (C : List ℕ) → Noted Y m I Γ e C → Names Y m (getD C 0 0) (typeOf I Γ e)
   noted-here e C h = noted-view e C h .0

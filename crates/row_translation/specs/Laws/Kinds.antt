@@ -1,13 +1,13 @@
 -- Terms by the kind of their first row, as the code asks for it: what is used and written of each. Assumes nothing.
-use mathlib.Core.Path.{_≡_, refl, sym, _∙_}
+use mathlib.Core.Path.{_≡_, refl, ap, sym, _∙_}
 use mathlib.Core.Bool.{true, false}
 use mathlib.Core.List.{List, _∷_, _++_}
 use Prim.Native.Nat.{ℕ, suc, _+_}
 use lib.IntN.{ℤ, pos}
 use Rattle.words.specs.Kinds.{word-redseq, word-new, word-seq}
 use Rattle.words.specs.Words.{table, operandsOf}
-use Rattle.meaning.specs.Types.{DataType, cells, arrayLength, element}
-use Rattle.meaning.specs.Terms.{Term}
+use Rattle.meaning.specs.Types.{DataType, Series, seriesOf, cells, arrayLength, element}
+use Rattle.meaning.specs.Terms.{Term, seriesIn}
 use Rattle.meaning.specs.Typing.{typeOf}
 use Rattle.meaning.specs.Loops.{Offset}
 use Rattle.meaning.specs.Expressions.{Expression, Acceptor}
@@ -19,9 +19,10 @@ use Rattle.syntax.proofs.Standing.{three-operands}
 use Rattle.syntax.proofs.Shapes.{Reduction, as-reduction, Map, as-map, map-opens}
 use Rattle.emission.specs.References.{classOf}
 use Rattle.words.specs.Groups.{oneOf, isLeaf, isMap, hasOneOperand}
-use Rattle.clauses.specs.Clauses.{numberOver, mapLoop, isPaired, firstPart, secondPart, isRegrouped, regroupedBy, regionNode}
+use Rattle.clauses.specs.Clauses.{nodeKind, numberOver, mapLoop, isPaired, firstPart, secondPart, isGrouping, isRegrouped, regroupedBy, regionNode}
 use Rattle.emission.specs.Laws.Readings.{readBy, writeBy}
 use Rattle.row_translation.specs.Laws.Words.{true-false, false-true, operation-word, operation-read, map-word}
+use Rattle.row_translation.specs.Laws.Words.{split-word, join-word, index-word}
 
 module _ (I : List DataType) where
   -- ---- one operand
@@ -31,7 +32,7 @@ module _ (I : List DataType) where
     pub opened : regionsOpened e ≡ regionsOpened (firstOperand e)
     pub rows : (Γ : List DataType) (Δ : List Expression) (c r : ℕ) → useRows I e Γ Δ c r ≡ useRows I (firstOperand e) Γ Δ c r
     pub reads : (Y : List ℕ) (N : List ℤ) (Γ : List DataType) (Δ : List Expression) (r : ℕ) (F : Expression)
-        → readBy (classOf (termKind e)) Y N (termKind e) 0 (numberOver (termKind e) (termNumber e) (typeOf I Γ (firstOperand e))) (expressionOf I (firstOperand e) Γ Δ r) F
+        → readBy (classOf (nodeKind (termKind e))) Y N (nodeKind (termKind e)) 0 (numberOver (termKind e) (termNumber e) (typeOf I Γ (firstOperand e))) (expressionOf I (firstOperand e) Γ Δ r) F
         ≡ expressionOf I e Γ Δ r
 
   pub one-operand : (e : Term) → hasOneOperand (termKind e) ≡ true → OneOperand e
@@ -45,11 +46,11 @@ module _ (I : List DataType) where
   one-operand (Term.reduce z a b) h = false-true h
   one-operand (Term.zip a b) h = false-true h
   one-operand (Term.pair a b) h = false-true h
-  one-operand (Term.split n e) h = record { count = refl; opened = refl; rows = λ Γ Δ c r. refl; reads = λ Y N Γ Δ r F. refl }
-  one-operand (Term.join e) h = record { count = refl; opened = refl; rows = λ Γ Δ c r. refl; reads = λ Y N Γ Δ r F. refl }
+  one-operand (Term.split series n e) h = record { count = refl; opened = refl; rows = λ Γ Δ c r. refl; reads = λ Y N Γ Δ r F. rw (split-word series .node) refl }
+  one-operand (Term.join series e) h = record { count = refl; opened = refl; rows = λ Γ Δ c r. refl; reads = λ Y N Γ Δ r F. rw (join-word series .node) refl }
   one-operand (Term.first e) h = record { count = refl; opened = refl; rows = λ Γ Δ c r. refl; reads = λ Y N Γ Δ r F. refl }
   one-operand (Term.second e) h = record { count = refl; opened = refl; rows = λ Γ Δ c r. refl; reads = λ Y N Γ Δ r F. refl }
-  one-operand (Term.index k e) h = record { count = refl; opened = refl; rows = λ Γ Δ c r. refl; reads = λ Y N Γ Δ r F. refl }
+  one-operand (Term.index series k e) h = record { count = refl; opened = refl; rows = λ Γ Δ c r. refl; reads = λ Y N Γ Δ r F. rw (index-word series .node) refl }
 
   -- ---- two operands of which both are used
 
@@ -74,11 +75,11 @@ module _ (I : List DataType) where
   two-operands (Term.reduce z a b) l m x h = absurd (x refl)
   two-operands (Term.zip a b) l m x h = record { count = refl; opens = refl; opened = refl; rows = λ Γ Δ c r. refl; reads = λ Y N Γ Δ r. refl }
   two-operands (Term.pair a b) l m x h = record { count = refl; opens = refl; opened = refl; rows = λ Γ Δ c r. refl; reads = λ Y N Γ Δ r. refl }
-  two-operands (Term.split n e) l m x h = true-false h
-  two-operands (Term.join e) l m x h = true-false h
+  two-operands (Term.split series n e) l m x h = true-false (sym (split-word series .isOne) ∙ h)
+  two-operands (Term.join series e) l m x h = true-false (sym (join-word series .isOne) ∙ h)
   two-operands (Term.first e) l m x h = true-false h
   two-operands (Term.second e) l m x h = true-false h
-  two-operands (Term.index k e) l m x h = true-false h
+  two-operands (Term.index series k e) l m x h = true-false (sym (index-word series .isOne) ∙ h)
 
   -- ---- maps
 
@@ -100,6 +101,10 @@ module _ (I : List DataType) where
         (writeTerm I (secondOperand e) (element (typeOf I Γ (firstOperand e)) ∷ Γ) (Expression.index (expressionOf I (firstOperand e) Γ Δ r) (Offset.counter c) ∷ Δ)
         (suc c) (r + regionsOpened (firstOperand e)) (Acceptor.index P (Offset.counter c))))
 
+  series-length : (series : Series) (n : ℕ) (t : DataType) → arrayLength (seriesOf series n t) ≡ n
+  series-length Series.arrays n t = refl
+  series-length Series.vectors n t = refl
+
   map-here : {e : Term} → Map e → MapTerm e
   unfolding useRows expressionOf
   map-here (Map.of m a b) = record {
@@ -107,10 +112,12 @@ module _ (I : List DataType) where
     opens = refl;
     opened = refl;
     node = map-word m .node;
-    lengths = λ Γ. refl;
+    lengths = λ Γ. series-length (seriesIn m) (arrayLength (typeOf I Γ a)) (typeOf I (element (typeOf I Γ a) ∷ Γ) b);
     rows = λ Γ Δ c r. refl;
     reads = λ Γ Δ r. refl;
-    writes = λ Γ Δ c r P. rw (map-word m .itsLoop) (write-rows-map I m a b Γ Δ c r P);
+    writes = λ Γ Δ c r P.
+        rw (map-word m .itsLoop, series-length (seriesIn m) (arrayLength (typeOf I Γ a)) (typeOf I (element (typeOf I Γ a) ∷ Γ) b))
+        (write-rows-map I m a b Γ Δ c r P);
   }
 
   pub map-term : (e : Term) → isMap (termKind e) ≡ true → MapTerm e
@@ -163,11 +170,11 @@ module _ (I : List DataType) where
   paired-term (Term.reduce z a b) h = false-true h
   paired-term (Term.zip a b) h = record { count = refl; opens = refl; noMap = refl; writes = λ Y Γ Δ c r P. refl }
   paired-term (Term.pair a b) h = record { count = refl; opens = refl; noMap = refl; writes = λ Y Γ Δ c r P. refl }
-  paired-term (Term.split n e) h = false-true h
-  paired-term (Term.join e) h = false-true h
+  paired-term (Term.split series n e) h = false-true (sym (split-word series .noPair) ∙ h)
+  paired-term (Term.join series e) h = false-true (sym (join-word series .noPair) ∙ h)
   paired-term (Term.first e) h = false-true h
   paired-term (Term.second e) h = false-true h
-  paired-term (Term.index k e) h = false-true h
+  paired-term (Term.index series k e) h = false-true (sym (index-word series .noPair) ∙ h)
 
   -- ---- one operand that is written
 
@@ -190,11 +197,11 @@ module _ (I : List DataType) where
   regrouped-term (Term.reduce z a b) h = false-true h
   regrouped-term (Term.zip a b) h = false-true h
   regrouped-term (Term.pair a b) h = false-true h
-  regrouped-term (Term.split n e) h = record { count = refl; noMap = refl; writes = λ Y Γ Δ c r P. refl }
-  regrouped-term (Term.join e) h = record { count = refl; noMap = refl; writes = λ Y Γ Δ c r P. refl }
+  regrouped-term (Term.split series n e) h = record { count = refl; noMap = split-word series .noMap; writes = λ Y Γ Δ c r P. rw (split-word series .node) refl }
+  regrouped-term (Term.join series e) h = record { count = refl; noMap = join-word series .noMap; writes = λ Y Γ Δ c r P. rw (join-word series .node) refl }
   regrouped-term (Term.first e) h = false-true h
   regrouped-term (Term.second e) h = false-true h
-  regrouped-term (Term.index k e) h = false-true h
+  regrouped-term (Term.index series k e) h = false-true (sym (ap isGrouping (index-word series .node)) ∙ h)
 
   -- ---- those that are written by a use and an assignment
 
@@ -209,8 +216,8 @@ module _ (I : List DataType) where
   assigned-term (Term.reduce z a b) m p g = tt
   assigned-term (Term.zip a b) m p g = true-false p
   assigned-term (Term.pair a b) m p g = true-false p
-  assigned-term (Term.split n e) m p g = true-false g
-  assigned-term (Term.join e) m p g = true-false g
+  assigned-term (Term.split series n e) m p g = true-false (sym (ap isGrouping (split-word series .node)) ∙ g)
+  assigned-term (Term.join series e) m p g = true-false (sym (ap isGrouping (join-word series .node)) ∙ g)
   assigned-term (Term.first e) m p g = tt
   assigned-term (Term.second e) m p g = tt
-  assigned-term (Term.index k e) m p g = tt
+  assigned-term (Term.index series k e) m p g = tt

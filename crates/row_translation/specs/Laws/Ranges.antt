@@ -8,9 +8,10 @@ use lib.IntN.{ℤ, pos}
 use lib.ListN.{length, getD}
 use Rattle.words.specs.Kinds.{word-var, word-lit, word-redseq}
 use Rattle.words.specs.Words.{table, operandsOf}
-use Rattle.meaning.specs.Types.{DataType}
+use Rattle.meaning.specs.Types.{DataType, Series}
 use Rattle.meaning.specs.Terms.{Term}
 use Rattle.meaning.specs.Expressions.{Expression}
+use Rattle.meaning.specs.Laws.Bounds.{width-is-count}
 use Rattle.syntax.specs.Ranges.{asNatural}
 use Rattle.syntax.specs.InRange.{TermInRange}
 use Rattle.syntax.specs.Standing.{termKind, termNumber}
@@ -30,11 +31,13 @@ number-few K v (Term.map m a b) f h g r = omega arith
 number-few K v (Term.reduce z a b) f h g r = omega arith
 number-few K v (Term.zip a b) f h g r = omega arith
 number-few K v (Term.pair a b) f h g r = omega arith
-number-few K v (Term.split n e) f h g r = omega (arith, r .0)
-number-few K v (Term.join e) f h g r = omega arith
+number-few K v (Term.split Series.arrays n e) f h g r = omega (arith, r .0)
+number-few K v (Term.split Series.vectors n e) f h g r = omega (arith, width-is-count n (r .0))
+number-few K v (Term.join series e) f h g r = omega arith
 number-few K v (Term.first e) f h g r = omega arith
 number-few K v (Term.second e) f h g r = omega arith
-number-few K v (Term.index k e) f h g r = omega (arith, r .0)
+number-few K v (Term.index Series.arrays k e) f h g r = omega (arith, r .0)
+number-few K v (Term.index Series.vectors k e) f h g r = omega (arith, r .0)
 
 variable-below : (K v : ℕ) (e : Term) → termKind e ≡ word-var → TermInRange K v e → termNumber e < v
 unfolding operandsOf table

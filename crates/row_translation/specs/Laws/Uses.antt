@@ -26,7 +26,7 @@ use Rattle.emission.specs.Laws.Table.{put-append}
 use Rattle.emission.specs.Laws.Growth.{grown-more}
 use Rattle.row_translation.specs.WriteAndUse.{Stands, Used, Written}
 use Rattle.words.specs.Groups.{isLeaf, isMap, hasOneOperand}
-use Rattle.clauses.specs.Clauses.{numberOver, regionRows, OverOne, OverTwo, RegionOpened, RegionUsed, AfterUse}
+use Rattle.clauses.specs.Clauses.{nodeKind, numberOver, regionRows, OverOne, OverTwo, RegionOpened, RegionUsed, AfterUse}
 use Rattle.emission.specs.Laws.Readings.{readBy, pushed-reads, pushed-writes, reads-on}
 use Rattle.row_translation.specs.Laws.Kinds.{OneOperand, one-operand, TwoOperands, two-operands, MapTerm, map-term}
 use Rattle.row_translation.specs.Laws.Operands.{type-here, type-first}
@@ -46,7 +46,7 @@ module _ (Y : List ℕ) (N : List ℤ) (I Γ : List DataType) (Δ : List Express
 
   module _ (e : Term) (U W : List ℕ) (o : Table) (K : List ℕ) (M : List ℤ) (k n : ℕ) (one r : Translated) where
     over-one : k ≡ termKind e → n ≡ numberOver k (termNumber e) (typeOf I Γ (firstOperand e)) → n < 65536 → one .len < 1024 → OneOperand I e
-        → Used Y N I Γ Δ (firstOperand e) s T U o (table K M (one .to)) one → OverOne U W k n one r
+        → Used Y N I Γ Δ (firstOperand e) s T U o (table K M (one .to)) one → OverOne U W (nodeKind k) n one r
         → Used Y N I Γ Δ e s T W o (table K M (r .to)) r
     over-one ek en hn hl q A B =
         let E : Expression = expressionAt Y N U (one .value) in
@@ -58,9 +58,9 @@ module _ (Y : List ℕ) (N : List ℤ) (I Γ : List DataType) (Δ : List Express
           rows = end-as K M (r .to) (one .to) (B .to) ∙ A .rows ∙ ap (λ (l : List Row). putRows l o) (sym (q .rows Γ Δ (s .counters) (s .regions)));
           value =
               ap (expressionAt Y N W) (B .value)
-              ∙ pushed-reads U W (one .len) k 0 n (one .value) 0 (B .node) hl (omega arith) hn (A .below) z Y N
-              ∙ ap (λ (i : ℕ). readBy (classOf i) Y N i 0 n E F) ek
-              ∙ ap₂ (λ (i : ℕ) (x : Expression). readBy (classOf (termKind e)) Y N (termKind e) 0 i x F) v (A .value)
+              ∙ pushed-reads U W (one .len) (nodeKind k) 0 n (one .value) 0 (B .node) hl (omega arith) hn (A .below) z Y N
+              ∙ ap (λ (i : ℕ). readBy (classOf (nodeKind i)) Y N (nodeKind i) 0 n E F) ek
+              ∙ ap₂ (λ (i : ℕ) (x : Expression). readBy (classOf (nodeKind (termKind e))) Y N (nodeKind (termKind e)) 0 i x F) v (A .value)
               ∙ q .reads Y N Γ Δ (s .regions) F;
           below = omega (arith, B .value, B .len);
           regions = B .regions ∙ A .regions ∙ ap (λ (i : ℕ). s .regions + i) (sym (q .opened));
@@ -73,7 +73,7 @@ module _ (Y : List ℕ) (N : List ℤ) (I Γ : List DataType) (Δ : List Express
     pub used-over-one : (ks : List ℕ) (ns : List ℤ) (C : List ℕ) (m p : ℕ) → Stands ks ns C Y N T s I Γ Δ e
         → k ≡ getD ks 0 0 → m ≡ asNatural (getD ns 0 (pos 0)) → p ≡ getD C 1 0 → isLeaf k ≡ false → hasOneOperand k ≡ true
         → n ≡ numberOver k m (typeAt Y p) → n < 65536 → one .len < 1024
-        → Used Y N I Γ Δ (firstOperand e) s T U o (table K M (one .to)) one → OverOne U W k n one r
+        → Used Y N I Γ Δ (firstOperand e) s T U o (table K M (one .to)) one → OverOne U W (nodeKind k) n one r
         → Used Y N I Γ Δ e s T W o (table K M (r .to)) r
     used-over-one ks ns C m p S ek em ep hk hb en hn hl A B =
         let f : k ≡ termKind e = ek ∙ its-kind ks ns (length I) (length Γ) e (S .rows) in

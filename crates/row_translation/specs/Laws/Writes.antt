@@ -200,7 +200,7 @@ module _ (Y : List ℕ) (N : List ℤ) (I Γ : List DataType) (Δ : List Express
           few = omega (arith, F .len, A .few, G .len, B .few, L .len, rows-of-two e (d .count), d .noMap);
         }
 
-  -- ---- a `split` or a `join`: the operand is written into the place, regrouped; m is the number of its row, p the place of its type
+  -- ---- a `split` or a `join`, [18.12] an `asvec` or an `asscal`: the operand is written into the place, regrouped; m is the number of its row, p the place of its type
 
   module _ (U W K K₁ : List ℕ) (M M₁ : List ℤ) (m p n : ℕ) (s₁ : State) (w r : Translated) where
     pub written-regrouped : isRegrouped k ≡ true → m ≡ asNatural (getD ns 0 (pos 0)) → p ≡ getD C 1 0 → isLeaf k ≡ false

@@ -11,7 +11,7 @@ use Rattle.runner.proofs.main.Tie as tie
 array-share-prefix-words : tie.Need-array-share-prefix-words
 array-share-prefix-words c =
     let read = c .before .before .before .before .before .before .before .before .before .before .read in
-    let kept : length (read .last .1 .0) ≡ 512 = read .kept .1 .0 in
+    let kept : length (read .last .1 .0) ≡ 599 = read .kept .1 .0 in
     omega (arith, kept, file-counts _ _ _ (read .ensures) (c .before .own .given .1) .0)
 
 slice-aggregate-runner-in : tie.Need-slice-aggregate-runner-in

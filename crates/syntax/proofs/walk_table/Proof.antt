@@ -47,6 +47,7 @@ walk-requires c κs =
             = omega arith;
         counters-fit = omega arith;
         regions-fit = omega arith;
+        lanes-fit = omega arith;
       }),
       c .before .before .before .before .before .before .before .before .built-in .ensures .1,
     )

@@ -1,6 +1,7 @@
 -- Rows that are those of a tree in range, and of such trees one after the other. Assumes nothing.
 use mathlib.Core.Path.{_≡_, refl, sym, ap, ap₂, _∙_, subst}
-use mathlib.Core.Bool.{Bool, true, false, _&&_}
+use mathlib.Core.Bool.{Bool, true, false, cond, _&&_}
+use mathlib.Core.Logic.{inl, inr}
 use mathlib.Core.List.{List, [], _∷_, _++_, append-assoc, append-nil}
 use Prim.Native.Nat.{ℕ, _+_, _≤_, _<_}
 use native.Mathlib.Omega.{arith}
@@ -8,17 +9,19 @@ use borrow.Author.Tests.{ltb-true, leb-true, eqb-true}
 use lib.Dec.{eqb, ltb, leb}
 use lib.IntN.{ℤ, pos, negsuc}
 use Rattle.words.specs.Kinds.{Row, word-cells}
+use Rattle.words.specs.Groups.{oneOf}
 use Rattle.words.specs.declared.Sort.{Sort}
 use Rattle.words.specs.declared.Sort.the-variants as sort
 use Rattle.meaning.specs.Types.{DataType}
 use Rattle.meaning.specs.Terms.{Term, Plan}
 use Rattle.meaning.specs.Loops.{Offset, Place, Value, Command, Loops}
-use Rattle.meaning.specs.Limits.{IsCount}
+use Rattle.meaning.specs.Limits.{IsCount, IsWidth}
+use Rattle.meaning.specs.Laws.Lanes.{LanesFit}
 use Rattle.meaning.specs.Rows.{typeRows, termRows, planRows, offsetRows, valueRows, placeRows, commandRows, loopsRows}
 use Rattle.syntax.specs.declared.names.Names.{Names}
 use Rattle.syntax.specs.declared.operands.Due.{Due}
-use Rattle.syntax.specs.Ranges.{asNatural, inRange}
-use Rattle.syntax.specs.Names.{noNames, names, openedBy, namesFit}
+use Rattle.syntax.specs.Ranges.{asNatural, widths, inRange}
+use Rattle.syntax.specs.Names.{noNames, openedBy, Bounded}
 use Rattle.syntax.specs.Operands.{inputsCounted, operandsDue}
 use Rattle.syntax.specs.InRange.{TypeInRange, TermInRange, PlanInRange, OffsetInRange, PlaceInRange, ValueInRange, CommandInRange, LoopsInRange}
 
@@ -43,6 +46,19 @@ counted z e = go (leb 1 (asNatural z)) refl e
     go true p e = let m = most z 4096 (omega arith) e in (m .0, (leb-true 1 (asNatural z) p, m .1))
     go false p e = absurd (let y : _≡_ {A = ℕ} 0 1 = cc in omega arith)
 
+pub widened : (z : ℤ) → oneOf (asNatural z) widths ≡ true → (z ≡ pos (asNatural z)) × IsWidth (asNatural z)
+unfolding oneOf
+widened (negsuc m) e = absurd (let y : _≡_ {A = ℕ} 0 1 = cc in omega arith)
+widened (pos m) e = (refl, go (eqb m 2) refl (eqb m 4) refl (eqb m 8) refl (eqb m 16) refl e)
+  where
+    go : (a : Bool) → eqb m 2 ≡ a → (b : Bool) → eqb m 4 ≡ b → (c : Bool) → eqb m 8 ≡ c → (d : Bool) → eqb m 16 ≡ d
+        → cond a true (cond b true (cond c true (cond d true false))) ≡ true → IsWidth m
+    go true p b q c r d s e = inl (eqb-true m 2 p)
+    go false p true q c r d s e = inr (inl (eqb-true m 4 q))
+    go false p false q true r d s e = inr (inr (inl (eqb-true m 8 r)))
+    go false p false q false r true s e = inr (inr (inr (eqb-true m 16 s)))
+    go false p false q false r false s e = absurd (let y : _≡_ {A = ℕ} 0 1 = cc in omega arith)
+
 -- ---- rows that are those of a tree in range, and of trees one after the other
 
 -- the first row of a whole table stands where no names are in force
@@ -52,7 +68,8 @@ IsTree sort.DataType N a = (t : DataType) × TypeInRange t × (a ≡ typeRows t)
 IsTree sort.Term N a = (e : Term) × TermInRange (N .inputs) (N .variables) e × (a ≡ termRows e)
 IsTree sort.Loops N a = N ≡ noNames → (L : Loops) × LoopsInRange L × (a ≡ loopsRows L)
 IsTree sort.Cells N a = (n : ℕ) × IsCount n × (a ≡ (word-cells, pos n) ∷ [])
-IsTree sort.Command N a = (c : Command) × CommandInRange (N .inputs) (N .counters) (N .regions) c × (a ≡ commandRows c)
+IsTree sort.Command N a =
+    (c : Command) × (CommandInRange (N .inputs) (N .counters) (N .regions) c × LanesFit (N .lanes) c) × (a ≡ commandRows c)
 IsTree sort.Place N a = (p : Place) × PlaceInRange (N .counters) (N .regions) p × (a ≡ placeRows p)
 IsTree sort.Value N a = (v : Value) × ValueInRange (N .inputs) (N .counters) (N .regions) v × (a ≡ valueRows v)
 IsTree sort.Offset N a = (o : Offset) × OffsetInRange (N .counters) o × (a ≡ offsetRows o)
@@ -81,5 +98,5 @@ joined e f g = e ∙ ap₂ (λ (l r : List Row). l ++ r) f g
 
 abbrev pub Node : Due → ℕ → ℕ → Type 0
 Node d k m =
-    (z : ℤ) (a : List Row) → inRange (d .sort) (d .names) k (asNatural z) ≡ true → namesFit (openedBy k (asNatural z) (d .names)) ≡ true
+    (z : ℤ) (a : List Row) → inRange (d .sort) (d .names) k (asNatural z) ≡ true → Bounded (openedBy k (asNatural z) (d .names))
     → Forest (operandsDue d k (asNatural z) (inputsCounted (d .sort) (asNatural z) + m)) a → IsTree (d .sort) (d .names) ((k, z) ∷ a)

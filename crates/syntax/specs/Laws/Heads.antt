@@ -44,6 +44,7 @@ pub is-map : (kind : LoopKind) → isMap (mapWord kind) ≡ true
 unfolding oneOf
 is-map LoopKind.parallel = refl
 is-map LoopKind.sequential = refl
+is-map LoopKind.lanes = refl
 
 -- no other word is an operation's
 pub operation-apart : (o : Operation) (k : ℕ) → isOperation k ≡ false → operationWord o ≡ k → ⊥

@@ -30,7 +30,7 @@ walk-length (r ∷ rs) p m (d ∷ ds) e =
     let w = walked p m d ds r rs e in
     omega (arith, walk-length rs (suc p) m (operandsDue d (r .0) (asNatural (r .1)) (w .0) ++ ds) (w .2))
 
-walk-listed : (R : List Row) (p m : ℕ) (ds : List Due) → walkFrom p ds R ≡ Told m → (q : ℕ) (v : Answer) → listedFrom q R v ≡ v
+pub walk-listed : (R : List Row) (p m : ℕ) (ds : List Due) → walkFrom p ds R ≡ Told m → (q : ℕ) (v : Answer) → listedFrom q R v ≡ v
 unfolding walkFrom listedFrom
 walk-listed [] p m ds e q v = refl
 walk-listed (r ∷ rs) p m [] e q v = absurd (let y : _≡_ {A = ℕ} 0 1 = cc in omega arith)

@@ -10,26 +10,26 @@ use lib.ListN.{length}
 use Rattle.arithmetic.specs.Arithmetic.{Operation}
 use Rattle.words.specs.Kinds.{Row, word-in, word-lit, word-neg, word-add, word-sub, word-mul, word-div, word-min, word-max, word-loops}
 use Rattle.words.specs.Kinds.{word-cells, word-set, word-seq, word-for, word-par, word-new, word-out, word-loc, word-ctr, word-plus}
-use Rattle.words.specs.Kinds.{word-times, word-over, word-rest}
+use Rattle.words.specs.Kinds.{word-times, word-over, word-rest, word-lanes}
 use Rattle.words.specs.Words.{table}
 use Rattle.words.specs.declared.Sort.the-variants as sort
 use Rattle.meaning.specs.Terms.{LoopKind}
 use Rattle.meaning.specs.Loops.{Offset, Place, Value, Command, Loops, plus, times, over, rest, seq, loop, new}
-use Rattle.meaning.specs.Limits.{IsCount}
+use Rattle.meaning.specs.Limits.{IsCount, RoundsInRange}
+use Rattle.meaning.specs.Laws.Lanes.{lanesAround, LanesFit, lanes-apart}
 use Rattle.meaning.specs.Rows.{offsetRows, valueRows, placeRows, commandRows, allCellsRows, loopsRows}
 use Rattle.syntax.specs.declared.names.Names.{Names}
 use Rattle.syntax.specs.declared.operands.Due.{Due}
 use Rattle.words.specs.Groups.{oneOf}
 use Rattle.syntax.specs.Ranges.{asNatural, inRange}
-use Rattle.syntax.specs.Names.{noNames, names, openedBy, namesFit}
+use Rattle.syntax.specs.Names.{noNames, names, openedBy, Bounded}
 use Rattle.syntax.specs.Operands.{due, operandOf, operandsDue}
 use Rattle.syntax.specs.InRange.{OffsetInRange, CommandInRange, AllCounts, LoopsInRange}
-use Rattle.syntax.specs.Laws.Ask.{fit-bounded}
 use Rattle.syntax.specs.Laws.Each.{_also_}
 use Rattle.syntax.specs.Laws.Words.{EachWord}
 use Rattle.syntax.specs.Laws.Heads.{copies, copies-more, operands-copies}
 use Rattle.syntax.specs.Laws.Pass.{inputsOnly}
-use Rattle.syntax.specs.Laws.Forest.{position, most, nought, counted, IsTree, Forest, one, headed, joined, Node}
+use Rattle.syntax.specs.Laws.Forest.{position, most, nought, counted, widened, IsTree, Forest, one, headed, joined, Node}
 
 module _ (N : Names) (few : N .inputs ≤ 8) where
   abbrev O : Due
@@ -54,7 +54,7 @@ module _ (N : Names) (few : N .inputs ≤ 8) where
   offset-nodes =
       (λ z a r f p. let n = most z 4095 (omega arith) r in (Offset.literal (asNatural z), n .1, headed word-lit (n .0) p))
       also (λ z a r f p.
-      let n = position z (N .counters) (omega (arith, fit-bounded N f .counters-fit)) r in
+      let n = position z (N .counters) (omega (arith, f .counters-fit)) r in
       (Offset.counter (asNatural z), n .1, headed word-ctr (n .0) p))
       also (λ z a r f p.
       let t = p .3 in
@@ -70,7 +70,7 @@ module _ (N : Names) (few : N .inputs ≤ 8) where
   place-nodes =
       (λ z a r f p. let t = one O a p in (Place.output (t .0), t .1, headed word-out (nought z r) (t .2)))
       also (λ z a r f p.
-      let n = position z (N .regions) (omega (arith, fit-bounded N f .regions-fit)) r in
+      let n = position z (N .regions) (omega (arith, f .regions-fit)) r in
       let t = one O a p in
       (Place.region (asNatural z) (t .0), (n .1, t .1), headed word-loc (n .0) (t .2)))
       also tt
@@ -98,19 +98,27 @@ module _ (N : Names) (few : N .inputs ≤ 8) where
       also (λ z a r f p. value-operation Operation.minimum word-min z a (λ v w. refl) r p)
       also (λ z a r f p. value-operation Operation.maximum word-max z a (λ v w. refl) r p)
       also (λ z a r f p.
-      let n = position z (N .regions) (omega (arith, fit-bounded N f .regions-fit)) r in
+      let n = position z (N .regions) (omega (arith, f .regions-fit)) r in
       let t = one O a p in
       (Value.region (asNatural z) (t .0), (n .1, t .1), headed word-loc (n .0) (t .2)))
       also tt
 
+  -- a loop, whose command is due under its counter, and under one `lanes` more if it is one
   command-loop : (kind : LoopKind) (k : ℕ) (z : ℤ) (a : List Row) → ((n : ℕ) (c : Command) → commandRows (loop kind n c) ≡ (k, pos n) ∷ commandRows c)
-      → leb 1 (asNatural z) && leb (asNatural z) 4096 ≡ true → namesFit (names (N .inputs) (N .variables) (N .counters + 1) (N .regions)) ≡ true
-      → Forest (due sort.Command (names (N .inputs) (N .variables) (N .counters + 1) (N .regions)) ∷ []) a → IsTree sort.Command N ((k, z) ∷ a)
-  command-loop kind k z a rows r f p =
-      let M = names (N .inputs) (N .variables) (N .counters + 1) (N .regions) in
-      let n = counted z r in
+      → (z ≡ pos (asNatural z)) × RoundsInRange kind (asNatural z)
+      → Bounded (names (N .inputs) (N .variables) (N .counters + 1) (N .regions) (lanesAround kind (N .lanes)))
+      → Forest (due sort.Command (names (N .inputs) (N .variables) (N .counters + 1) (N .regions) (lanesAround kind (N .lanes))) ∷ []) a
+      → IsTree sort.Command N ((k, z) ∷ a)
+  command-loop kind k z a rows n f p =
+      let M = names (N .inputs) (N .variables) (N .counters + 1) (N .regions) (lanesAround kind (N .lanes)) in
       let t = one (due sort.Command M) a p in
-      (loop kind (asNatural z) (t .0), (n .1, fit-bounded M f .counters-fit, t .1), headed k (n .0) (t .2) ∙ sym (rows (asNatural z) (t .0)))
+      (loop kind (asNatural z) (t .0), ((n .1, f .counters-fit, t .1 .0), around kind (t .0) (f .lanes-fit) (t .1 .1)), headed k (n .0) (t .2) ∙ sym (rows (asNatural z) (t .0)))
+    where
+      around : (kind : LoopKind) (b : Command) → lanesAround kind (N .lanes) ≤ 1 → LanesFit (lanesAround kind (N .lanes)) b
+          → LanesFit (N .lanes) (loop kind (asNatural z) b)
+      around LoopKind.parallel b l h = h
+      around LoopKind.sequential b l h = h
+      around LoopKind.lanes b l h = (l, h)
 
   pub command-nodes : EachWord sort.Command (Node C) 0 table
   unfolding EachWord table commandRows operandsDue operandOf openedBy inRange oneOf
@@ -118,18 +126,19 @@ module _ (N : Names) (few : N .inputs ≤ 8) where
       (λ z a r f p.
       let t = p .3 in
       let u = one W (p .1) (p .4) in
-      (Command.assignment (t .0) (u .0), (t .1, u .1), headed word-set (nought z r) (joined (p .2) (t .2) (u .2))))
+      (Command.assignment (t .0) (u .0), ((t .1, u .1), tt), headed word-set (nought z r) (joined (p .2) (t .2) (u .2))))
       also (λ z a r f p.
       let t = p .3 in
       let u = one C (p .1) (p .4) in
-      (seq (t .0) (u .0), (t .1, u .1), headed word-seq (nought z r) (joined (p .2) (t .2) (u .2))))
-      also (λ z a r f p. command-loop LoopKind.sequential word-for z a (λ n c. refl) r f p)
-      also (λ z a r f p. command-loop LoopKind.parallel word-par z a (λ n c. refl) r f p)
+      (seq (t .0) (u .0), ((t .1 .0, u .1 .0), (t .1 .1, u .1 .1)), headed word-seq (nought z r) (joined (p .2) (t .2) (u .2))))
+      also (λ z a r f p. command-loop LoopKind.sequential word-for z a (λ n c. refl) (counted z r) f p)
+      also (λ z a r f p. command-loop LoopKind.parallel word-par z a (λ n c. refl) (counted z r) f p)
       also (λ z a r f p.
-      let M = names (N .inputs) (N .variables) (N .counters) (N .regions + 1) in
+      let M = names (N .inputs) (N .variables) (N .counters) (N .regions + 1) (N .lanes) in
       let n = counted z r in
       let t = one (due sort.Command M) a p in
-      (new (asNatural z) (t .0), (n .1, fit-bounded M f .regions-fit, t .1), headed word-new (n .0) (t .2)))
+      (new (asNatural z) (t .0), ((n .1, f .regions-fit, t .1 .0), t .1 .1), headed word-new (n .0) (t .2)))
+      also (λ z a r f p. command-loop LoopKind.lanes word-lanes z a (λ n c. refl) (widened z r) f p)
       also tt
 
   pub cells-nodes : EachWord sort.Cells (Node (due sort.Cells N)) 0 table
@@ -163,7 +172,13 @@ loops-node z a r p =
     let u = q .3 in
     let c = one (due sort.Command (inputsOnly K)) (q .1) (q .4) in (
       record { inputs = t .0; output = u .0; command = c .0 },
-      record { inputsFew = omega (arith, t .2, n .1); inputCells = t .3; outputCells = u .1; command = subst (λ (i : ℕ). CommandInRange i 0 0 (c .0)) (sym (t .2)) (c .1) },
+      record {
+        inputsFew = omega (arith, t .2, n .1);
+        inputCells = t .3;
+        outputCells = u .1;
+        command = subst (λ (i : ℕ). CommandInRange i 0 0 (c .0)) (sym (t .2)) (c .1 .0);
+        apart = lanes-apart (c .0) (c .1 .1);
+      },
       headed word-loops (n .0 ∙ ap pos (sym (t .2))) (t .4 ∙ ap (λ (l : List Row). allCellsRows (t .0) ++ l) (joined {y = commandRows (c .0)} (q .2) (u .2) (c .2))),
     )
 

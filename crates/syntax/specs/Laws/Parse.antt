@@ -20,11 +20,11 @@ use Rattle.syntax.specs.declared.names.Names.{Names}
 use Rattle.syntax.specs.declared.operands.Due.{Due}
 use Rattle.words.specs.Groups.{oneOf, isMap, isLoop}
 use Rattle.syntax.specs.Ranges.{asNatural, inRange}
-use Rattle.syntax.specs.Names.{noNames, names, openedBy}
+use Rattle.syntax.specs.Names.{noNames, names, lanesWith, openedBy}
 use Rattle.syntax.specs.Operands.{due, operandOf, operandsDue}
 use Rattle.syntax.specs.Walk.{walkFrom}
 use Rattle.syntax.specs.InRange.{PlanInRange, LoopsInRange}
-use Rattle.syntax.specs.Laws.Ask.{Asked, asked, walked}
+use Rattle.syntax.specs.Laws.Ask.{Asked, asked, asked-bounded, walked}
 use Rattle.syntax.specs.Laws.Words.{EachWord, each-word}
 use Rattle.syntax.specs.Laws.Forest.{IsTree, Forest, parted, one, Node}
 use Rattle.syntax.specs.Laws.PlanNodes.{plan-nodes, type-nodes, term-nodes}
@@ -62,11 +62,11 @@ unfolding openedBy
 opened-few s N k n h r = go (oneOf k (word-plan ∷ word-loops ∷ [])) refl (isMap k) (isLoop k) (eqb k word-redseq) (eqb k word-new)
   where
     go : (a : Bool) → oneOf k (word-plan ∷ word-loops ∷ []) ≡ a → (b c d e : Bool)
-        → cond b (names (N .inputs) (N .variables + 1) (N .counters) (N .regions))
-        (cond c (names (N .inputs) (N .variables) (N .counters + 1) (N .regions))
-        (cond a (names n (N .variables) (N .counters) (N .regions))
-        (cond d (names (N .inputs) (N .variables + 2) (N .counters) (N .regions))
-        (cond e (names (N .inputs) (N .variables) (N .counters) (N .regions + 1)) N)))) .inputs ≤ 8
+        → cond b (names (N .inputs) (N .variables + 1) (N .counters) (N .regions) (N .lanes))
+        (cond c (names (N .inputs) (N .variables) (N .counters + 1) (N .regions) (lanesWith k (N .lanes)))
+        (cond a (names n (N .variables) (N .counters) (N .regions) (N .lanes))
+        (cond d (names (N .inputs) (N .variables + 2) (N .counters) (N .regions) (N .lanes))
+        (cond e (names (N .inputs) (N .variables) (N .counters) (N .regions + 1) (N .lanes)) N)))) .inputs ≤ 8
     go a p true c d e = h
     go a p false true d e = h
     go true p false false d e = head-few s N k n p r
@@ -88,7 +88,7 @@ operands-few d k n (suc m) ds h r f = (operand-few d k n (eqb (suc m) 1) h r, op
 
 node : (d : Due) (k : ℕ) (z : ℤ) (m : ℕ) (a : List Row) → d .names .inputs ≤ 8 → Asked d k (asNatural z) m → Forest (operandsDue d k (asNatural z) m) a → IsTree (d .sort) (d .names) ((k, z) ∷ a)
 node d k z m a h q f =
-    each-word (d .sort) (Node d) (nodes (d .sort) (d .names) h) k (q .count) (q .of) z a (q .ranged) (q .fit)
+    each-word (d .sort) (Node d) (nodes (d .sort) (d .names) h) k (q .count) (q .of) z a (q .ranged) (asked-bounded d k (asNatural z) m q)
     (subst (λ (i : ℕ). Forest (operandsDue d k (asNatural z) i) a) (q .operands) f)
 
 pub parse : (R : List Row) (p m : ℕ) (ds : List Due) → Few ds → walkFrom p ds R ≡ Told m → Forest ds R

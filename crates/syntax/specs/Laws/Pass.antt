@@ -1,6 +1,7 @@
 -- Rows that answer for what is due in front of them, whatever is due behind. Assumes nothing.
 use mathlib.Core.Path.{_≡_, sym, ap, _∙_}
-use mathlib.Core.Bool.{true, _&&_}
+use mathlib.Core.Bool.{Bool, true, _&&_}
+use mathlib.Core.Logic.{⊎-elim}
 use mathlib.Core.List.{List, [], _∷_, _++_, append-assoc}
 use Prim.Native.Nat.{ℕ, suc, _+_}
 use native.Mathlib.Nat.{add-zero}
@@ -12,15 +13,16 @@ use lib.ListN.{length, length-append}
 use Rattle.refusals.specs.declared.Answer.the-variants.{Told}
 use Rattle.words.specs.Kinds.{Row}
 use Rattle.words.specs.Words.{operandsOf}
+use Rattle.words.specs.Groups.{oneOf}
 use Rattle.words.specs.declared.Operands.the-variants.{Count}
-use Rattle.meaning.specs.Limits.{IsCount}
+use Rattle.meaning.specs.Limits.{IsCount, IsWidth}
 use Rattle.syntax.specs.declared.names.Names.{Names}
 use Rattle.syntax.specs.declared.operands.Due.{Due}
-use Rattle.syntax.specs.Ranges.{asNatural, inRange}
+use Rattle.syntax.specs.Ranges.{asNatural, widths, inRange}
 use Rattle.syntax.specs.Names.{names, openedBy, Bounded}
 use Rattle.syntax.specs.Operands.{inputsCounted, operandsDue}
 use Rattle.syntax.specs.Walk.{askRow, walkFrom}
-use Rattle.syntax.specs.Laws.Ask.{ask-passed, bounded-fit}
+use Rattle.syntax.specs.Laws.Ask.{ask-passed, bounded-fit, bounded-apart}
 
 -- ---- rows that answer for what is due in front of them
 
@@ -45,15 +47,24 @@ pub row : (d : Due) (k : ℕ) (z : ℤ) (c : ℕ) (a : List Row) → operandsOf 
     → Passes (operandsDue d k (asNatural z) (inputsCounted (d .sort) (asNatural z) + c)) a → Passes (d ∷ []) ((k, z) ∷ a)
 row d k z c a of r b f =
     row-asked d k z (inputsCounted (d .sort) (asNatural z) + c) a
-    (λ line. sym (ask-passed d k (asNatural z) line of r (bounded-fit (openedBy k (asNatural z) (d .names)) b))) f
+    (λ line. sym (ask-passed d k (asNatural z) line of r (bounded-fit (openedBy k (asNatural z) (d .names)) b)
+    (bounded-apart (openedBy k (asNatural z) (d .names)) b))) f
 
 pub count-in : (n : ℕ) → IsCount n → leb 1 n && leb n 4096 ≡ true
 count-in n h = simp (le-leb 1 n (h .0), le-leb n 4096 (h .1))
 
+pub width-in : (n : ℕ) → IsWidth n → oneOf n widths ≡ true
+unfolding oneOf
+width-in n h =
+    ⊎-elim (λ e. ap test e) (λ h. ⊎-elim (λ e. ap test e) (λ h. ⊎-elim (λ e. ap test e) (λ e. ap test e) h) h) h
+  where
+    test : ℕ → Bool
+    test i = oneOf i widths
+
 -- ---- the names in force in a table
 
 abbrev pub inputsOnly : ℕ → Names
-inputsOnly K = names K 0 0 0
+inputsOnly K = names K 0 0 0 0
 
 pub small : (K : ℕ) → Bounded (inputsOnly K)
-small K = record { variables-fit = omega arith; counters-fit = omega arith; regions-fit = omega arith }
+small K = record { variables-fit = omega arith; counters-fit = omega arith; regions-fit = omega arith; lanes-fit = omega arith }

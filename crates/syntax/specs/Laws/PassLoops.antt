@@ -1,7 +1,7 @@
 -- The rows of loops in range walk well. Assumes nothing.
 use mathlib.Core.Path.{_≡_, refl}
 use mathlib.Core.List.{List, [], _∷_, _++_}
-use Prim.Native.Nat.{ℕ, suc, _+_}
+use Prim.Native.Nat.{ℕ, suc, _+_, _≤_}
 use native.Mathlib.Omega.{arith}
 use borrow.Author.Tests.{lt-ltb, le-leb}
 use lib.IntN.{pos}
@@ -9,12 +9,13 @@ use lib.ListN.{length}
 use Rattle.arithmetic.specs.Arithmetic.{Operation}
 use Rattle.words.specs.Kinds.{Row, word-in, word-lit, word-neg, word-add, word-sub, word-mul, word-div, word-min, word-max, word-loops}
 use Rattle.words.specs.Kinds.{word-cells, word-set, word-seq, word-for, word-par, word-new, word-out, word-loc, word-ctr, word-plus}
-use Rattle.words.specs.Kinds.{word-times, word-over, word-rest}
+use Rattle.words.specs.Kinds.{word-times, word-over, word-rest, word-lanes}
 use Rattle.words.specs.Words.{operandsOf, table}
 use Rattle.words.specs.declared.Sort.the-variants as sort
 use Rattle.meaning.specs.Terms.{LoopKind}
 use Rattle.meaning.specs.Loops.{Offset, Place, Value, Command, Loops, plus, times, over, rest, seq, loop, new}
-use Rattle.meaning.specs.Limits.{IsCount}
+use Rattle.meaning.specs.Limits.{IsCount, RoundsInRange}
+use Rattle.meaning.specs.Laws.Lanes.{lanesAround, LanesFit, lanes-fit}
 use Rattle.meaning.specs.Rows.{operationWord, loopWord, offsetRows, valueRows, placeRows, commandRows, allCellsRows, loopsRows}
 use Rattle.syntax.specs.declared.names.Names.{Names}
 use Rattle.syntax.specs.declared.operands.Due.{Due}
@@ -25,7 +26,7 @@ use Rattle.syntax.specs.Operands.{due, operandOf, operandsDue}
 use Rattle.syntax.specs.InRange.{OffsetInRange, PlaceInRange, ValueInRange, CommandInRange, AllCounts, LoopsInRange}
 use Rattle.syntax.specs.Laws.Each.{_also_}
 use Rattle.syntax.specs.Laws.Heads.{copies, copies-more, operands-copies, each-operation}
-use Rattle.syntax.specs.Laws.Pass.{Passes, none, both, row, count-in, inputsOnly, small}
+use Rattle.syntax.specs.Laws.Pass.{Passes, none, both, row, count-in, width-in, inputsOnly, small}
 
 -- ---- offsets, places and values
 
@@ -74,36 +75,52 @@ module _ (N : Names) (b : Bounded N) where
 
 -- ---- commands
 
-abbrev more-counters : Names → Names
-more-counters N = names (N .inputs) (N .variables) (N .counters + 1) (N .regions)
+abbrev pub more-counters : Names → ℕ → Names
+more-counters N l = names (N .inputs) (N .variables) (N .counters + 1) (N .regions) l
 
-abbrev more-regions : Names → Names
-more-regions N = names (N .inputs) (N .variables) (N .counters) (N .regions + 1)
+abbrev pub more-regions : Names → Names
+more-regions N = names (N .inputs) (N .variables) (N .counters) (N .regions + 1) (N .lanes)
 
-abbrev C : Names → Due
+abbrev pub C : Names → Due
 C N = due sort.Command N
 
-pass-loop : (N : Names) (b : Bounded (more-counters N)) (n : ℕ) → IsCount n → (a : List Row) → Passes (C (more-counters N) ∷ []) a → (kind : LoopKind) → Passes (C N ∷ []) ((loopWord kind, pos n) ∷ a)
-unfolding operandsOf table operandsDue operandOf openedBy inRange oneOf
-pass-loop N b n h a f LoopKind.parallel = row (C N) word-par (pos n) 1 a refl (count-in n h) b f
-pass-loop N b n h a f LoopKind.sequential = row (C N) word-for (pos n) 1 a refl (count-in n h) b f
+-- a loop, whose command is due under its counter, and under one `lanes` more if it is one
+module _ (N : Names) (n : ℕ) (a : List Row) where
+  pass-loop : (kind : LoopKind) → RoundsInRange kind n → Bounded (more-counters N (lanesAround kind (N .lanes)))
+      → Passes (C (more-counters N (lanesAround kind (N .lanes))) ∷ []) a → Passes (C N ∷ []) ((loopWord kind, pos n) ∷ a)
+  unfolding operandsOf table operandsDue operandOf openedBy inRange oneOf
+  pass-loop LoopKind.parallel h b f = row (C N) word-par (pos n) 1 a refl (count-in n h) b f
+  pass-loop LoopKind.sequential h b f = row (C N) word-for (pos n) 1 a refl (count-in n h) b f
+  pass-loop LoopKind.lanes h b f = row (C N) word-lanes (pos n) 1 a refl (width-in n h) b f
 
-pub pass-command : (N : Names) → Bounded N → (c : Command) → CommandInRange (N .inputs) (N .counters) (N .regions) c → Passes (C N ∷ []) (commandRows c)
+pub pass-command : (N : Names) → Bounded N → (c : Command) → CommandInRange (N .inputs) (N .counters) (N .regions) c → LanesFit (N .lanes) c
+    → Passes (C N ∷ []) (commandRows c)
 unfolding commandRows operandsOf table operandsDue operandOf openedBy inRange oneOf
-pass-command N b (Command.assignment p v) h =
+pass-command N b (Command.assignment p v) h f =
     row (C N) word-set (pos 0) 2 (placeRows p ++ valueRows v) refl refl b
     (both (due sort.Place N) (due sort.Value N ∷ []) (placeRows p) (valueRows v) (pass-place N b p (h .0)) (pass-value N b v (h .1)))
-pass-command N b (seq c d) h =
+pass-command N b (seq c d) h f =
     row (C N) word-seq (pos 0) 2 (commandRows c ++ commandRows d) refl refl b
-    (both (C N) (C N ∷ []) (commandRows c) (commandRows d) (pass-command N b c (h .0)) (pass-command N b d (h .1)))
-pass-command N b (loop kind n c) h =
-    let M = more-counters N in
-    let e : Bounded M = record { variables-fit = b .variables-fit; counters-fit = h .1; regions-fit = b .regions-fit } in
-    pass-loop N e n (h .0) (commandRows c) (pass-command M e c (h .2)) kind
-pass-command N b (new n c) h =
+    (both (C N) (C N ∷ []) (commandRows c) (commandRows d) (pass-command N b c (h .0) (f .0)) (pass-command N b d (h .1) (f .1)))
+pass-command N b (loop kind n c) h f =
+    let l : ℕ = lanesAround kind (N .lanes) in
+    let M = more-counters N l in
+    let e : Bounded M = record { variables-fit = b .variables-fit; counters-fit = h .1; regions-fit = b .regions-fit; lanes-fit = around-fit kind (N .lanes) (b .lanes-fit) f } in
+    pass-loop N n (commandRows c) kind (h .0) e (pass-command M e c (h .2) (inside kind f))
+  where
+    inside : (kind : LoopKind) → LanesFit (N .lanes) (loop kind n c) → LanesFit (lanesAround kind (N .lanes)) c
+    inside LoopKind.parallel f = f
+    inside LoopKind.sequential f = f
+    inside LoopKind.lanes f = f .1
+
+    around-fit : (kind : LoopKind) (l : ℕ) → l ≤ 1 → LanesFit l (loop kind n c) → lanesAround kind l ≤ 1
+    around-fit LoopKind.parallel l h f = h
+    around-fit LoopKind.sequential l h f = h
+    around-fit LoopKind.lanes l h f = f .0
+pass-command N b (new n c) h f =
     let M = more-regions N in
-    let e : Bounded M = record { variables-fit = b .variables-fit; counters-fit = b .counters-fit; regions-fit = h .1 } in
-    row (C N) word-new (pos n) 1 (commandRows c) refl (count-in n (h .0)) e (pass-command M e c (h .2))
+    let e : Bounded M = record { variables-fit = b .variables-fit; counters-fit = b .counters-fit; regions-fit = h .1; lanes-fit = b .lanes-fit } in
+    row (C N) word-new (pos n) 1 (commandRows c) refl (count-in n (h .0)) e (pass-command M e c (h .2) f)
 
 -- ---- loops
 
@@ -129,5 +146,5 @@ pass-loops L h =
     (pass-cells noNames (small 0) (D ∷ C (inputsOnly K) ∷ []) ((word-cells, pos (L .output)) ∷ commandRows (L .command))
     (both D (C (inputsOnly K) ∷ []) ((word-cells, pos (L .output)) ∷ []) (commandRows (L .command)) (pass-one-cells
     noNames (small 0) (L .output) (h .outputCells)) (pass-command (inputsOnly K) (small K) (L .command)
-    (h .command)))
+    (h .command) (lanes-fit (L .command) (h .apart))))
     (L .inputs) (h .inputCells)))

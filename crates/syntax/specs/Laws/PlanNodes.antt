@@ -11,10 +11,10 @@ use lib.ListN.{length}
 use Rattle.arithmetic.specs.Arithmetic.{Operation}
 use Rattle.words.specs.Kinds.{Row, word-plan, word-num, word-arr, word-two, word-in, word-var, word-lit, word-neg, word-add, word-sub}
 use Rattle.words.specs.Kinds.{word-mul, word-div, word-min, word-max, word-mappar, word-mapseq, word-redseq, word-zip, word-pair}
-use Rattle.words.specs.Kinds.{word-split, word-join, word-fst, word-snd, word-idx}
+use Rattle.words.specs.Kinds.{word-split, word-join, word-fst, word-snd, word-idx, word-vec, word-asvec, word-asscal, word-mapvec, word-at}
 use Rattle.words.specs.Words.{table}
 use Rattle.words.specs.declared.Sort.the-variants as sort
-use Rattle.meaning.specs.Types.{DataType, number, array}
+use Rattle.meaning.specs.Types.{DataType, Series, number, array, vector}
 use Rattle.meaning.specs.Terms.{LoopKind, Term, Plan}
 use Rattle.meaning.specs.Rows.{typeRows, termRows, allTypeRows, planRows}
 use Rattle.syntax.specs.declared.names.Names.{Names}
@@ -24,12 +24,11 @@ use Rattle.syntax.specs.Ranges.{asNatural, inRange}
 use Rattle.syntax.specs.Names.{noNames, names, openedBy}
 use Rattle.syntax.specs.Operands.{due, operandOf, operandsDue}
 use Rattle.syntax.specs.InRange.{AllTypesInRange, TermInRange, PlanInRange}
-use Rattle.syntax.specs.Laws.Ask.{fit-bounded}
 use Rattle.syntax.specs.Laws.Each.{_also_}
 use Rattle.syntax.specs.Laws.Words.{EachWord}
 use Rattle.syntax.specs.Laws.Heads.{copies, operands-copies}
 use Rattle.syntax.specs.Laws.Pass.{inputsOnly}
-use Rattle.syntax.specs.Laws.Forest.{position, most, nought, counted, IsTree, Forest, one, headed, joined, Node}
+use Rattle.syntax.specs.Laws.Forest.{position, most, nought, counted, widened, IsTree, Forest, one, headed, joined, Node}
 
 module _ (N : Names) (few : N .inputs ≤ 8) where
   abbrev Y : Due
@@ -47,6 +46,7 @@ module _ (N : Names) (few : N .inputs ≤ 8) where
       let t = p .3 in
       let u = one Y (p .1) (p .4) in
       (DataType.pair (t .0) (u .0), (t .1, u .1), headed word-two (nought z r) (joined (p .2) (t .2) (u .2))))
+      also (λ z a r f p. let n = widened z r in (vector (asNatural z), n .1, headed word-vec (n .0) p))
       also tt
 
   -- one operand, two operands
@@ -67,7 +67,7 @@ module _ (N : Names) (few : N .inputs ≤ 8) where
   term-nodes =
       (λ z a r f p. let n = position z (N .inputs) (omega arith) r in (Term.input (asNatural z), n .1, headed word-in (n .0) p))
       also (λ z a r f p.
-      let n = position z (N .variables) (omega (arith, fit-bounded N f .variables-fit)) r in
+      let n = position z (N .variables) (omega (arith, f .variables-fit)) r in
       (Term.variable (asNatural z), n .1, headed word-var (n .0) p))
       also (λ z a r f p. (Term.literal z, tt, headed word-lit refl p))
       also (λ z a r f p. term-of word-neg z (pos 0) a Term.negate (λ e. refl) (λ e h. h) (nought z r) p)
@@ -78,29 +78,39 @@ module _ (N : Names) (few : N .inputs ≤ 8) where
       also (λ z a r f p. term-of-two N word-min z a (Term.operation Operation.minimum) (λ e f. refl) (λ e f h g. (h, g)) (nought z r) p)
       also (λ z a r f p. term-of-two N word-max z a (Term.operation Operation.maximum) (λ e f. refl) (λ e f h g. (h, g)) (nought z r) p)
       also (λ z a r f p.
-      let M = names (N .inputs) (N .variables + 1) (N .counters) (N .regions) in
-      term-of-two M word-mappar z a (Term.map LoopKind.parallel) (λ e f. refl) (λ e g h i. (fit-bounded M f .variables-fit, h, i)) (nought z r) p)
+      let M = names (N .inputs) (N .variables + 1) (N .counters) (N .regions) (N .lanes) in
+      term-of-two M word-mappar z a (Term.map LoopKind.parallel) (λ e f. refl) (λ e g h i. (f .variables-fit, h, i)) (nought z r) p)
       also (λ z a r f p.
-      let M = names (N .inputs) (N .variables + 1) (N .counters) (N .regions) in
-      term-of-two M word-mapseq z a (Term.map LoopKind.sequential) (λ e f. refl) (λ e g h i. (fit-bounded M f .variables-fit, h, i)) (nought z r) p)
+      let M = names (N .inputs) (N .variables + 1) (N .counters) (N .regions) (N .lanes) in
+      term-of-two M word-mapseq z a (Term.map LoopKind.sequential) (λ e f. refl) (λ e g h i. (f .variables-fit, h, i)) (nought z r) p)
       also (λ z a r f p.
-      let M = names (N .inputs) (N .variables + 2) (N .counters) (N .regions) in
+      let M = names (N .inputs) (N .variables + 2) (N .counters) (N .regions) (N .lanes) in
       let s = p .3 in
       let q = p .4 in
       let t = q .3 in
       let u = one (due sort.Term M) (q .1) (q .4) in
-      (Term.reduce (s .0) (t .0) (u .0), (fit-bounded M f .variables-fit, s .1, t .1, u .1), headed word-redseq (nought z r) (joined (p .2) (s .2) (joined (q .2) (t .2) (u .2)))))
+      (Term.reduce (s .0) (t .0) (u .0), (f .variables-fit, s .1, t .1, u .1), headed word-redseq (nought z r) (joined (p .2) (s .2) (joined (q .2) (t .2) (u .2)))))
       also (λ z a r f p. term-of-two N word-zip z a Term.zip (λ e f. refl) (λ e f h g. (h, g)) (nought z r) p)
       also (λ z a r f p. term-of-two N word-pair z a Term.pair (λ e f. refl) (λ e f h g. (h, g)) (nought z r) p)
       also (λ z a r f p.
       let n = counted z r in
-      term-of word-split z (pos (asNatural z)) a (Term.split (asNatural z)) (λ e. refl) (λ e h. (n .1, h)) (n .0) p)
-      also (λ z a r f p. term-of word-join z (pos 0) a Term.join (λ e. refl) (λ e h. h) (nought z r) p)
+      term-of word-split z (pos (asNatural z)) a (Term.split Series.arrays (asNatural z)) (λ e. refl) (λ e h. (n .1, h)) (n .0) p)
+      also (λ z a r f p. term-of word-join z (pos 0) a (Term.join Series.arrays) (λ e. refl) (λ e h. h) (nought z r) p)
       also (λ z a r f p. term-of word-fst z (pos 0) a Term.first (λ e. refl) (λ e h. h) (nought z r) p)
       also (λ z a r f p. term-of word-snd z (pos 0) a Term.second (λ e. refl) (λ e h. h) (nought z r) p)
       also (λ z a r f p.
       let n = most z 4095 (omega arith) r in
-      term-of word-idx z (pos (asNatural z)) a (Term.index (asNatural z)) (λ e. refl) (λ e h. (n .1, h)) (n .0) p)
+      term-of word-idx z (pos (asNatural z)) a (Term.index Series.arrays (asNatural z)) (λ e. refl) (λ e h. (n .1, h)) (n .0) p)
+      also (λ z a r f p.
+      let n = widened z r in
+      term-of word-asvec z (pos (asNatural z)) a (Term.split Series.vectors (asNatural z)) (λ e. refl) (λ e h. (n .1, h)) (n .0) p)
+      also (λ z a r f p. term-of word-asscal z (pos 0) a (Term.join Series.vectors) (λ e. refl) (λ e h. h) (nought z r) p)
+      also (λ z a r f p.
+      let M = names (N .inputs) (N .variables + 1) (N .counters) (N .regions) (N .lanes) in
+      term-of-two M word-mapvec z a (Term.map LoopKind.lanes) (λ e f. refl) (λ e g h i. (f .variables-fit, h, i)) (nought z r) p)
+      also (λ z a r f p.
+      let n = most z 15 (omega arith) r in
+      term-of word-at z (pos (asNatural z)) a (Term.index Series.vectors (asNatural z)) (λ e. refl) (λ e h. (n .1, h)) (n .0) p)
       also tt
 
 -- ---- the first row

@@ -9,7 +9,7 @@ use lib.Seq.{getD-append-add}
 use Rattle.arithmetic.specs.Arithmetic.{Operation}
 use Rattle.words.specs.Kinds.{word-in, word-lit, word-neg, word-add, word-sub, word-mul, word-div, word-min, word-max, word-cells, word-set}
 use Rattle.words.specs.Kinds.{word-seq, word-for, word-par, word-new, word-out, word-loc, word-ctr, word-plus, word-times, word-over}
-use Rattle.words.specs.Kinds.{word-rest}
+use Rattle.words.specs.Kinds.{word-rest, word-lanes}
 use Rattle.words.specs.Words.{operandsOf, table}
 use Rattle.words.specs.declared.Sort.{Sort}
 use Rattle.words.specs.declared.Sort.the-variants as sort
@@ -87,6 +87,7 @@ read-loop : (kind : LoopKind) (n : ℕ) (c : Command) → CommandHas c → Comma
 unfolding commandRows operandsAmong operandsOf table choose
 read-loop LoopKind.parallel n c h = one loopsSorts loopsPart commandRows commandIn commandRows commandIn word-par (pos n) (loop LoopKind.parallel n) c refl refl (λ a S. refl) (λ a. refl) h
 read-loop LoopKind.sequential n c h = one loopsSorts loopsPart commandRows commandIn commandRows commandIn word-for (pos n) (loop LoopKind.sequential n) c refl refl (λ a S. refl) (λ a. refl) h
+read-loop LoopKind.lanes n c h = one loopsSorts loopsPart commandRows commandIn commandRows commandIn word-lanes (pos n) (loop LoopKind.lanes n) c refl refl (λ a S. refl) (λ a. refl) h
 
 read-command : (c : Command) → CommandHas c
 unfolding commandRows operandsAmong operandsOf table choose

@@ -7,11 +7,11 @@ use lib.ListN.{length, getD, take}
 use Rattle.arithmetic.specs.Arithmetic.{Operation}
 use Rattle.words.specs.Kinds.{word-num, word-arr, word-two, word-in, word-var, word-lit, word-neg, word-add, word-sub, word-mul, word-div}
 use Rattle.words.specs.Kinds.{word-min, word-max, word-mappar, word-mapseq, word-redseq, word-zip, word-pair, word-split, word-join}
-use Rattle.words.specs.Kinds.{word-fst, word-snd, word-idx}
+use Rattle.words.specs.Kinds.{word-fst, word-snd, word-idx, word-vec, word-asvec, word-asscal, word-mapvec, word-at}
 use Rattle.words.specs.Words.{operandsOf, table}
 use Rattle.words.specs.declared.Sort.{Sort}
 use Rattle.words.specs.declared.Sort.the-variants as sort
-use Rattle.meaning.specs.Types.{DataType, number, array}
+use Rattle.meaning.specs.Types.{DataType, Series, number, array, vector}
 use Rattle.meaning.specs.Terms.{LoopKind, Term, Plan}
 use Rattle.meaning.specs.Rows.{typeRows, termRows, allTypeRows, planRows}
 use Rattle.syntax.specs.Reading.{operandsAmong, readRows, choose, PlanPart, emptyPart, planPart, planParts, planOf}
@@ -36,6 +36,7 @@ read-type (DataType.pair s t) =
     two planSorts planPart typeRows (λ (x : PlanPart). x .type) typeRows (λ (x : PlanPart). x .type) typeRows
     (λ (x : PlanPart). x .type) word-two (pos 0) DataType.pair s t refl refl (λ a b S. refl) (λ a b. refl)
     (read-type s) (read-type t)
+read-type (vector w) = none planSorts planPart typeRows (λ (x : PlanPart). x .type) word-vec (pos w) (vector w) refl refl (λ S. refl) refl
 
 abbrev leafTerm : (k : ℕ) (z : ℤ) (e : Term) → termRows e ≡ (k, z) ∷ [] → operandsAmong planSorts k ≡ 0
     → ((S : List PlanPart) → planPart k z S ≡ planPart k z []) → planPart k z [] .term ≡ e → TermHas e
@@ -65,6 +66,23 @@ read-map : (kind : LoopKind) (d e : Term) → TermHas d → TermHas e → TermHa
 unfolding termRows operandsAmong operandsOf table choose
 read-map LoopKind.parallel d e h g = twoTerms word-mappar (Term.map LoopKind.parallel) d e refl refl (λ a b S. refl) (λ a b. refl) h g
 read-map LoopKind.sequential d e h g = twoTerms word-mapseq (Term.map LoopKind.sequential) d e refl refl (λ a b S. refl) (λ a b. refl) h g
+read-map LoopKind.lanes d e h g = twoTerms word-mapvec (Term.map LoopKind.lanes) d e refl refl (λ a b S. refl) (λ a b. refl) h g
+
+-- regroupings and elements, of arrays and of vectors
+read-split : (series : Series) (n : ℕ) (e : Term) → TermHas e → TermHas (Term.split series n e)
+unfolding termRows operandsAmong operandsOf table choose
+read-split Series.arrays n e h = oneTerm word-split (pos n) (Term.split Series.arrays n) e refl refl (λ a S. refl) (λ a. refl) h
+read-split Series.vectors n e h = oneTerm word-asvec (pos n) (Term.split Series.vectors n) e refl refl (λ a S. refl) (λ a. refl) h
+
+read-join : (series : Series) (e : Term) → TermHas e → TermHas (Term.join series e)
+unfolding termRows operandsAmong operandsOf table choose
+read-join Series.arrays e h = oneTerm word-join (pos 0) (Term.join Series.arrays) e refl refl (λ a S. refl) (λ a. refl) h
+read-join Series.vectors e h = oneTerm word-asscal (pos 0) (Term.join Series.vectors) e refl refl (λ a S. refl) (λ a. refl) h
+
+read-index : (series : Series) (k : ℕ) (e : Term) → TermHas e → TermHas (Term.index series k e)
+unfolding termRows operandsAmong operandsOf table choose
+read-index Series.arrays k e h = oneTerm word-idx (pos k) (Term.index Series.arrays k) e refl refl (λ a S. refl) (λ a. refl) h
+read-index Series.vectors k e h = oneTerm word-at (pos k) (Term.index Series.vectors k) e refl refl (λ a S. refl) (λ a. refl) h
 
 read-reduce : (c d e : Term) → TermHas c → TermHas d → TermHas e → TermHas (Term.reduce c d e)
 unfolding termRows operandsAmong operandsOf table choose
@@ -87,11 +105,11 @@ read-term (Term.map kind d e) = read-map kind d e (read-term d) (read-term e)
 read-term (Term.reduce c d e) = read-reduce c d e (read-term c) (read-term d) (read-term e)
 read-term (Term.zip d e) = twoTerms word-zip Term.zip d e refl refl (λ a b S. refl) (λ a b. refl) (read-term d) (read-term e)
 read-term (Term.pair d e) = twoTerms word-pair Term.pair d e refl refl (λ a b S. refl) (λ a b. refl) (read-term d) (read-term e)
-read-term (Term.split n e) = oneTerm word-split (pos n) (Term.split n) e refl refl (λ a S. refl) (λ a. refl) (read-term e)
-read-term (Term.join e) = oneTerm word-join (pos 0) Term.join e refl refl (λ a S. refl) (λ a. refl) (read-term e)
+read-term (Term.split series n e) = read-split series n e (read-term e)
+read-term (Term.join series e) = read-join series e (read-term e)
 read-term (Term.first e) = oneTerm word-fst (pos 0) Term.first e refl refl (λ a S. refl) (λ a. refl) (read-term e)
 read-term (Term.second e) = oneTerm word-snd (pos 0) Term.second e refl refl (λ a S. refl) (λ a. refl) (read-term e)
-read-term (Term.index k e) = oneTerm word-idx (pos k) (Term.index k) e refl refl (λ a S. refl) (λ a. refl) (read-term e)
+read-term (Term.index series k e) = read-index series k e (read-term e)
 
 read-types : (ts : List DataType) → (ys : List PlanPart) × (map (λ (x : PlanPart). x .type) ys ≡ ts) × (length ys ≡ length ts) × Comes planSorts planPart (allTypeRows ts) ys
 unfolding allTypeRows

@@ -1,4 +1,4 @@
--- `same` meets its contract: both are arrays of one length with the same element, or pairs of the same types, or numbers.
+-- `same` meets its contract: both are arrays of one length with the same element, or pairs of the same types, or vectors of one width, or numbers.
 use native.Mathlib.Omega.{arith}
 use borrow.Author.Needs.{needs}
 use borrow.Author.Tests.{not-true, not-false}
@@ -6,13 +6,14 @@ use mathlib.Core.Path.{sym, _∙_}
 use Prim.Native.Nat.{ℕ, _<_}
 use borrow.Fn.Kinds.{In}
 use borrow.Fn.PlainCycle.{Measures, is, falls, and}
-use Rattle.type_table.proofs.Sameness.{answer-no, neither, arrays-differ, arrays-same, firsts-differ, pairs-same, numbers-same}
-use Rattle.type_table.specs.Laws.{sound-below, told-array, told-no-array, told-pair, told-no-pair}
+use Rattle.type_table.proofs.Sameness.{answer-no, neither, arrays-differ, arrays-same, firsts-differ, pairs-same, vectors-same, numbers-same}
+use Rattle.type_table.specs.Laws.{sound-below, told-array, told-no-array, told-pair, told-no-pair, told-vector, told-no-vector}
 use Rattle.type_table.proofs.same.Reads as same
 use Rattle.type_table.proofs.same.Kinds as same-kinds
 use Rattle.type_table.proofs.+same.Lts-same as same-lts
 use Rattle.type_table.proofs.as_array.Reads as as-array-reads
 use Rattle.type_table.proofs.as_pair.Reads as as-pair-reads
+use Rattle.type_table.proofs.as_vector.Reads as as-vector-reads
 use Rattle.type_table.proofs.is_number.Reads as is-number-reads
 use Rattle.type_table.proofs.+same.{statement}
 use Rattle.type_table.proofs.+same.Tie.{close}
@@ -35,6 +36,8 @@ same-calls t = (
   same.Post,
   as-pair-reads.Asked,
   as-pair-reads.Learnt,
+  as-vector-reads.Asked,
+  as-vector-reads.Learnt,
   is-number-reads.Asked,
   is-number-reads.Learnt,
 )
@@ -192,17 +195,37 @@ same-returns-6 t c =
     (at-as-pair2 .ensures) .0) (c .before .before .same2 .ensures .0 (not-false _ (c .before .if2 .left)))
     (c .same3 .ensures)
 
-same-is-number-requires : (t : ℕ) → same-lts.Need-is-number-requires (same-calls t) (same-at t) same.Post
-same-is-number-requires t c κs = c .before .before .before .before .before .before .before .pre .1 .1
+same-as-vector-requires : (t : ℕ) → same-lts.Need-as-vector-requires (same-calls t) (same-at t) same.Post
+same-as-vector-requires t c κs = c .before .before .before .before .before .before .before .pre .1 .0
+
+same-as-vector-requires-2 : (t : ℕ) → same-lts.Need-as-vector-requires-2 (same-calls t) (same-at t) same.Post
+same-as-vector-requires-2 t c κs = c .before .before .before .before .before .before .before .before .before .before .before .pre .1 .1
 
 same-returns-7 : (t : ℕ) → same-lts.Need-returns-7 (same-calls t) (same-at t) same.Post
 same-returns-7 t c =
-    let entry = c .before .before .before .before .before .before .before .before in
-    let at-as-array = c .before .before .before .before .before .before .as-array in
-    let at-enum-told2 = c .before .before .before .before .enum-told2 in
-    numbers-same (c .is-number .result) (neither _ (told-no-array (entry .args .types .now) (entry .args .a)
-    (at-enum-told2 .given .1) (at-as-array .ensures)) (told-no-pair (entry .args .types .now)
-    (entry .args .a) (c .before .enum-told4 .given .1) (c .before .before .before .as-pair .ensures)))
+    let entry = c .before .before .before .before .before .before .before .before .before .before .before .before .before .before in
+    answer-no (λ e. told-no-vector (entry .args .types .now) (entry .args .b) (c .enum-told5 .given .1)
+    (c .before .before .as-vector2 .ensures) _ (sym e ∙ told-vector (entry .args .types .now) (entry .args .a)
+    (c .before .before .before .before .vectors .given .1) (c .before .before .before .before .before .before .as-vector .ensures) .0))
+
+same-returns-8 : (t : ℕ) → same-lts.Need-returns-8 (same-calls t) (same-at t) same.Post
+same-returns-8 t c =
+    let entry = c .before .before .before .before .before .before .before .before .before .before .before .before .before .before .before in
+    vectors-same (told-vector (entry .args .types .now) (entry .args .a) (c .before .before .before .before .before .vectors .given .1)
+    (c .before .before .before .before .before .before .before .as-vector .ensures) .0)
+    (told-vector (entry .args .types .now) (entry .args .b) (c .before .other3 .given .1) (c .before .before .before .as-vector2 .ensures) .0)
+
+same-is-number-requires : (t : ℕ) → same-lts.Need-is-number-requires (same-calls t) (same-at t) same.Post
+same-is-number-requires t c κs = c .before .before .before .before .before .before .before .before .before .before .pre .1 .1
+
+same-returns-9 : (t : ℕ) → same-lts.Need-returns-9 (same-calls t) (same-at t) same.Post
+same-returns-9 t c =
+    let entry = c .before .before .before .before .before .before .before .before .before .before .before in
+    numbers-same (c .is-number .result) (neither _
+    (told-no-array (entry .args .types .now) (entry .args .a) (c .before .before .before .before .before .before .before .enum-told2 .given .1)
+    (c .before .before .before .before .before .before .before .before .before .as-array .ensures))
+    (told-no-pair (entry .args .types .now) (entry .args .a) (c .before .before .before .before .enum-told4 .given .1) (c .before .before .before .before .before .before .as-pair .ensures))
+    (told-no-vector (entry .args .types .now) (entry .args .a) (c .before .enum-told6 .given .1) (c .before .before .before .as-vector .ensures)))
     (c .is-number .ensures)
 
 pub +same-spec : {M : Type 1} → statement M
@@ -211,4 +234,6 @@ pub +same-spec : {M : Type 1} → statement M
     (λ c. search needs) (same-returns t) (same-returns-2 t) (same-same-requires t) (same-returns-3 t) (λ c. search needs)
     (same-as-pair-requires t) (λ c. search needs) (same-as-pair-requires-2 t) (λ c. search needs) (λ c. search needs)
     (same-returns-4 t) (same-same-requires-2 t) (same-returns-5 t) (same-same-requires-3 t) (same-returns-6 t) (λ c. search needs)
-    (same-is-number-requires t) (same-returns-7 t)
+    (same-as-vector-requires t) (λ c. search needs) (same-as-vector-requires-2 t) (λ c. search needs) (λ c. search needs)
+    (same-returns-7 t) (same-returns-8 t) (λ c. search needs)
+    (same-is-number-requires t) (same-returns-9 t)

@@ -11,7 +11,7 @@ use lib.Dec.{T, eqb, leb, leb→le}
 use lib.Ieee.Fits.{and-l, and-r}
 use lib.ListN.{length, getD}
 use Rattle.refusals.specs.declared.Refusal.{Refusal}
-use Rattle.refusals.specs.declared.Refusal.the-variants.{TextForm, LineForm, RowDue, NumberRange, NameCount}
+use Rattle.refusals.specs.declared.Refusal.the-variants.{TextForm, LineForm, RowDue, NumberRange, NameCount, LanesInside}
 use Rattle.words.specs.Kinds.{Row}
 use Rattle.words.specs.Groups.{isListed}
 use Rattle.refusals.specs.declared.Answer.{Answer}
@@ -31,7 +31,7 @@ use Rattle.lines.specs.declared.Line.{Line}
 use Rattle.lines.specs.declared.Line.the-variants.{IsRow, NoRow}
 use Rattle.syntax.specs.declared.operands.Due.{Due}
 use Rattle.syntax.specs.Ranges.{asNatural, inRange}
-use Rattle.syntax.specs.Names.{noNames, openedBy, namesFit}
+use Rattle.syntax.specs.Names.{noNames, openedBy, namesFit, lanesFit}
 use Rattle.syntax.specs.Operands.{inputsCounted, due, operandsDue}
 use Rattle.syntax.specs.Walk.{firstNo, askRow, walkFrom, listedFrom, walkTable}
 use Rattle.syntax.specs.Reading.{planOf}
@@ -97,7 +97,7 @@ reading-asks-form head limits t h = go (closed (limits .bytes) t) refl
     go true e = lines-uncounted head (limits .lines) t (few e) ∙ formed-asks head (linesOf t)
     go false e = refl
 
--- ---- 4 to 6
+-- ---- 4 to 6, and 18
 
 pub kinds-ask : (p : ℕ) (R : List Row) (next : Answer) → listedFrom p R next ≡ ask Refused (kindQuestions p R) next
 unfolding listedFrom kindQuestions ask
@@ -112,7 +112,7 @@ walk-asks [] p (d ∷ ds) = refl
 walk-asks (r ∷ rs) p [] = refl
 walk-asks (r ∷ rs) p (d ∷ ds) =
     go (operandsOf (r .0) (d .sort)) (inRange (d .sort) (d .names) (r .0) (asNatural (r .1)))
-    (namesFit (openedBy (r .0) (asNatural (r .1)) (d .names)))
+    (namesFit (openedBy (r .0) (asNatural (r .1)) (d .names))) (lanesFit (openedBy (r .0) (asNatural (r .1)) (d .names)))
     (λ m.
     walk-asks rs (suc p) (dues m)
     ∙ ap (λ (n : ℕ). ask Refused (walkQuestions (suc p) (dues m) rs) (Told n)) (suc-add p (length rs) ∙ sym (add-suc p (length rs))))
@@ -123,18 +123,22 @@ walk-asks (r ∷ rs) p (d ∷ ds) =
     dues : ℕ → List Due
     dues m = operandsDue d (r .0) (asNatural (r .1)) m ++ ds
 
-    go : (o : Operands) (ranged fit : Bool)
+    go : (o : Operands) (ranged fit apart : Bool)
         → ((m : ℕ) → walkFrom (suc p) (dues m) rs ≡ ask Refused (walkQuestions (suc p) (dues m) rs) (Told (p + suc (length rs))))
-        → after (firstNo o ranged fit inputs (suc p)) (λ m. walkFrom (suc p) (dues m) rs)
+        → after (firstNo o ranged fit apart inputs (suc p)) (λ m. walkFrom (suc p) (dues m) rs)
         ≡ cond (isOfSort o)
         (cond ranged
-        (cond fit (ask Refused (walkQuestions (suc p) (dues (inputs + countOf o)) rs) (Told (p + suc (length rs)))) (Refused (NameCount (suc p))))
+        (cond fit
+        (cond apart (ask Refused (walkQuestions (suc p) (dues (inputs + countOf o)) rs) (Told (p + suc (length rs))))
+        (Refused (LanesInside (suc p))))
+        (Refused (NameCount (suc p))))
         (Refused (NumberRange (suc p))))
         (Refused (RowDue (suc p)))
-    go NotOfSort ranged fit h = refl
-    go (Count m) false fit h = refl
-    go (Count m) true false h = refl
-    go (Count m) true true h = h (inputs + m)
+    go NotOfSort ranged fit apart h = refl
+    go (Count m) false fit apart h = refl
+    go (Count m) true false apart h = refl
+    go (Count m) true true false h = refl
+    go (Count m) true true true h = h (inputs + m)
 
 -- of a plan's table or of loops'
 pub table-asks : (s : Sort) (R : List Row)

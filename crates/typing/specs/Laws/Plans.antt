@@ -5,7 +5,7 @@ use Prim.Native.Nat.{ℕ, zero, suc, _≤_, _<_, suc-le-suc}
 use native.Mathlib.Nat.{le-of-suc-le-suc, not-suc-le-zero}
 use native.Mathlib.Omega.{arith}
 use lib.ListN.{length, getD}
-use Rattle.meaning.specs.Types.{DataType, number, array}
+use Rattle.meaning.specs.Types.{DataType, number, array, vector}
 use Rattle.meaning.specs.Terms.{Term, Plan}
 use Rattle.meaning.specs.Typing.{HasType, typeOf}
 use Rattle.meaning.specs.Limits.{TypeWithin, TermWithin, PlanWithin}
@@ -43,6 +43,7 @@ pub in-range-nonempty : (t : DataType) → TypeInRange t → Nonempty t
 in-range-nonempty number h = tt
 in-range-nonempty (array n t) h = (h .0 .0, in-range-nonempty t (h .1))
 in-range-nonempty (DataType.pair s t) h = (in-range-nonempty s (h .0), in-range-nonempty t (h .1))
+in-range-nonempty (vector w) h = h
 
 pub all-nonempty : (I : List DataType) → AllTypesInRange I → AllNonempty I
 all-nonempty [] h = tt
@@ -59,6 +60,7 @@ type-yes (DataType.pair s t) line h =
     (yes-append (typeQuestions t (behindType s (suc line))) _
     (type-yes t (behindType s (suc line)) (h .0 .2, omega (arith, h .1)))
     (size-passes (DataType.pair s t) h, tt))
+type-yes (vector w) line h = (size-passes (vector w) h, tt)
 
 type-within : (t : DataType) (line : ℕ) → Nonempty t → AllYes (typeQuestions t line) → TypeWithin t
 unfolding typeQuestions
@@ -68,6 +70,7 @@ type-within (array n t) line g h =
 type-within (DataType.pair s t) line g h =
     passes-size (DataType.pair s t) g
     (yes-parts (typeQuestions t (behindType s (suc line))) _ (yes-parts (typeQuestions s (suc line)) _ h .1) .1 .0)
+type-within (vector w) line g h = passes-size (vector w) g (h .0)
 
 abbrev EachWithin : List DataType → Type 0
 EachWithin I = (k : ℕ) → k < length I → TypeWithin (getD I k number)

@@ -4,14 +4,14 @@ use mathlib.Core.Path.{refl}
 use mathlib.Core.List.{List, [], _∷_, _++_}
 use Prim.Native.Nat.{ℕ, suc}
 use Rattle.meaning.specs.Types.{DataType, element}
-use Rattle.meaning.specs.Terms.{Term, Plan}
+use Rattle.meaning.specs.Terms.{Term, Plan, seriesIn}
 use Rattle.meaning.specs.Typing.{typeOf, HasType}
 use Rattle.meaning.specs.Laws.Typing.{WellTyped, well-typed}
 use Rattle.typing.specs.Check.{behind, behindType, termLine}
 use Rattle.typing.specs.Questions.{Question, AllYes, AllYesTo}
 use Rattle.typing.specs.TypeQuestions.{typeQuestions, allTypeQuestions, termQuestions, planQuestions}
 use Rattle.typing.specs.Laws.Questions.{yes-append}
-use Rattle.typing.specs.Laws.Tests.{both-tell, number-tells, array-tells, pair-tells, same-tells, zip-tells, split-tells, join-tells, index-tells}
+use Rattle.typing.specs.Laws.Tests.{both-tell, number-tells, array-tells, series-tells, element-tells, pair-tells, same-tells, zip-tells, split-tells, join-tells, index-tells}
 
 pub to-parts : (n : ℕ) (a b : List Question) → AllYesTo n (a ++ b) → AllYesTo n a × AllYesTo n b
 to-parts n [] b h = (tt, h)
@@ -41,8 +41,9 @@ sized-fits I Γ (Term.map kind a b) line h s =
     let body : List Question = termQuestions I (element (typeOf I Γ a) ∷ Γ) b (behind a (suc line)) in
     let q = to-parts 8 body _ (p .1 .1) in
     yes-append (termQuestions I Γ a (suc line)) _ (sized-fits I Γ a (suc line) (h .0) (p .0)) (
-      array-tells (typeOf I Γ a) .passes (h .1),
-      yes-append body _ (sized-fits I (element (typeOf I Γ a) ∷ Γ) b (behind a (suc line)) (h .2) (q .0)) (q .1 .0 refl, tt),
+      series-tells (seriesIn kind) (typeOf I Γ a) .passes (h .1),
+      yes-append body _ (sized-fits I (element (typeOf I Γ a) ∷ Γ) b (behind a (suc line)) (h .2) (q .0))
+          (element-tells (seriesIn kind) (typeOf I (element (typeOf I Γ a) ∷ Γ) b) .passes (h .3), (q .1 .1 .0 refl, tt)),
     )
 sized-fits I Γ (Term.reduce z a b) line h s =
     let Δ : List DataType = typeOf I Γ z ∷ element (typeOf I Γ a) ∷ Γ in
@@ -68,21 +69,21 @@ sized-fits I Γ (Term.pair a b) line h s =
     yes-append (termQuestions I Γ a (suc line)) _ (sized-fits I Γ a (suc line) (h .0) (p .0))
     (yes-append (termQuestions I Γ b (behind a (suc line))) _ (sized-fits I Γ b (behind a (suc line)) (h .1) (q .0))
     (q .1 .0 refl, tt))
-sized-fits I Γ (Term.split n e) line h s =
+sized-fits I Γ (Term.split series n e) line h s =
     let p = to-parts 8 (termQuestions I Γ e (suc line)) _ s in
-    yes-append (termQuestions I Γ e (suc line)) _ (sized-fits I Γ e (suc line) (h .0) (p .0)) (split-tells n (typeOf I Γ e) .passes (h .1, h .2), (p .1 .1 .0 refl, tt))
-sized-fits I Γ (Term.join e) line h s =
+    yes-append (termQuestions I Γ e (suc line)) _ (sized-fits I Γ e (suc line) (h .0) (p .0)) (split-tells series n (typeOf I Γ e) .passes ((h .1, h .2), h .4), (p .1 .1 .0 refl, tt))
+sized-fits I Γ (Term.join series e) line h s =
     let p = to-parts 8 (termQuestions I Γ e (suc line)) _ s in
-    yes-append (termQuestions I Γ e (suc line)) _ (sized-fits I Γ e (suc line) (h .0) (p .0)) (join-tells (typeOf I Γ e) .passes (h .1, h .2), (p .1 .1 .0 refl, tt))
+    yes-append (termQuestions I Γ e (suc line)) _ (sized-fits I Γ e (suc line) (h .0) (p .0)) (join-tells series (typeOf I Γ e) .passes (h .1, h .2), (p .1 .1 .0 refl, tt))
 sized-fits I Γ (Term.first e) line h s =
     let p = to-parts 8 (termQuestions I Γ e (suc line)) _ s in
     yes-append (termQuestions I Γ e (suc line)) _ (sized-fits I Γ e (suc line) (h .0) (p .0)) (pair-tells (typeOf I Γ e) .passes (h .1), (p .1 .1 .0 refl, tt))
 sized-fits I Γ (Term.second e) line h s =
     let p = to-parts 8 (termQuestions I Γ e (suc line)) _ s in
     yes-append (termQuestions I Γ e (suc line)) _ (sized-fits I Γ e (suc line) (h .0) (p .0)) (pair-tells (typeOf I Γ e) .passes (h .1), (p .1 .1 .0 refl, tt))
-sized-fits I Γ (Term.index k e) line h s =
+sized-fits I Γ (Term.index series k e) line h s =
     let p = to-parts 8 (termQuestions I Γ e (suc line)) _ s in
-    yes-append (termQuestions I Γ e (suc line)) _ (sized-fits I Γ e (suc line) (h .0) (p .0)) (index-tells k (typeOf I Γ e) .passes (h .1, h .2), (p .1 .1 .0 refl, tt))
+    yes-append (termQuestions I Γ e (suc line)) _ (sized-fits I Γ e (suc line) (h .0) (p .0)) (index-tells series k (typeOf I Γ e) .passes (h .1, h .2), (p .1 .1 .0 refl, tt))
 
 -- input types have nothing to fit
 sized-type : (t : DataType) (line : ℕ) → AllYesTo 8 (typeQuestions t line) → AllYes (typeQuestions t line)
@@ -96,6 +97,7 @@ sized-type (DataType.pair t u) line s =
     let q = to-parts 8 (typeQuestions u (behindType t (suc line))) _ (p .1) in
     yes-append (typeQuestions t (suc line)) _ (sized-type t (suc line) (p .0))
     (yes-append (typeQuestions u (behindType t (suc line))) _ (sized-type u (behindType t (suc line)) (q .0)) (q .1 .0 refl, tt))
+sized-type (DataType.vector w) line s = (s .0 refl, tt)
 
 sized-types : (I : List DataType) (line : ℕ) → AllYesTo 8 (allTypeQuestions I line) → AllYes (allTypeQuestions I line)
 unfolding allTypeQuestions

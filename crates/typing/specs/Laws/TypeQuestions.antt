@@ -6,10 +6,10 @@ use Prim.Native.Nat.{ℕ, suc}
 use native.Mathlib.Omega.{arith}
 use lib.ListN.{getD}
 use Rattle.refusals.specs.declared.Refusal.the-variants.{TypeMisfit}
-use Rattle.meaning.specs.Types.{DataType, number, array, element}
+use Rattle.meaning.specs.Types.{DataType, number, array, vector, element}
 use Rattle.meaning.specs.Terms.{Term, Plan}
 use Rattle.meaning.specs.Typing.{typeOf}
-use Rattle.typing.specs.Check.{Verdict, typed, refused, isArray, sized, fitted, afterOperand, behind, behindType, termLine, check, checkType, checkTypes, checkPlan}
+use Rattle.typing.specs.Check.{Verdict, typed, refused, sized, fitted, afterOperand, behind, behindType, termLine, check, checkType, checkTypes, checkPlan}
 use Rattle.typing.specs.Questions.{Question, ask, AllYes}
 use Rattle.typing.specs.TypeQuestions.{fits, size, termQuestions, typeQuestions, allTypeQuestions, planQuestions}
 use Rattle.typing.specs.Laws.Questions.{end-asked, ask-append, ask-through}
@@ -45,11 +45,11 @@ operand v next {t} {qs} {rest} {end} h k = record {
       ∙ sym (ask-append refused qs rest end);
 }
 
--- a body's, once its array is known to be one
-body : (line : ℕ) (s : DataType) {v : Verdict} {qs : List Question} {end : Verdict}
-    → Asks v qs end → Asks (cond (isArray s) v (refused (TypeMisfit line))) (fits line (isArray s) ∷ qs) end
+-- a body's, once its array, [18.6] or its vector, is known to be one
+body : (line : ℕ) (is : Bool) {v : Verdict} {qs : List Question} {end : Verdict}
+    → Asks v qs end → Asks (cond is v (refused (TypeMisfit line))) (fits line is ∷ qs) end
 unfolding ask
-body line s h = record { asks = ap (λ (w : Verdict). cond (isArray s) w (refused (TypeMisfit line))) (h .asks) }
+body line is h = record { asks = ap (λ (w : Verdict). cond is w (refused (TypeMisfit line))) (h .asks) }
 
 term-asks : (I Γ : List DataType) (e : Term) (line : ℕ) → Asks (check I Γ e line) (termQuestions I Γ e line) (typed (typeOf I Γ e))
 unfolding check termQuestions
@@ -61,21 +61,21 @@ term-asks I Γ (Term.operation o e f) line =
     operand _ _ (term-asks I Γ e (suc line)) (operand _ _ (term-asks I Γ f (behind e (suc line))) (fitted-asks line _ number))
 term-asks I Γ (Term.map kind a b) line =
     operand _ _ (term-asks I Γ a (suc line))
-    (body line (typeOf I Γ a)
-    (operand _ _ (term-asks I (element (typeOf I Γ a) ∷ Γ) b (behind a (suc line))) (sized-asks line _)))
+    (body line _
+    (operand _ _ (term-asks I (element (typeOf I Γ a) ∷ Γ) b (behind a (suc line))) (fitted-asks line _ _)))
 term-asks I Γ (Term.reduce z a b) line =
     operand _ _ (term-asks I Γ z (suc line)) (operand _ _ (term-asks I Γ a (behind z (suc line)))
-    (body line (typeOf I Γ a)
+    (body line _
     (operand _ _ (term-asks I (typeOf I Γ z ∷ element (typeOf I Γ a) ∷ Γ) b (behind a (behind z (suc line)))) (fitted-asks line _ _))))
 term-asks I Γ (Term.zip a b) line =
     operand _ _ (term-asks I Γ a (suc line)) (operand _ _ (term-asks I Γ b (behind a (suc line))) (fitted-asks line _ _))
 term-asks I Γ (Term.pair a b) line =
     operand _ _ (term-asks I Γ a (suc line)) (operand _ _ (term-asks I Γ b (behind a (suc line))) (sized-asks line _))
-term-asks I Γ (Term.split n e) line = operand _ _ (term-asks I Γ e (suc line)) (fitted-asks line _ _)
-term-asks I Γ (Term.join e) line = operand _ _ (term-asks I Γ e (suc line)) (fitted-asks line _ _)
+term-asks I Γ (Term.split series n e) line = operand _ _ (term-asks I Γ e (suc line)) (fitted-asks line _ _)
+term-asks I Γ (Term.join series e) line = operand _ _ (term-asks I Γ e (suc line)) (fitted-asks line _ _)
 term-asks I Γ (Term.first e) line = operand _ _ (term-asks I Γ e (suc line)) (fitted-asks line _ _)
 term-asks I Γ (Term.second e) line = operand _ _ (term-asks I Γ e (suc line)) (fitted-asks line _ _)
-term-asks I Γ (Term.index k e) line = operand _ _ (term-asks I Γ e (suc line)) (fitted-asks line _ _)
+term-asks I Γ (Term.index series k e) line = operand _ _ (term-asks I Γ e (suc line)) (fitted-asks line _ _)
 
 type-asks : (t : DataType) (line : ℕ) → Asks (checkType t line) (typeQuestions t line) (typed t)
 unfolding checkType typeQuestions
@@ -83,6 +83,7 @@ type-asks number line = sized-asks line number
 type-asks (array n t) line = operand _ _ (type-asks t (suc line)) (sized-asks line _)
 type-asks (DataType.pair s t) line =
     operand _ _ (type-asks s (suc line)) (operand _ _ (type-asks t (behindType s (suc line))) (sized-asks line _))
+type-asks (vector w) line = sized-asks line (vector w)
 
 types-ask : (I : List DataType) (line : ℕ) {next end : Verdict} {qs : List Question}
     → Asks next qs end → Asks (checkTypes I line next) (allTypeQuestions I line ++ qs) end

@@ -12,7 +12,7 @@ returns c =
     let at-put-count = c .before .before .before .before .before .put-count in
     let at-first-part = c .before .before .before .first-part in (
       record {
-        node = pushed-as (at-first-part .result) (firstPart (entry .args .kind)) (entry .args .target)
+        node = pushed-as (at-first-part .result) (firstPart (entry .args .kind)) 0 (entry .args .target)
             (at-first-part .ensures) (c .before .before .push .ensures);
         counters = refl;
         regions = refl;

@@ -11,7 +11,7 @@ returns c =
     let entry = c .before .before .before .before .before in
     let at-second-part = c .before .before .before .second-part in (
       record {
-        node = pushed-as (at-second-part .result) (secondPart (entry .args .kind)) (entry .args .target)
+        node = pushed-as (at-second-part .result) (secondPart (entry .args .kind)) 0 (entry .args .target)
             (at-second-part .ensures) (c .before .before .push .ensures);
         counters = refl;
         regions = refl;

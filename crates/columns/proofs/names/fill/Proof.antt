@@ -4,7 +4,7 @@ use Prim.Native.Nat.{_+_, _-_, _≤_}
 use native.Mathlib.Omega.{arith}
 use lib.ListN.{length, drop}
 use borrow.Author.Needs.{needs}
-use Rattle.words.specs.Kinds.{word-for, word-par, word-new}
+use Rattle.columns.specs.Names.{counterWords, regionWords}
 use Rattle.columns.proofs.Naming as naming
 use Rattle.columns.proofs.names.fill.Statement.{statement}
 use Rattle.columns.proofs.names.fill.Tie as tie
@@ -13,7 +13,7 @@ abbrev Inv-loop : tie.InvT-loop
 Inv-loop kinds numbers ends counters₀ regions₀ named₀ counter₀ region₀ q₀ counters regions named counter region q =
     (length counters ≡ length counters₀) × (length regions ≡ length regions₀) × (length named ≡ length named₀) × (q ≤ length kinds)
     × (counter ≤ length counters) × (length counters ≤ counter + q) × (region ≤ length regions) × (length regions ≤ region + q)
-    × naming.Stacked word-for word-par kinds ends (drop counter counters) q × naming.Stacked word-new word-new kinds ends (drop region regions) q
+    × naming.Stacked counterWords kinds ends (drop counter counters) q × naming.Stacked regionWords kinds ends (drop region regions) q
     × naming.NamedTo kinds numbers ends named q
 
 abbrev μ-loop : tie.MeasureT-loop
@@ -30,8 +30,8 @@ loop-holds c =
       omega arith,
       omega arith,
       omega arith,
-      naming.stack-begin word-for word-par (a .kinds .now) (a .ends .now) (a .counters .now),
-      naming.stack-begin word-new word-new (a .kinds .now) (a .ends .now) (a .regions .now),
+      naming.stack-begin counterWords (a .kinds .now) (a .ends .now) (a .counters .now),
+      naming.stack-begin regionWords (a .kinds .now) (a .ends .now) (a .regions .now),
       naming.naming-begin (a .kinds .now) (a .numbers .now) (a .ends .now) (a .named .now),
     )
 
@@ -82,10 +82,10 @@ loop-again c =
       omega (arith, one .0 .0, one .0 .3, turn .inv .5),
       omega (arith, two .0 .0, two .0 .2),
       omega (arith, two .0 .0, two .0 .3, turn .inv .7),
-      naming.stack-again word-for word-par (a .kinds .now) (a .ends .now) (at-opens .opens .ensures) (turn .inv .8) (one .1 .0),
-      naming.stack-again word-new word-new (a .kinds .now) (a .ends .now) (at-opens2 .opens2 .ensures) (turn .inv .9) (two .1 .0),
-      naming.naming-again (a .kinds .now) (a .numbers .now) (a .ends .now) (turn .q) (turn .inv .10) (at-opens .opens .ensures) (turn .inv .8) (one .1 .1)
-          (at-opens2 .opens2 .ensures) (turn .inv .9) (two .1 .1),
+      naming.stack-again counterWords (a .kinds .now) (a .ends .now) (at-opens .is-loop .ensures) (turn .inv .8) (one .1 .0),
+      naming.stack-again regionWords (a .kinds .now) (a .ends .now) (at-opens2 .opens-region .ensures) (turn .inv .9) (two .1 .0),
+      naming.naming-again (a .kinds .now) (a .numbers .now) (a .ends .now) (turn .q) (turn .inv .10) (at-opens .is-loop .ensures) (turn .inv .8) (one .1 .1)
+          (at-opens2 .opens-region .ensures) (turn .inv .9) (two .1 .1),
     )
 
 returns : tie.Need-returns Inv-loop μ-loop

@@ -5,21 +5,22 @@ use mathlib.Core.Path.{_≡_}
 use Prim.Native.Nat.{ℕ, suc, _+_, _*_, _≤_, _<_}
 use borrow.Fn.Kinds.{In}
 use borrow.Fn.PlainCycle.{Measures, is, falls, and}
-use Rattle.meaning.specs.Types.{DataType, array, levels}
+use Rattle.meaning.specs.Types.{DataType, levels}
 use Rattle.type_table.specs.Table.{typeAt}
-use Rattle.emission.specs.Laws.Assign.{both-grown, array-levels, pair-levels, few-elements, assign-number, assign-array, assign-pair}
+use Rattle.emission.specs.Laws.Assign.{both-grown, pair-levels, assign-number, assign-elements, assign-pair}
 use Rattle.emission.specs.Laws.Assign.{pair-grown}
-use Rattle.emission.specs.Laws.Offsets.{is-number}
+use Rattle.emission.specs.Elements.{HasElements}
+use Rattle.emission.specs.Laws.Elements.{is-number, its-levels, few-elements, told-elements, told-no-elements}
 use Rattle.emission.specs.Laws.Growth.{grown-none, grown-more}
 use Rattle.emission.specs.Laws.Table.{put-none-past}
-use Rattle.type_table.specs.Laws.{sound-below, told-array, told-no-array, told-pair, told-no-pair}
+use Rattle.type_table.specs.Laws.{sound-below, told-pair, told-no-pair}
 use Rattle.emission.proofs.assign.put_assign.Reads as put-assign
 use Rattle.emission.proofs.assign.put_assign.Kinds as put-assign-kinds
 use Rattle.emission.proofs.assign.+put_assign.Lts-put_assign as put-assign-lts
 use Rattle.emission.proofs.assign.push_both.Reads as push-both-reads
 use Rattle.emission.proofs.assign.put_set.Reads as put-set-reads
 use Rattle.emission.proofs.rows.put_count.Reads as put-count-reads
-use Rattle.type_table.proofs.as_array.Reads as as-array-reads
+use Rattle.emission.proofs.elements.as_elements.Reads as as-elements-reads
 use Rattle.type_table.proofs.as_pair.Reads as as-pair-reads
 use Rattle.emission.proofs.assign.+put_assign.{statement}
 use Rattle.emission.proofs.assign.+put_assign.Tie.{close}
@@ -38,8 +39,8 @@ put-assign-below t =
 -- what the callees of `put_assign` ask, and what they promise
 abbrev put-assign-calls : ℕ → put-assign-lts.Claims
 put-assign-calls t = (
-  as-array-reads.Asked,
-  as-array-reads.Learnt,
+  as-elements-reads.Asked,
+  as-elements-reads.Learnt,
   put-count-reads.Asked,
   put-count-reads.Learnt,
   push-both-reads.Asked,
@@ -53,31 +54,32 @@ put-assign-calls t = (
 )
 
 module _ (t : ℕ) where
-  -- at the entry; where the type is an array; where it is a pair; and the way back from each
+  -- at the entry; where the type has elements; where it is a pair; and the way back from each
   abbrev Entry : Type 0
   Entry = put-assign-lts.Start (put-assign-calls t) (put-assign-at t) put-assign.Post
 
-  abbrev IsArray : Type 0
-  IsArray = put-assign-lts.After-array (put-assign-calls t) (put-assign-at t) put-assign.Post
+  abbrev InElements : Type 0
+  InElements = put-assign-lts.After-elements (put-assign-calls t) (put-assign-at t) put-assign.Post
 
   abbrev IsPair : Type 0
   IsPair = put-assign-lts.After-pair (put-assign-calls t) (put-assign-at t) put-assign.Post
 
-  abbrev entry : IsArray → Entry
+  abbrev entry : InElements → Entry
   entry c = c .before .before .before .before .before
 
   abbrev pair-entry : IsPair → Entry
   pair-entry c = c .before .before .before .before .before .before .before .before
 
-  its-array : (c : IsArray) → (typeAt (entry c .args .types .now) (entry c .args .place) ≡ array (c .array .given .0 .0)
-      (typeAt (entry c .args .types .now) (c .array .given .0 .1 .0))) × (c .array .given .0 .1 .0 < entry c .args .place)
-  its-array c = told-array (entry c .args .types .now) (entry c .args .place) (c .array .given .1) (c .before .before .as-array .ensures)
+  its-elements : (c : InElements) → HasElements (typeAt (entry c .args .types .now) (entry c .args .place)) (c .elements .given .0 .0)
+      (typeAt (entry c .args .types .now) (c .elements .given .0 .1 .0)) (c .elements .given .0 .1 .1 .0)
+      × (c .elements .given .0 .1 .0 < entry c .args .place)
+  its-elements c = told-elements (entry c .args .types .now) (entry c .args .place) (c .elements .given .1) (c .before .before .as-elements .ensures)
 
   -- room for the nodes and counters of its elements
-  array-room : (c : IsArray)
-      → (entry c .args .len + 2 * suc (levels (typeAt (entry c .args .types .now) (c .array .given .0 .1 .0))) ≤ 1024)
-      × (entry c .args .counters + suc (levels (typeAt (entry c .args .types .now) (c .array .given .0 .1 .0))) < 65536)
-  array-room c = let l = array-levels _ _ _ (its-array c .0) in (omega (arith, l, entry c .pre .1 .4), omega (arith, l, entry c .pre .1 .5))
+  elements-room : (c : InElements)
+      → (entry c .args .len + 2 * suc (levels (typeAt (entry c .args .types .now) (c .elements .given .0 .1 .0))) ≤ 1024)
+      × (entry c .args .counters + suc (levels (typeAt (entry c .args .types .now) (c .elements .given .0 .1 .0))) < 65536)
+  elements-room c = let l = its-levels (its-elements c .0) in (omega (arith, l, entry c .pre .1 .4), omega (arith, l, entry c .pre .1 .5))
 
   its-pair : (c : IsPair) → (typeAt (pair-entry c .args .types .now) (pair-entry c .args .place) ≡ DataType.pair
       (typeAt (pair-entry c .args .types .now) (c .pair .given .0 .0))
@@ -98,12 +100,12 @@ module _ (t : ℕ) where
 
   push-both-requires : put-assign-lts.Need-push-both-requires (put-assign-calls t) (put-assign-at t) put-assign.Post
   push-both-requires c κs =
-      let b = c .before .before .before .before .before in let q = entry b .pre .1 in (omega (arith, array-room b), q .2, q .3, q .6)
+      let b = c .before .before .before .before .before in let q = entry b .pre .1 in (omega (arith, elements-room b), q .2, q .3, q .6)
 
   element-requires : put-assign-lts.Need-put-assign-requires (put-assign-calls t) (put-assign-at t) put-assign.Post
   element-requires c κs =
-      let b = c .before .before .before .before .before .before .before .before .before in let e = entry b in let h = its-array b .1 in
-      let l = array-room b in (
+      let b = c .before .before .before .before .before .before .before .before .before in let e = entry b in let h = its-elements b .1 in
+      let l = elements-room b in (
         omega (arith, h, e .pre .0),
         (
           e .pre .1 .0,
@@ -116,12 +118,12 @@ module _ (t : ℕ) where
         ),
       )
 
-  returns-array : put-assign-lts.Need-returns-2 (put-assign-calls t) (put-assign-at t) put-assign.Post
-  returns-array c =
+  returns-elements : put-assign-lts.Need-returns-2 (put-assign-calls t) (put-assign-at t) put-assign.Post
+  returns-elements c =
       let b = c .before .before .before .before .before .before .before .before .before .before in let a = entry b .args in
       let q = entry b .pre .1 in let p = c .before .before .before .before .push-both in (
-        assign-array (a .types .now) (a .plan .now) (a .references .now) (a .place) (a .value) (a .target) (a .counters) (a .regions) _
-            _ (a .len) (omega (arith, array-room b)) (q .2) (q .3) _ _ _ _ (omega (arith, q .5)) (its-array b .0)
+        assign-elements (a .types .now) (a .plan .now) (a .references .now) (a .place) (a .value) (a .target) (a .counters) (a .regions) _
+            _ (a .len) (omega (arith, elements-room b)) (q .2) (q .3) _ _ _ _ _ (omega (arith, q .5)) (its-elements b .0)
             (c .before .before .before .before .before .before .put-count .ensures) (p .ensures) (c .put-assign .ensures .0),
         grown-more _ _ _ (a .len) (a .len + 2) (omega arith) (both-grown _ _ _ _ _ _ _ (p .ensures)) (c .put-assign .ensures .1),
       )
@@ -129,13 +131,13 @@ module _ (t : ℕ) where
   returns-number : put-assign-lts.Need-returns-3 (put-assign-calls t) (put-assign-at t) put-assign.Post
   returns-number c =
       let a = c .before .before .before .before .before .before .before .before .before .before .before .before .args in
-      let no-array = told-no-array (a .types .now) (a .place)
+      let no-elements = told-no-elements (a .types .now) (a .place)
       (c .before .before .before .before .before .before .before .enum-told .given .1)
-      (c .before .before .before .before .before .before .before .before .before .as-array .ensures) in
+      (c .before .before .before .before .before .before .before .before .before .as-elements .ensures) in
       let no-pair = told-no-pair (a .types .now) (a .place) (c .before .before .before .before .enum-told2 .given .1)
       (c .before .before .before .before .before .before .as-pair .ensures) in (
         assign-number (a .types .now) (a .plan .now) (a .references .now) (a .place) (a .value) (a .target) (a .counters) (a .regions) _
-            _ (is-number _ no-array no-pair) (c .put-set .ensures),
+            _ (is-number _ no-elements no-pair) (c .put-set .ensures),
         grown-none _ _
             (c .before .before .before .before .before .before .before .before .before .before .before .before .pre .1 .6),
       )
@@ -195,13 +197,13 @@ module _ (t : ℕ) where
       let b = c .before .before .before in let e = entry b in
       omega (
         arith,
-        few-elements (e .args .types .now) (e .args .place) _ _
-            (sound-below (e .pre .1 .0) (omega (arith, e .pre .1 .1))) (its-array b .0),
+        few-elements (e .args .types .now) (e .args .place) _ _ _
+            (sound-below (e .pre .1 .0) (omega (arith, e .pre .1 .1))) (its-elements b .0),
       )) (λ c κs. search needs) push-both-requires
-      (λ c. omega (arith, array-room (c .before .before .before .before .before .before .before .before .before)))
-      (λ c. omega (arith, array-room (c .before .before .before .before .before .before .before .before .before)))
-      (λ c. omega (arith, array-room (c .before .before .before .before .before .before .before .before .before))) element-requires
-      returns-array (λ c. search needs)
+      (λ c. omega (arith, elements-room (c .before .before .before .before .before .before .before .before .before)))
+      (λ c. omega (arith, elements-room (c .before .before .before .before .before .before .before .before .before)))
+      (λ c. omega (arith, elements-room (c .before .before .before .before .before .before .before .before .before))) element-requires
+      returns-elements (λ c. search needs)
       (λ c κs. sound-below (c .before .before .before .before .before .pre .1 .0)
       (omega (arith, c .before .before .before .before .before .pre .1 .1))) (λ c. search needs) (λ c. search needs)
       (λ c κs.

@@ -5,14 +5,15 @@ use mathlib.Core.Path.{sym, _∙_}
 use Prim.Native.Nat.{ℕ, _<_}
 use borrow.Fn.Kinds.{In}
 use borrow.Fn.PlainCycle.{Measures, is, falls, and}
-use Rattle.emission.specs.Laws.Offsets.{is-number, summands-number, summands-array, summands-second, summands-first, count-none}
+use Rattle.emission.specs.Laws.Offsets.{summands-number, summands-elements, summands-second, summands-first, count-none}
 use Rattle.emission.specs.Laws.Offsets.{count-more, count-same}
-use Rattle.type_table.specs.Laws.{sound-below, told-array, told-no-array, told-pair, told-no-pair}
+use Rattle.emission.specs.Laws.Elements.{is-number, told-elements, told-no-elements}
+use Rattle.type_table.specs.Laws.{sound-below, told-pair, told-no-pair}
 use Rattle.emission.proofs.offsets.count_summands.Reads as count-summands
 use Rattle.emission.proofs.offsets.count_summands.Kinds as count-summands-kinds
 use Rattle.emission.proofs.offsets.+count_summands.Lts-count_summands as count-summands-lts
 use Rattle.emission.proofs.paths.is_second.Reads as is-second-reads
-use Rattle.type_table.proofs.as_array.Reads as as-array-reads
+use Rattle.emission.proofs.elements.as_elements.Reads as as-elements-reads
 use Rattle.type_table.proofs.as_pair.Reads as as-pair-reads
 use Rattle.emission.proofs.offsets.+count_summands.{statement}
 use Rattle.emission.proofs.offsets.+count_summands.Tie.{close}
@@ -39,8 +40,8 @@ count-summands-below t =
 -- what the callees of `count_summands` ask, and what they promise
 abbrev count-summands-calls : ℕ → count-summands-lts.Claims
 count-summands-calls t = (
-  as-array-reads.Asked,
-  as-array-reads.Learnt,
+  as-elements-reads.Asked,
+  as-elements-reads.Learnt,
   count-summands-below t,
   count-summands.Post,
   as-pair-reads.Asked,
@@ -49,18 +50,18 @@ count-summands-calls t = (
   is-second-reads.Learnt,
 )
 
-count-summands-as-array-requires :
-    (t : ℕ) → count-summands-lts.Need-as-array-requires (count-summands-calls t) (count-summands-at t)
+count-summands-as-elements-requires :
+    (t : ℕ) → count-summands-lts.Need-as-elements-requires (count-summands-calls t) (count-summands-at t)
     count-summands.Post
-count-summands-as-array-requires t c κs = c .before .pre .1 .0
+count-summands-as-elements-requires t c κs = c .before .pre .1 .0
 
 count-summands-count-summands-requires :
     (t : ℕ) → count-summands-lts.Need-count-summands-requires (count-summands-calls t) (count-summands-at t)
     count-summands.Post
 count-summands-count-summands-requires t c κs =
     let entry = c .before .before .before .before .before in
-    let told = told-array (entry .args .types .now) (entry .args .place) (c .before .array .given .1)
-    (c .before .before .before .as-array .ensures) in (
+    let told = told-elements (entry .args .types .now) (entry .args .place) (c .before .elements .given .1)
+    (c .before .before .before .as-elements .ensures) in (
       omega (arith, told .1, entry .pre .0),
       (
         sound-below (entry .pre .1 .0) (omega (arith, told .1)),
@@ -75,17 +76,17 @@ count-summands-add-result t c =
     omega (
       arith,
       c .count-summands .ensures .1,
-      told-array (entry .args .types .now) (entry .args .place)
-          (c .before .before .array .given .1) (c .before .before .before .before .as-array .ensures) .1,
+      told-elements (entry .args .types .now) (entry .args .place)
+          (c .before .before .elements .given .1) (c .before .before .before .before .as-elements .ensures) .1,
       entry .pre .1 .2,
     )
 
 count-summands-returns : (t : ℕ) → count-summands-lts.Need-returns (count-summands-calls t) (count-summands-at t) count-summands.Post
 count-summands-returns t c =
     let entry = c .before .before .before .before .before .before in
-    let told = told-array (entry .args .types .now) (entry .args .place) (c .before .before .array .given .1)
-    (c .before .before .before .before .as-array .ensures) in (
-      count-more _ _ _ _ (summands-array _ _ (entry .args .j) _ _ (told .0)) (c .count-summands .ensures .0),
+    let told = told-elements (entry .args .types .now) (entry .args .place) (c .before .before .elements .given .1)
+    (c .before .before .before .before .as-elements .ensures) in (
+      count-more _ _ _ _ (summands-elements _ _ (entry .args .j) (told .0)) (c .count-summands .ensures .0),
       omega
           (arith, told .1, c .count-summands .ensures .1),
     )
@@ -98,9 +99,9 @@ count-summands-as-pair-requires t c κs = c .before .before .before .before .pre
 count-summands-returns-2 : (t : ℕ) → count-summands-lts.Need-returns-2 (count-summands-calls t) (count-summands-at t) count-summands.Post
 count-summands-returns-2 t c =
     let entry = c .before .before .before .before .before .before .before in (
-      count-none _ (summands-number _ _ (entry .args .j) (is-number _ (told-no-array (entry .args .types .now)
+      count-none _ (summands-number _ _ (entry .args .j) (is-number _ (told-no-elements (entry .args .types .now)
           (entry .args .place) (c .before .before .before .enum-told .given .1)
-          (c .before .before .before .before .before .as-array .ensures)) (told-no-pair
+          (c .before .before .before .before .before .as-elements .ensures)) (told-no-pair
           (entry .args .types .now) (entry .args .place) (c .enum-told2 .given .1)
           (c .before .before .as-pair .ensures)))),
       omega arith,
@@ -182,7 +183,7 @@ count-summands-returns-4 t c =
 
 pub +count-summands-spec : {M : Type 1} → statement M
 +count-summands-spec = close μ-count-summands λ t. count-summands-lts.spec (count-summands-calls t)
-    (count-summands-at t) count-summands.Post (count-summands-as-array-requires t) (λ c. search needs) (λ c. search needs)
+    (count-summands-at t) count-summands.Post (count-summands-as-elements-requires t) (λ c. search needs) (λ c. search needs)
     (count-summands-count-summands-requires t) (count-summands-add-result t) (count-summands-returns t) (λ c. search needs)
     (count-summands-as-pair-requires t) (λ c. search needs) (λ c. search needs) (count-summands-returns-2 t)
     (count-summands-is-second-requires t) (λ c. search needs) (count-summands-count-summands-requires-2 t)

@@ -5,16 +5,17 @@ use mathlib.Core.Path.{sym, _∙_}
 use Prim.Native.Nat.{ℕ, _<_}
 use borrow.Fn.Kinds.{In}
 use borrow.Fn.PlainCycle.{Measures, is, falls, and}
-use Rattle.emission.specs.Laws.Offsets.{is-number, summands-number, summands-array, summands-second, summands-first, put-none}
+use Rattle.emission.specs.Laws.Offsets.{summands-number, summands-elements, summands-second, summands-first, put-none}
 use Rattle.emission.specs.Laws.Offsets.{put-same, put-index, put-part}
-use Rattle.type_table.specs.Laws.{sound-below, told-array, told-no-array, told-pair, told-no-pair}
+use Rattle.emission.specs.Laws.Elements.{is-number, told-elements, told-no-elements}
+use Rattle.type_table.specs.Laws.{sound-below, told-pair, told-no-pair}
 use Rattle.emission.proofs.offsets.put_summands.Reads as put-summands
 use Rattle.emission.proofs.offsets.put_summands.Kinds as put-summands-kinds
 use Rattle.emission.proofs.offsets.+put_summands.Lts-put_summands as put-summands-lts
 use Rattle.emission.proofs.offsets.put_cells.Reads as put-cells-reads
 use Rattle.emission.proofs.paths.is_second.Reads as is-second-reads
 use Rattle.emission.proofs.paths.put_index.Reads as put-index-reads
-use Rattle.type_table.proofs.as_array.Reads as as-array-reads
+use Rattle.emission.proofs.elements.as_elements.Reads as as-elements-reads
 use Rattle.type_table.proofs.as_pair.Reads as as-pair-reads
 use Rattle.emission.proofs.offsets.+put_summands.{statement}
 use Rattle.emission.proofs.offsets.+put_summands.Tie.{close}
@@ -37,8 +38,8 @@ put-summands-below t =
 -- what the callees of `put_summands` ask, and what they promise
 abbrev put-summands-calls : ℕ → put-summands-lts.Claims
 put-summands-calls t = (
-  as-array-reads.Asked,
-  as-array-reads.Learnt,
+  as-elements-reads.Asked,
+  as-elements-reads.Learnt,
   put-cells-reads.Asked,
   put-cells-reads.Learnt,
   put-index-reads.Asked,
@@ -51,9 +52,9 @@ put-summands-calls t = (
   is-second-reads.Learnt,
 )
 
-put-summands-as-array-requires :
-    (t : ℕ) → put-summands-lts.Need-as-array-requires (put-summands-calls t) (put-summands-at t) put-summands.Post
-put-summands-as-array-requires t c κs = c .before .pre .1 .0
+put-summands-as-elements-requires :
+    (t : ℕ) → put-summands-lts.Need-as-elements-requires (put-summands-calls t) (put-summands-at t) put-summands.Post
+put-summands-as-elements-requires t c κs = c .before .pre .1 .0
 
 put-summands-put-cells-requires :
     (t : ℕ) → put-summands-lts.Need-put-cells-requires (put-summands-calls t) (put-summands-at t) put-summands.Post
@@ -61,8 +62,8 @@ put-summands-put-cells-requires t c κs =
     let entry = c .before .before .before .before .before .before .before in
     sound-below (entry .pre .1 .0) (omega (
       arith,
-      told-array (entry .args .types .now) (entry .args .place)
-          (c .before .before .before .array .given .1) (c .before .before .before .before .before .as-array .ensures) .1,
+      told-elements (entry .args .types .now) (entry .args .place)
+          (c .before .before .before .elements .given .1) (c .before .before .before .before .before .as-elements .ensures) .1,
     ))
 
 put-summands-put-index-requires :
@@ -77,9 +78,9 @@ put-summands-put-summands-requires :
 put-summands-put-summands-requires t c κs =
     let entry = c .before .before .before .before .before .before .before .before .before .before .before
     .before .before in
-    let told = told-array (entry .args .types .now) (entry .args .place) (c .before .before .before .before .before .before .before .before .before .array .given .1)
+    let told = told-elements (entry .args .types .now) (entry .args .place) (c .before .before .before .before .before .before .before .before .before .elements .given .1)
     (c .before .before .before .before .before .before .before .before .before .before .before
-    .as-array .ensures) in (
+    .as-elements .ensures) in (
       omega (arith, told .1, entry .pre .0),
       (
         sound-below (entry .pre .1 .0) (omega (arith, told .1)),
@@ -92,13 +93,13 @@ put-summands-returns : (t : ℕ) → put-summands-lts.Need-returns (put-summands
 put-summands-returns t c =
     let entry = c .before .before .before .before .before .before .before .before .before .before .before
     .before .before .before in
-    let at-as-array = c .before .before .before .before .before .before .before .before .before .before .before
-    .before .as-array in
-    let at-array = c .before .before .before .before .before .before .before .before .before .before .array in
+    let at-as-elements = c .before .before .before .before .before .before .before .before .before .before .before
+    .before .as-elements in
+    let at-elements = c .before .before .before .before .before .before .before .before .before .before .elements in
     let at-put-cells = c .before .before .before .before .before .before .put-cells in
-    let told = told-array (entry .args .types .now) (entry .args .place) (at-array .given .1) (at-as-array .ensures)
+    let told = told-elements (entry .args .types .now) (entry .args .place) (at-elements .given .1) (at-as-elements .ensures)
     in
-    put-index (entry .args .counters) _ _ _ _ _ _ _ _ (summands-array _ _ (entry .args .j) _ _ (told .0))
+    put-index (entry .args .counters) _ _ _ _ _ _ _ _ (summands-elements _ _ (entry .args .j) (told .0))
     (at-put-cells .ensures) (c .before .before .before .put-index .ensures) (c .put-summands .ensures)
 
 put-summands-as-pair-requires :
@@ -108,10 +109,10 @@ put-summands-as-pair-requires t c κs = c .before .before .before .before .pre .
 put-summands-returns-2 : (t : ℕ) → put-summands-lts.Need-returns-2 (put-summands-calls t) (put-summands-at t) put-summands.Post
 put-summands-returns-2 t c =
     let entry = c .before .before .before .before .before .before .before in
-    let at-as-array = c .before .before .before .before .before .as-array in
+    let at-as-elements = c .before .before .before .before .before .as-elements in
     put-none (entry .args .counters) _ _ (summands-number _ _ (entry .args .j) (is-number _
-    (told-no-array (entry .args .types .now) (entry .args .place)
-    (c .before .before .before .enum-told .given .1) (at-as-array .ensures))
+    (told-no-elements (entry .args .types .now) (entry .args .place)
+    (c .before .before .before .enum-told .given .1) (at-as-elements .ensures))
     (told-no-pair (entry .args .types .now) (entry .args .place) (c .enum-told2 .given .1)
     (c .before .before .as-pair .ensures))))
 
@@ -191,7 +192,7 @@ put-summands-returns-4 t c =
 
 pub +put-summands-spec : {M : Type 1} → statement M
 +put-summands-spec = close μ-put-summands λ t. put-summands-lts.spec (put-summands-calls t)
-    (put-summands-at t) put-summands.Post (put-summands-as-array-requires t) (λ c. search needs)
+    (put-summands-at t) put-summands.Post (put-summands-as-elements-requires t) (λ c. search needs)
     (put-summands-put-cells-requires t) (put-summands-put-index-requires t) (λ c. search needs)
     (put-summands-put-summands-requires t) (put-summands-returns t) (λ c. search needs) (put-summands-as-pair-requires t)
     (λ c. search needs) (λ c. search needs) (put-summands-returns-2 t) (put-summands-is-second-requires t)

@@ -35,7 +35,7 @@ put-output-requires c κs =
     let pre = c .before .before .before .before .before .before .before .before .before .before .pre in
     let run-loops = c .before .before .before .before .before .run-loops in
     let ready = pre .0 in
-    let size = pass (a .kinds .now) (a .numbers .now) (length (a .store .now)) ready .outputCells .1 in
+    let size = pass (a .kinds .now) (a .numbers .now) (length (a .store .now)) ready .within .outputCells .1 in
     let run = run-loops in (
       simp (length-take, length-drop) (omega (arith, size, pre .1 .output-all)),
       run-writes (a .kinds .now) (a .numbers .now) (length (a .store .now)) ready (a .store .now) (run .last .1 .1 .1 .0) (run .last .1 .1 .1 .1 .0) (run .result)

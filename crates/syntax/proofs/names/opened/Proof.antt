@@ -1,9 +1,10 @@
 -- `syntax::names::opened` meets its contract: at each word that opens names the definition computes to the same names, and no other word
 -- opens any.
-use mathlib.Core.Path.{sym, _∙_}
+use mathlib.Core.Path.{sym, ap, _∙_}
+use Prim.Native.Nat.{ℕ, _+_}
 use borrow.Author.Needs.{needs}
 use Rattle.words.specs.Groups.{oneOf}
-use Rattle.syntax.specs.Names.{openedBy}
+use Rattle.syntax.specs.Names.{names, openedBy}
 use Rattle.syntax.proofs.Words.{opened-map, opened-loop, opened-head, opened-none}
 use Rattle.syntax.proofs.names.opened.Statement.{statement}
 use Rattle.syntax.proofs.names.opened.Tie as tie
@@ -15,10 +16,13 @@ returns c =
 
 returns-2 : tie.Need-returns-2
 returns-2 c =
-    let is-map = c .before .before .before .before .is-map in
-    let is-loop = c .before .before .is-loop in
+    let entry = c .before .before .before .before .before .before in
+    let s = entry .args .names in
+    let is-map = c .before .before .before .before .before .is-map in
+    let is-loop = c .before .before .before .is-loop in
     c .in-force2 .ensures
-    ∙ opened-loop _ _ _ (sym (is-map .ensures) ∙ c .before .before .before .if1 .left) (sym (is-loop .ensures) ∙ c .before .if2 .taken)
+    ∙ ap (λ (l : ℕ). names (s .inputs) (s .variables) (s .counters + 1) (s .regions) l) (c .before .lanes-with .ensures)
+    ∙ opened-loop _ _ _ (sym (is-map .ensures) ∙ c .before .before .before .before .if1 .left) (sym (is-loop .ensures) ∙ c .before .before .if2 .taken)
 
 returns-3 : tie.Need-returns-3
 returns-3 c = c .in-force3 .ensures ∙ opened-head _ _ _ (c .before .match .keys1)
@@ -43,5 +47,5 @@ pub opened-spec : {M : Type 1} → statement M
 opened-spec =
     tie.close
     (tie.spec (λ c κs. search needs) (λ c. search needs) (λ c κs. search needs) returns (λ c κs. search needs) (λ c. search needs)
-    (λ c κs. search needs) returns-2 (λ c κs. search needs) (λ c. search needs) (λ c κs. search needs) (λ c. search needs)
-    (λ c κs. search needs) returns-3 returns-4 returns-5 returns-6)
+    (λ c κs. search needs) (λ c κs. search needs) returns-2 (λ c κs. search needs) (λ c. search needs) (λ c κs. search needs)
+    (λ c. search needs) (λ c κs. search needs) returns-3 returns-4 returns-5 returns-6)

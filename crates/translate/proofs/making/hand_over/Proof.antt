@@ -9,12 +9,12 @@ use Rattle.translate.proofs.making.hand_over.Tie as tie
 returns : tie.Need-returns
 returns c =
     let a = c .before .before .before .before .before .args in
-    let ask-writes = c .before .before .ask-writes in
-    refused-into (rowsOf (a .kinds .now) (a .numbers .now)) (a .lentkinds .now) (a .lentnumbers .now) (ask-writes .ensures) (c .enum-told2 .given .1)
+    let ask-made = c .before .before .ask-made in
+    refused-into (rowsOf (a .kinds .now) (a .numbers .now)) (a .lentkinds .now) (a .lentnumbers .now) (ask-made .ensures) (c .enum-told2 .given .1)
 
 returns-2 : tie.Need-returns-2
 returns-2 c =
-    told-into (sym (c .before .before .before .before .before .before .before .before .ask-writes .ensures) ∙ c .before .before .before .before .before .before .enum-told .given .1)
+    told-into (sym (c .before .before .before .before .before .before .before .before .ask-made .ensures) ∙ c .before .before .before .before .before .before .enum-told .given .1)
     refl (c .before .before .before .hand-over .ensures)
 
 pub hand-over-spec : {M : Type 1} → statement M

@@ -5,6 +5,7 @@ use borrow.Author.Needs.{needs}
 use Rattle.type_rules.proofs.RuleLaws.{join-no, join-flat, join-yes}
 use Rattle.type_rules.proofs.Found.{found-no, found-as, array-bounds, product-bounds}
 use Rattle.type_table.specs.Laws.{sound-below, told-array, told-no-array}
+use Rattle.meaning.specs.Types.{Series}
 use Rattle.type_rules.proofs.rules.join.Statement.{statement}
 use Rattle.type_rules.proofs.rules.join.Tie as tie
 
@@ -14,7 +15,7 @@ as-array-requires c κs = sound-below (c .before .before .pre .0 .sound) (omega 
 returns : tie.Need-returns
 returns c =
     let entry = c .before .before .before .before .before .before in
-    found-no _ _ _ _ _ _ (c .misfit .ensures) (join-no (entry .args .line) _ (told-no-array
+    found-no _ _ _ _ _ _ (c .misfit .ensures) (join-no (entry .args .line) _ Series.arrays (told-no-array
     (entry .args .types .now) (entry .args .place) (c .before .enum-told .given .1)
     (c .before .before .before .as-array .ensures)))
 

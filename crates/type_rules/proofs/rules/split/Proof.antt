@@ -9,7 +9,7 @@ use Rattle.type_rules.proofs.Found.{quotient-bounds, room-less, room-gr
 use Rattle.typing.specs.Check.{sized}
 use Rattle.type_table.specs.Table.{typeAt}
 use Rattle.type_table.specs.Laws.{sound-below, told-array, told-no-array}
-use Rattle.meaning.specs.Types.{DataType, array}
+use Rattle.meaning.specs.Types.{DataType, Series, array}
 use Rattle.type_rules.proofs.rules.split.Statement.{statement}
 use Rattle.type_rules.proofs.rules.split.Tie as tie
 
@@ -19,14 +19,14 @@ as-array-requires c κs = sound-below (c .before .before .pre .0 .sound) (omega 
 returns : tie.Need-returns
 returns c =
     let entry = c .before .before .before .before .before .before in
-    found-no _ _ _ _ _ _ (c .misfit .ensures) (split-no (entry .args .line) _ (entry .args .n)
+    found-no _ _ _ _ _ _ (c .misfit .ensures) (split-no (entry .args .line) _ Series.arrays (entry .args .n)
     (told-no-array (entry .args .types .now) (entry .args .place) (c .before .enum-told .given .1)
     (c .before .before .before .as-array .ensures)))
 
 returns-2 : tie.Need-returns-2
 returns-2 c =
     let entry = c .before .before .before .before .before .before .before .before in
-    found-no _ _ _ _ _ _ (c .misfit2 .ensures) (split-rest (entry .args .line) _ (entry .args .n) _ _
+    found-no _ _ _ _ _ _ (c .misfit2 .ensures) (split-rest (entry .args .line) _ Series.arrays (entry .args .n) _ _
     (told-array (entry .args .types .now) (entry .args .place) (c .before .before .before .shape .given .1)
     (c .before .before .before .before .before .as-array .ensures) .0) (c .before .if1 .taken))
 
