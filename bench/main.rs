@@ -1,8 +1,8 @@
-// The run of the static library beside a plain interpreter in Rust, on the loops of six plans of five to ten million writes: nanoseconds for
-// each write, the least of several turns. Then the check of the longest plan, in the built-in words and in German: microseconds for each check.
-// Then the longest loops, read into a table, and the longest texts, read and refused, with words that stand early and late in the table of
-// words: microseconds for each. Then what a check and a run cost beside the writes (fixed.rs). Last the doors beside the second implementation
-// (doors.rs).
+// The run of the static library beside a plain interpreter in Rust, on the loops of seven plans of five to ten million writes: the cells that
+// they need, and nanoseconds for each write, the least of several turns. Two of the plans do one job, in numbers and in vectors. Then the check
+// of the longest plan, in the built-in words and in German: microseconds for each check. Then the longest loops, read into a table, and the
+// longest texts, read and refused, with words that stand early and late in the table of words: microseconds for each. Then what a check and a
+// run cost beside the writes (fixed.rs). Last the doors beside the second implementation (doors.rs).
 use std::time::Instant;
 
 mod doors;
@@ -33,14 +33,18 @@ const ROWS: usize = 4096;
 
 const GERMAN: &str = include_str!("../examples/german.words");
 
-const PLANS: [(&str, &str); 6] = [
+const PLANS: [(&str, &str); 7] = [
     ("dot product", include_str!("dot.plan")),
     ("sums", include_str!("sums.plan")),
     ("used maps", include_str!("maps.plan")),
+    ("used maps in vectors", include_str!("maps_in_vectors.plan")),
     ("zipped and regrouped", include_str!("regrouped.plan")),
     ("matrix product", include_str!("matrix.plan")),
     ("shares", include_str!("shares.plan")),
 ];
+
+// The plans that do one job.
+const JOB: [&str; 2] = ["used maps", "used maps in vectors"];
 
 // This thread's time on a processor, in nanoseconds; where the system does not tell it, the time that has passed.
 fn clock(begin: Instant) -> f64 {
@@ -97,7 +101,7 @@ fn longest_loops() -> String {
     format!("loops,0\ncells,4096\nset,0\nout,0\nlit,4095\n{value}")
 }
 
-// Loops of as many rows: one `set`, whose offset is made of words that stand last in the table. It is 0, whatever they do to it.
+// Loops of as many rows: one `set`, whose offset is made of the words that stand last of those of offsets. It is 0, whatever they do to it.
 fn last_words() -> String {
     let offset: String = ["times,4096\n", "over,4096\n", "rest,4096\n"].into_iter().cycle().take(ROWS - 6).collect();
     format!("loops,0\ncells,4096\nset,0\nout,0\n{offset}lit,0\nlit,-2147483648\n")
@@ -132,13 +136,14 @@ fn reads(begin: Instant) {
 
 fn main() {
     let begin = Instant::now();
-    println!("{:22} {:>10} {:>8} {:>8} {:>6}", "plan", "writes", "ours", "plain", "ratio");
+    println!("{:22} {:>10} {:>10} {:>8} {:>8} {:>6}", "plan", "writes", "need", "ours", "plain", "ratio");
+    let mut outputs = Vec::new();
     for (name, plan) in PLANS {
         let text = loops_of(plan);
         let loops = interpreter::read(&text);
         let need = unsafe { vazhdumir_need(text.as_ptr(), text.len()) } as usize;
         let start: Vec<i32> = (0..need).map(|i| i as i32 % 13 - 6).collect();
-        let (mut ours, mut beside, mut writes) = (f64::MAX, f64::MAX, 0);
+        let (mut ours, mut beside, mut writes, mut output) = (f64::MAX, f64::MAX, 0, Vec::new());
         for _ in 0..TURNS {
             let (mut plain, mut bytes) = (start.clone(), start.iter().flat_map(|c| c.to_le_bytes()).collect::<Vec<u8>>());
             let before = clock(begin);
@@ -150,9 +155,14 @@ fn main() {
             beside = beside.min((after - between) / writes as f64);
             let left: Vec<i32> = bytes.chunks_exact(4).map(|b| i32::from_le_bytes(b.try_into().unwrap())).collect();
             assert_eq!(left, plain);
+            output = plain[loops.inputs.iter().sum()..][..loops.output].to_vec();
         }
-        println!("{name:22} {writes:>10} {ours:>8.1} {beside:>8.1} {:>6.2}", ours / beside);
+        if JOB.contains(&name) {
+            outputs.push(output);
+        }
+        println!("{name:22} {writes:>10} {need:>10} {ours:>8.1} {beside:>8.1} {:>6.2}", ours / beside);
     }
+    assert!(outputs.len() == 2 && outputs[0] == outputs[1], "one job, but not one output: {JOB:?}");
     checks(begin);
     reads(begin);
     fixed::print();

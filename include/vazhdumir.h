@@ -31,7 +31,7 @@
  * Machine. The library is for x86-64, where size_t has 64 bits; of the C library it uses memset alone. Nothing is allocated.
  *
  * Stack. An entry uses the caller's. On x86-64 a check of loops takes 104 KiB and a run 280, however many lines there are, and more only where rows
- * nest in an operand that is not its row's last: the walk of questions 4 to 6 calls itself for such operands, some 272 bytes a level. So chains of
+ * nest in an operand that is not its row's last: the walk of questions 4 to 6 calls itself for such operands, some 288 bytes a level. So chains of
  * `neg`, of `times` and of `seq` to the right take no more; 817 `seq` to the left, the deepest commands, run on 512 KiB, and some 2,045 `add` or `plus` to
  * the left, the deepest of all loops within the limits, on 864 KiB. The deepest plan, a chain of `neg`, is checked and translated on 512 KiB.
  *

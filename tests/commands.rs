@@ -96,7 +96,7 @@ impl Grower {
             }
             3 | 4 => {
                 let word = *self.numbers.one_of(&["for", "par", "par", "lanes"]);
-                let rounds = if word == "lanes" { *self.numbers.one_of(&[2, 2, 4, 8]) } else { 1 + self.numbers.below(4) };
+                let rounds = if word == "lanes" { *self.numbers.one_of(&[2, 2, 2, 4, 4, 8, 16]) } else { 1 + self.numbers.below(4) };
                 self.put(word, rounds);
                 self.counters += 1;
                 self.command(depth - 1);

@@ -14,12 +14,16 @@
 // The programs, the library and the second implementation are asked, each that can be. Commands are typed in one folder, from the
 // first page on; `target` and `examples` stand in it.
 //
+// The garage that the guide has in scalars and in vectors is run with other values too: the amperes of both plans are the same.
+//
 //   documents TARGET FILE..
 use std::path::{Path, PathBuf};
 use std::process::Command;
 
 #[allow(dead_code)]
 mod entries;
+#[allow(dead_code)]
+mod plans;
 mod process;
 #[allow(dead_code)]
 mod reference;
@@ -78,13 +82,46 @@ impl Tester {
 
     fn ran(&self, loops: &str, values: &str, shown: &str) {
         same("the run", loops, &reference::runner(loops.as_bytes(), values.as_bytes()), shown);
+        same("the runner's answer", loops, &self.run(loops, values), shown);
+    }
+
+    // What the runner prints.
+    fn run(&self, loops: &str, values: &str) -> String {
         let folder = self.folder.join("run");
         std::fs::create_dir_all(&folder).unwrap();
         std::fs::write(folder.join("loops.txt"), loops).unwrap();
         std::fs::write(folder.join("values.txt"), values).unwrap();
         let mut runner = Command::new(self.target.join("bin/runner"));
         runner.current_dir(&folder);
-        same("the runner's answer", loops, &output(runner, b""), shown);
+        output(runner, b"")
+    }
+
+    // [18.8] A plan in scalars and the same in vectors, run with the same random values: the runner prints the same `cell,number` lines for
+    // both, whatever the writes. Only the loops of the second have lanes, and the cells printed are not the same for all values.
+    fn twins(&self, scalars: &str, vectors: &str, turns: u64) -> String {
+        let [first, second] = [scalars, vectors].map(|name| {
+            let plan = std::fs::read(Path::new("examples").join(name)).unwrap();
+            output(Command::new(self.target.join("bin/translator")), &plan)
+        });
+        let has_lanes = |loops: &str| loops.lines().any(|row| row.starts_with("lanes,"));
+        assert!(!has_lanes(&first) && has_lanes(&second), "{vectors} alone has lanes");
+        let mut seen: Vec<String> = Vec::new();
+        let mut writes = Vec::new();
+        for seed in 0..turns {
+            let mut numbers = plans::Numbers::new(seed);
+            let values: String = (0..input_cells(&first)).map(|cell| format!("{cell},{}\n", numbers.below(141) as i32 - 20)).collect();
+            let [one, other] = [&first, &second].map(|loops| {
+                let printed = self.run(loops, &values);
+                let (cells, count) = printed.split_once("writes,").expect("the runner tells the writes");
+                (cells.to_string(), count.trim_end().to_string())
+            });
+            same(&format!("what {vectors} prints"), &values, &other.0, &one.0);
+            writes = vec![one.1, other.1];
+            seen.push(one.0);
+        }
+        assert!(seen.iter().any(|cells| *cells != seen[0]), "{scalars} prints the same for all values");
+        let bays = seen[0].lines().count();
+        format!("examples/{scalars} and {vectors}: the same amperes in {bays} bays for {turns} choices of values; writes {}", writes.join(" and "))
     }
 
     // The lines that each command prints; they go up to the next command.
@@ -126,6 +163,13 @@ impl Tester {
             _ => panic!("no such example: {names:?}"),
         }
     }
+}
+
+// How many cells the inputs of loops have.
+fn input_cells(loops: &str) -> usize {
+    let mut numbers = loops.lines().map(|row| row.split_once(',').unwrap().1.parse::<usize>().unwrap());
+    let inputs = numbers.next().unwrap();
+    numbers.take(inputs).sum()
 }
 
 // Loops read into a table of so many rows.
@@ -182,11 +226,13 @@ fn main() {
             assert!(missing.is_empty(), "{file} has no value for {missing:?}");
         }
     }
-    for (page, name) in [("README.md", "garage.plan"), ("docs/GUIDE.md", "german.words")] {
+    let guide = ["german.words", "estate.plan", "estate.vectors.plan"].map(|name| ("docs/GUIDE.md", name));
+    for (page, name) in [("README.md", "garage.plan")].into_iter().chain(guide) {
         let shown = std::fs::read_to_string(tester.folder.join(name)).unwrap();
         same("the file shown", page, &shown, &std::fs::read_to_string(Path::new("examples").join(name)).unwrap());
         println!("{page} has the lines of examples/{name}");
     }
+    println!("{}", tester.twins("estate.plan", "estate.vectors.plan", 50));
     assert!(!tester.folder.join("words.txt").exists(), "the last page leaves a words file behind");
     std::fs::remove_dir_all(&tester.folder).unwrap();
     println!("{checked} examples of the documents hold");

@@ -331,8 +331,13 @@ fn searched(answer: String) -> String {
     match answer.parse::<i64>() {
         Err(_) => answer,
         Ok(number) if number >= 65536 => format!("row {}, compared {}", number - 65536 - 1, number - 65536),
-        Ok(number) => format!("none, compared {number}"),
+        Ok(number) => all_compared(format!("none, compared {number}")),
     }
+}
+
+// [17.2] `all` for as many rows as the table has, where the word is not listed.
+fn all_compared(answer: String) -> String {
+    if answer == format!("none, compared {}", reference::WORDS.len()) { "none, compared all".into() } else { answer }
 }
 
 // A word, searched for among the own words, or by both entries among the built-in ones.
@@ -462,7 +467,8 @@ fn second(example: &Example) -> String {
         "check" => reply(&[of]),
         "read" => reply(&["read", &given("lent rows")]),
         "translate" if example.given("lent rows").is_some() => reply(&["tr", &given("lent rows"), &given("lent bytes")]),
-        "translate" | "count" | "need" | "look up" => reply(&[asked]),
+        "translate" | "count" | "need" => reply(&[asked]),
+        "look up" => all_compared(reply(&[asked])),
         "command" => command(&reply(&["translate"])),
         "value" => reply(&["value", &given("inputs")]),
         "run" => ran(example, |loops, order, store| reference::run_text_in(words, loops, order, store)),

@@ -19,6 +19,7 @@ mod wording;
 
 use plans::Numbers;
 use process::output;
+use reference::WORDS;
 use Found::{Absent, Folder, Link, Text};
 
 // What stands under a file's name.
@@ -116,8 +117,9 @@ impl Runner {
         self.pairs(&loops, &values);
     }
 
-    // Random loops, some damaged, beside values that are whole or damaged.
-    fn random(&mut self, count: u64) {
+    // Random loops, some damaged, beside values that are whole or damaged. How many of those that were run have lanes.
+    fn random(&mut self, count: u64) -> u64 {
+        let mut lanes = plans::Share::of_lanes();
         for seed in 0..count {
             let mut numbers = Numbers::new(seed ^ 0x7777);
             let made = reference::reply(&["translate".into()], &plans::plan(seed)).into_bytes();
@@ -128,9 +130,13 @@ impl Runner {
             let values = Text(if cells == 0 { b"junk".to_vec() } else { lines.into_bytes() });
             let broken = Text(if cells == 0 { Vec::new() } else { plans::damage(values.text(), &mut numbers) });
             let damaged = Text(plans::damage(&whole, &mut numbers));
+            if reference::writes(&whole).parse::<u64>().is_ok() {
+                lanes.take(&whole);
+            }
             self.pairs(&[Text(whole)], &[values.clone(), broken]);
             self.compare(&damaged, &values);
         }
+        lanes.count()
     }
 }
 
@@ -197,8 +203,9 @@ impl Worded {
     // printed, whatever stands beside it ([16.6]).
     fn named(&mut self) {
         let lines = |list: &str| list.split(' ').map(|line| format!("{line}\n")).collect::<String>().into_bytes();
-        let plan = lines("plan,1 num,0 add,0 in,0 lit,1");
-        let loops = lines("loops,1 cells,1 cells,1 set,0 out,0 lit,0 add,0 in,0 lit,0 lit,1");
+        let plan = lines("plan,2 num,0 vec,2 mapvec,0 in,1 add,0 var,0 in,0");
+        let loops = lines("loops,2 cells,1 cells,2 cells,2 lanes,2 set,0 out,0 times,1 ctr,0 add,0 in,1 times,1 ctr,0 in,0 lit,0");
+        assert_eq!(reference::reply(&["translate".into()], &plan).into_bytes(), loops);
         for words in words_files() {
             let own = wording::own(words.text());
             let refused = reference::reply_in(words.words(), &["words".into()], &[]).replace("ok\n", "");
@@ -208,7 +215,7 @@ impl Worded {
             }
             let texts = [Text(loops.clone()), Text(wording::worded(&loops, &own)), Text(lines("loops,0")), Absent, Folder];
             for text in texts {
-                for values in [Text(lines("0,41")), Text(lines("x")), Absent] {
+                for values in [Text(lines("0,41 1,7 2,-7")), Text(lines("x")), Absent] {
                     printed.push(self.run(&words, &text, &values));
                 }
             }
@@ -238,10 +245,13 @@ impl Worded {
 // [16.8] What may stand under the name words.txt, about as long as it may be ([13.18]) and longer.
 fn words_files() -> Vec<Found> {
     let built_in = wording::text(&wording::built_in());
-    let mut own: wording::Own = (0..44).map(|kind| [&[b'z', b'a' + kind % 26, b'a' + kind / 26], &b"zzzzz"[..]].concat()).collect();
-    own[6].truncate(3);
-    let longest = wording::text(&own);
-    assert_eq!(longest.len(), 598);
+    let long = |kind: usize| {
+        let mut word = [b'z', b'a' + kind as u8 % 26, b'a' + kind as u8 / 26].to_vec();
+        word.resize(wording::most(kind), b'z');
+        word
+    };
+    let longest = wording::text(&(0..WORDS.len()).map(long).collect());
+    assert_eq!(longest.len(), wording::LONGEST);
     let german = std::fs::read("examples/german.words").unwrap();
     let mut files = vec![Absent, Link, Text(built_in.clone()), Text(longest.clone()), Text(german.clone()), Folder, Text(Vec::new())];
     let change = |from: &str, to: &str| {
@@ -250,15 +260,14 @@ fn words_files() -> Vec<Found> {
         Text(text.replace(from, to).bytes().collect())
     };
     let behind = |text: &[u8], more: &[u8]| Text([text, more].concat());
+    // The last line left out, or with another end.
+    let last = String::from_utf8(german.clone()).unwrap().lines().last().unwrap().to_string();
+    for to in [String::new(), last.clone(), format!("{last}\r\n"), "plan,other\n".into(), format!("{last}\n\n"), format!("{last}\nplan,other\n")] {
+        files.push(change(&format!("{last}\n"), &to));
+    }
     // Each mistake in how the lines are written, and two own words alike.
     for (from, to) in [
         ("num,zahl\narr,reihe\n", "arr,reihe\nnum,zahl\n"),
-        ("lanes,spuren\n", ""),
-        ("lanes,spuren\n", "lanes,spuren"),
-        ("lanes,spuren\n", "lanes,spuren\r\n"),
-        ("lanes,spuren\n", "plan,other\n"),
-        ("lanes,spuren\n", "lanes,spuren\n\n"),
-        ("lanes,spuren\n", "lanes,spuren\nplan,other\n"),
         ("num,zahl", "num, zahl"),
         ("num,zahl", "num,zahl "),
         ("num,zahl", " num,zahl"),
@@ -279,8 +288,15 @@ fn words_files() -> Vec<Found> {
     ] {
         files.push(change(from, to));
     }
-    files.extend([599, 607, 608, 609, 610, 1216, 4096, 70000].map(|size| behind(&longest, &vec![b'a'; size - longest.len()])));
-    files.extend([599, 608, 609].map(|size| behind(&longest, &vec![b'\n'; size - longest.len()])));
+    // As many bytes as there would be if each line had sixteen, and about as many.
+    let sixteens = 16 * WORDS.len();
+    let sizes = [longest.len() + 1, sixteens - 1, sixteens, sixteens + 1, 2 * sixteens, 4096, 70000];
+    files.extend(sizes.map(|size| behind(&longest, &vec![b'a'; size - longest.len()])));
+    files.extend([longest.len() + 1, sixteens, sixteens + 1].map(|size| behind(&longest, &vec![b'\n'; size - longest.len()])));
+    // [16.1] One from before there were vectors.
+    let lines = String::from_utf8(german.clone()).unwrap();
+    let before: String = lines.split_inclusive('\n').take_while(|line| !line.starts_with("vec,")).collect();
+    files.push(Text(before.into_bytes()));
     files.push(behind(&built_in, &built_in));
     files.push(behind(&german, &[0]));
     files
@@ -316,13 +332,14 @@ fn main() {
     let program = Path::new(&args[2]).canonicalize().unwrap();
     let mut runner = Runner { program, folder: folder.clone(), files: 0, refused: [BTreeMap::new(), BTreeMap::new()] };
     runner.named();
-    runner.random(args[3].parse().unwrap());
+    let lanes = runner.random(args[3].parse().unwrap());
     std::fs::remove_dir_all(&runner.folder).unwrap();
     let [loops, values] = &runner.refused;
     assert!([1, 2, 15].iter().all(|n| values.contains_key(n)), "{values:?}");
+    assert!(loops.contains_key(&18), "{loops:?}");
     println!(
         "{} pairs of files, some absent, folders or links to nothing, answered alike by the runner and the second implementation: \
-         loops refused {}; values refused {}",
+         loops refused {}; values refused {}; {lanes} of the random loops that are accepted have lanes",
         runner.files,
         counts(loops),
         counts(values)

@@ -1,6 +1,7 @@
 // Loops that the library makes from a plan, as rows, and its forward run of them.
 use crate::entries;
 use crate::plans::Numbers;
+use crate::reference::WORDS;
 use crate::stepper::{unfold, Layout, Unfolded};
 
 pub struct Made {
@@ -27,6 +28,11 @@ pub fn made(words: Option<&[u8]>, plan: &[u8], most: u64) -> Option<Made> {
 }
 
 impl Made {
+    // Whether they have a `lanes`.
+    pub fn has_lanes(&self) -> bool {
+        self.kinds.iter().any(|kind| WORDS[*kind as usize] == "lanes")
+    }
+
     // The steps, with the regions in these places.
     pub fn unfold(&self, layout: Layout) -> Unfolded {
         let loops = unfold(&self.kinds, &self.numbers, layout);

@@ -1,5 +1,6 @@
-// Random plans of every shape, the same for the same seed: terms grown from the type that they are to have; texts damaged in
-// one place, and texts of a given size.
+// Random plans of every shape, the same for the same seed: terms grown from the type that they are to have, and terms of any types; texts
+// damaged in one place, and texts of a given size. How many of the texts that a test has taken have vectors, or lanes.
+use crate::reference::WORDS;
 
 // A generator of numbers (xorshift with a multiplier).
 pub struct Numbers(u64);
@@ -49,14 +50,15 @@ impl Grower {
         *self.numbers.one_of(&[1, 1, 2, 2, 3, 4, 6])
     }
 
+    // [13.19] A width, mostly a small one.
     fn a_width(&mut self) -> u64 {
-        *self.numbers.one_of(&[2, 2, 4])
+        *self.numbers.one_of(&[2, 2, 2, 4, 4, 8, 16])
     }
 
     fn a_type(&mut self, depth: u64) -> Type {
-        match self.numbers.below(if depth == 0 { 1 } else { 5 }) {
+        match self.numbers.below(if depth == 0 { 1 } else { 6 }) {
             0 => Type::Number,
-            4 => Type::Vector(self.a_width()),
+            5 => Type::Vector(self.a_width()),
             1 => {
                 let (first, second) = (self.a_type(depth - 1), self.a_type(depth - 1));
                 Type::Pair(Box::new(first), Box::new(second))
@@ -126,14 +128,14 @@ impl Grower {
         }
     }
 
-    // The first vector of this width, 2 or 4, of the twelve numbers of input 0.
+    // The first vector of the 48 numbers of input 0, which every width divides.
     fn first_vector(&mut self, w: u64) {
         self.put("idx", 0);
         self.put("asvec", w);
         self.put("in", 0);
     }
 
-    // A vector: a map of the lanes of another, or one of the vectors of an array of numbers.
+    // A vector: a map over the lanes of another, or one of the vectors of an array of numbers.
     fn made_vector(&mut self, w: u64, budget: u64) {
         match self.numbers.below(3) {
             0 | 1 if self.variables.len() < 15 => {
@@ -173,11 +175,11 @@ impl Grower {
         self.variables.pop();
     }
 
-    // The first n numbers of input 0 or 1, which have 12 and 60: refused where n divides neither.
+    // The first n numbers of input 0 or 1, which have 48 and 60: refused where n divides neither.
     fn first_group(&mut self, n: u64) {
         self.put("idx", 0);
         self.put("split", n);
-        self.put("in", if 12 % n == 0 { 0 } else { 1 });
+        self.put("in", if 48 % n == 0 { 0 } else { 1 });
     }
 
     fn term(&mut self, t: &Type, budget: u64) {
@@ -187,12 +189,6 @@ impl Grower {
         let rest = budget - 1;
         match self.numbers.below(10) {
             0 => self.leaf(t),
-            4 if *t == Type::Number => {
-                let width = self.a_width();
-                let k = self.numbers.below(width);
-                self.put("at", k);
-                self.term(&Type::Vector(width), rest);
-            }
             1 => {
                 let other = self.a_type(1);
                 let first = self.numbers.below(2) == 0;
@@ -211,6 +207,12 @@ impl Grower {
                 self.term(&Type::Array(length, Box::new(t.clone())), rest);
             }
             3 if self.variables.len() < 14 => self.reduction(t, rest),
+            4 if *t == Type::Number => {
+                let width = self.a_width();
+                let k = self.numbers.below(width);
+                self.put("at", k);
+                self.term(&Type::Vector(width), rest);
+            }
             _ => self.made(t, rest),
         }
     }
@@ -263,8 +265,9 @@ impl Grower {
                 self.put("asvec", *w);
                 self.term(&Type::Array(n * w, Box::new(Type::Number)), budget);
             }
-            (3, Type::Number) if n % 2 == 0 => {
-                let width = if n % 4 == 0 { self.a_width() } else { 2 };
+            (1, Type::Number) if n % 2 == 0 => {
+                let width = self.a_width();
+                let width = if n % width == 0 { width } else { 2 };
                 self.put("asscal", 0);
                 self.term(&Type::Array(n / width, Box::new(Type::Vector(width))), budget);
             }
@@ -281,6 +284,53 @@ impl Grower {
     }
 }
 
+// ---- terms of any types
+
+// Words with several operands: how many, and the variables that are bound in the last.
+const SEVERAL: [(&str, usize, usize); 7] =
+    [("zip", 2, 0), ("pair", 2, 0), ("add", 2, 0), ("mappar", 2, 1), ("mapseq", 2, 1), ("mapvec", 2, 1), ("redseq", 3, 2)];
+
+impl Grower {
+    fn any_name(&mut self) {
+        match self.numbers.below(3) {
+            0 if !self.variables.is_empty() => {
+                let variable = self.numbers.below(self.variables.len() as u64);
+                self.put("var", variable);
+            }
+            1 => self.put("lit", 7),
+            _ => {
+                let input = self.numbers.below(self.inputs.len() as u64);
+                self.put("in", input);
+            }
+        }
+    }
+
+    // Every row is due and its number one that the word may have; whether the types fit is left to chance.
+    fn any_term(&mut self, depth: u64) {
+        let choice = if depth == 0 || self.variables.len() > 14 { 15 } else { self.numbers.below(16) as usize };
+        match choice {
+            0..=6 => {
+                let (word, operands, bound) = SEVERAL[choice];
+                self.put(word, 0);
+                (1..operands).for_each(|_| self.any_term(depth - 1));
+                let before = self.variables.len();
+                self.variables.resize(before + bound, Type::Number);
+                self.any_term(depth - 1);
+                self.variables.truncate(before);
+            }
+            7..=13 => {
+                let (length, width, lane) = (self.a_length(), self.a_width(), *self.numbers.one_of(&[0, 1, 2, 3, 4, 15]));
+                let ones =
+                    [("neg", 0), ("split", length), ("join", 0), ("idx", length - 1), ("asvec", width), ("asscal", 0), ("at", lane)];
+                let (word, number) = ones[choice - 7];
+                self.put(word, number);
+                self.any_term(depth - 1);
+            }
+            _ => self.any_name(),
+        }
+    }
+}
+
 pub fn text(rows: &[(&'static str, i64)]) -> Vec<u8> {
     rows.iter().map(|(word, number)| format!("{word},{number}\n")).collect::<String>().into_bytes()
 }
@@ -288,7 +338,7 @@ pub fn text(rows: &[(&'static str, i64)]) -> Vec<u8> {
 // A plan's text; most are accepted, some are refused by their size or for a `lanes` inside another.
 pub fn plan(seed: u64) -> Vec<u8> {
     let mut g = Grower { numbers: Numbers::new(seed), inputs: Vec::new(), variables: Vec::new(), rows: Vec::new() };
-    g.inputs = vec![Type::Array(12, Box::new(Type::Number)), Type::Array(60, Box::new(Type::Number))];
+    g.inputs = vec![Type::Array(48, Box::new(Type::Number)), Type::Array(60, Box::new(Type::Number))];
     for _ in 0..g.numbers.below(4) {
         let input = g.a_type(3);
         g.inputs.push(input);
@@ -307,11 +357,26 @@ pub fn damaged(seed: u64) -> Vec<u8> {
     damage(&plan(seed), &mut Numbers::new(seed ^ 0x5555))
 }
 
-// A text damaged in one place: a line lost, doubled or exchanged, a number or a byte changed.
+// A plan's text of any types; most are refused by 7.
+pub fn untyped(seed: u64) -> Vec<u8> {
+    let mut g = Grower { numbers: Numbers::new(seed ^ 0x7777), inputs: Vec::new(), variables: Vec::new(), rows: Vec::new() };
+    g.inputs = vec![Type::Array(16, Box::new(Type::Number)), Type::Vector(4), Type::Array(2, Box::new(Type::Vector(2)))];
+    let more = g.a_type(2);
+    g.inputs.push(more);
+    g.put("plan", g.inputs.len() as u64);
+    for input in g.inputs.clone() {
+        g.spell(&input);
+    }
+    let depth = 1 + g.numbers.below(5);
+    g.any_term(depth);
+    text(&g.rows)
+}
+
+// A text damaged in one place: a line lost, doubled or exchanged, a number, a word or a byte changed.
 pub fn damage(whole: &[u8], numbers: &mut Numbers) -> Vec<u8> {
     let mut lines: Vec<Vec<u8>> = whole.split_inclusive(|b| *b == 10).map(|l| l.to_vec()).collect();
     let at = numbers.below(lines.len() as u64) as usize;
-    match numbers.below(5) {
+    match numbers.below(6) {
         0 => drop(lines.remove(at)),
         1 => lines.insert(at, lines[at].clone()),
         2 => {
@@ -321,8 +386,13 @@ pub fn damage(whole: &[u8], numbers: &mut Numbers) -> Vec<u8> {
         3 => {
             let comma = lines[at].iter().position(|b| *b == b',').unwrap();
             lines[at].truncate(comma + 1);
-            let number = *numbers.one_of(&["0", "1", "2", "3", "5", "-1", "4096", "4097", "-0", "01", "2147483648"]);
+            let number = *numbers.one_of(&["0", "1", "2", "3", "4", "5", "8", "15", "16", "32", "-1", "4096", "4097", "-0", "01", "2147483648"]);
             lines[at].extend(number.bytes().chain([10]));
+        }
+        4 => {
+            let comma = lines[at].iter().position(|b| *b == b',').unwrap();
+            let word = other_word(&lines[at][..comma], numbers);
+            lines[at].splice(..comma, word.bytes());
         }
         _ => {
             let byte = numbers.below(lines[at].len() as u64) as usize;
@@ -332,6 +402,19 @@ pub fn damage(whole: &[u8], numbers: &mut Numbers) -> Vec<u8> {
     lines.concat()
 }
 
+// Two words each: what the one is for arrays, the other is for vectors.
+const TWINS: [(&str, &str); 6] =
+    [("arr", "vec"), ("split", "asvec"), ("join", "asscal"), ("mappar", "mapvec"), ("idx", "at"), ("par", "lanes")];
+
+// A word in place of this one: mostly that of arrays for that of vectors, or the other way about; else any.
+fn other_word(word: &[u8], numbers: &mut Numbers) -> &'static str {
+    let mut twins = TWINS.iter().flat_map(|(one, other)| [(*one, *other), (*other, *one)]);
+    match twins.find(|(one, _)| one.as_bytes() == word) {
+        Some((_, other)) if numbers.below(4) > 0 => other,
+        _ => *numbers.one_of(&WORDS),
+    }
+}
+
 // A text of so many bytes: copies of a line, the last of them with zeros behind its number.
 pub fn filled(size: usize, line: &str) -> Vec<u8> {
     let mut text = line.repeat(size / line.len()).into_bytes();
@@ -339,4 +422,40 @@ pub fn filled(size: usize, line: &str) -> Vec<u8> {
     text.resize(size - 1, b'0');
     text.push(b'\n');
     text
+}
+
+// How many texts a test has taken, and how many of them have a row with one of some words.
+pub struct Share {
+    words: &'static [&'static str],
+    all: u64,
+    with: u64,
+}
+
+impl Share {
+    // [18.1], [18.3] Plans with vectors.
+    pub fn of_vectors() -> Share {
+        Share { words: &["vec", "asvec", "asscal", "mapvec", "at"], all: 0, with: 0 }
+    }
+
+    // [18.9] Loops with lanes.
+    pub fn of_lanes() -> Share {
+        Share { words: &["lanes"], all: 0, with: 0 }
+    }
+
+    pub fn take(&mut self, text: &[u8]) {
+        let named = |line: &[u8]| self.words.iter().any(|word| line.strip_prefix(word.as_bytes()).is_some_and(|rest| rest.starts_with(b",")));
+        self.add(text.split(|b| *b == 10).any(named));
+    }
+
+    // One text more, of which it is known.
+    pub fn add(&mut self, with: bool) {
+        self.with += with as u64;
+        self.all += 1;
+    }
+
+    // How many have such a row. One in four has to, so that no change of the texts leaves them out unseen.
+    pub fn count(&self) -> u64 {
+        assert!(self.with > 0 && 4 * self.with >= self.all, "only {} of {} texts have one of {:?}", self.with, self.all, self.words);
+        self.with
+    }
 }

@@ -88,5 +88,5 @@ fn main() {
     let questions = questions(&page);
     assert_eq!(questions.iter().map(|q| q.1).collect::<Vec<_>>(), (1..=18).collect::<Vec<_>>());
     assert_eq!(named(&header, "VAZHDUMIR_REFUSAL_"), questions);
-    println!("{} requirements; the header names their 44 kinds and 18 refusals", rules.len());
+    println!("{} requirements; the header names their {} kinds and {} refusals", rules.len(), kinds.len(), questions.len());
 }

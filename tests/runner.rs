@@ -37,7 +37,7 @@ fn main() {
     let count: u64 = args[3].parse().unwrap();
     let folder = std::env::temp_dir().join(format!("vazhdumir-runner-{}", std::process::id()));
     std::fs::create_dir_all(&folder).unwrap();
-    let mut compared = 0;
+    let (mut compared, mut vectors) = (0, plans::Share::of_vectors());
     for seed in 0..count {
         let plan = plans::plan(seed);
         let loops = output(Command::new(&args[1]), &plan);
@@ -59,7 +59,8 @@ fn main() {
             std::process::exit(1);
         }
         compared += 1;
+        vectors.take(&plan);
     }
     std::fs::remove_dir_all(&folder).unwrap();
-    println!("{compared} plans translated and run: the runner prints their value and their writes");
+    println!("{compared} plans translated and run, {} of them with vectors: the runner prints their value and their writes", vectors.count());
 }

@@ -75,7 +75,8 @@ impl Table {
     }
 
     fn random(numbers: &mut Numbers) -> Table {
-        let most = *numbers.one_of(&[256, 44, 44, 45]);
+        let words = reference::WORDS.len() as u64;
+        let most = *numbers.one_of(&[256, words, words, words + 1]);
         let mut length = || *numbers.one_of(&[0, 1, 2, 3, 5, 8, 13, 21, 40, 4096, 4097]);
         let (k, n) = (length(), length());
         let mut table = Table { kinds: Vec::new(), numbers: Vec::new() };
@@ -91,11 +92,21 @@ impl Table {
         table
     }
 
-    // One row changed: its kind or its number.
+    fn word(&self, row: usize) -> &'static str {
+        reference::WORDS[self.kinds[row] as usize]
+    }
+
+    // One row changed: its kind or its number; or a loop, if there is one, made a `lanes` of two.
     fn damage(&mut self, numbers: &mut Numbers) {
         let row = numbers.below(self.kinds.len() as u64) as usize;
-        match numbers.below(3) {
-            0 => self.kinds[row] = numbers.below(40) as u8,
+        let loops: Vec<usize> = (0..self.kinds.len()).filter(|row| self.word(*row) == "for" || self.word(*row) == "par").collect();
+        match numbers.below(4) {
+            3 if !loops.is_empty() => {
+                let row = *numbers.one_of(&loops);
+                self.kinds[row] = reference::WORDS.iter().position(|word| *word == "lanes").unwrap() as u8;
+                self.numbers[row] = 2;
+            }
+            0 => self.kinds[row] = numbers.below(reference::WORDS.len() as u64 + 2) as u8,
             1 => self.kinds[row] = numbers.below(256) as u8,
             _ => self.numbers[row] = a_number(numbers),
         }
@@ -113,7 +124,7 @@ impl Table {
 
 fn a_number(numbers: &mut Numbers) -> i32 {
     let any = numbers.next() as i32;
-    *numbers.one_of(&[0, 0, 0, 1, 1, 2, 3, 8, -1, 4095, 4096, 4097, 2147483647, -2147483648, any])
+    *numbers.one_of(&[0, 0, 0, 1, 1, 2, 3, 8, 15, 16, -1, 4095, 4096, 4097, 2147483647, -2147483648, any])
 }
 
 // Bytes to lend, with their margins.
@@ -225,8 +236,9 @@ fn null_runs(words: Option<&[u8]>, order: u32, tally: &mut Tally) {
     run(&[], &[], 0);
 }
 
-// Random loops, made and written by hand, whole and damaged, and random tables.
-fn random(count: u64, reads: &mut Tally, texts: &mut Tally, tables: &mut Tally, any: &mut Tally) {
+// Random loops, made and written by hand, whole and damaged, and random tables. How many of the loops that were run have lanes.
+fn random(count: u64, reads: &mut Tally, texts: &mut Tally, tables: &mut Tally, any: &mut Tally) -> u64 {
+    let mut lanes = plans::Share::of_lanes();
     for seed in 0..count {
         let mut numbers = Numbers::new(seed ^ 0x1234);
         let made = reference::reply(&["translate".into()], &plans::plan(seed)).into_bytes();
@@ -234,6 +246,9 @@ fn random(count: u64, reads: &mut Tally, texts: &mut Tally, tables: &mut Tally, 
             for text in [plans::damage(&whole, &mut numbers), whole] {
                 read(&text, reads);
                 run(&text, &mut numbers, texts, tables);
+                if Table::of(&text).is_some() {
+                    lanes.take(&text);
+                }
                 for _ in 0..5 {
                     let Some(mut table) = Table::of(&text) else { break };
                     table.damage(&mut numbers);
@@ -245,6 +260,7 @@ fn random(count: u64, reads: &mut Tally, texts: &mut Tally, tables: &mut Tally, 
             run_any(&Table::random(&mut numbers), &mut numbers, any);
         }
     }
+    lanes.count()
 }
 
 // [10.1], [10.3] Texts about as long as loops may be, and longer.
@@ -266,7 +282,7 @@ fn long(reads: &mut Tally, texts: &mut Tally, tables: &mut Tally) {
 
 fn main() {
     let (mut reads, mut texts, mut tables, mut any) = (Tally::new(), Tally::new(), Tally::new(), Tally::new());
-    random(std::env::args().nth(1).unwrap().parse().unwrap(), &mut reads, &mut texts, &mut tables, &mut any);
+    let lanes = random(std::env::args().nth(1).unwrap().parse().unwrap(), &mut reads, &mut texts, &mut tables, &mut any);
     long(&mut reads, &mut texts, &mut tables);
     let mut null = Tally::new();
     nulls(&mut null);
@@ -274,10 +290,13 @@ fn main() {
         let all = tally.0.values().sum::<u64>();
         println!("{all} {what} answered alike by the library and the second implementation: {}", tally.counts(due));
     };
-    print("readings of loops into lent tables, exact, longer and shorter,", &reads, &[1, 2, 3, 4, 5, 9, 12]);
-    print("runs of texts, in the orders 0 to 3 and 4294967295,", &texts, &[1, 2, 3, 4, 5, 9, 13, 14]);
+    print("readings of loops into lent tables, exact, longer and shorter,", &reads, &[1, 2, 3, 4, 5, 9, 12, 18]);
+    print("runs of texts, in the orders 0 to 3 and 4294967295,", &texts, &[1, 2, 3, 4, 5, 9, 13, 14, 18]);
     print("runs of the tables read from them", &tables, &[13, 14]);
-    print("runs of tables random or damaged in one row", &any, &[2, 3, 4, 5, 9, 13, 14]);
+    print("runs of tables random or damaged in one row", &any, &[2, 3, 4, 5, 9, 13, 14, 18]);
     print("calls with a null pointer and count 0, for each slice of each entry,", &null, &[1, 4, 12, 13, 14, 16]);
-    println!("no byte lent or beside it differs from what the second implementation leaves there: on a refusal, from what was lent");
+    println!(
+        "{lanes} of the loops that were run have lanes; no byte lent or beside it differs from what the second implementation leaves there: on a \
+         refusal, from what was lent"
+    );
 }

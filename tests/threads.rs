@@ -1,7 +1,8 @@
 // [9.14] Real threads: the rounds of a plan's outermost `par`s are dealt out to four threads, which step in whatever order the system gives
 // them, one whole `set` at a time ([9.12]); what follows a `par` waits for all of them ([9.13]), and what stands outside every `par` is done
 // by one thread. The whole store and the writes at the end are those of the library's forward run. A thread takes the rounds of a `par`
-// inside its own round at random. The plans are those of the examples, those of the bench with shorter arrays, and random ones.
+// inside its own round at random. A `lanes` is dealt out as a `par` is ([18.10]). The plans are those of the examples, those of the bench with
+// shorter arrays, and random ones.
 //
 //   threads COUNT
 use std::sync::atomic::{AtomicUsize, Ordering};
@@ -24,18 +25,24 @@ const THREADS: usize = 4;
 const TIMES: u64 = 5;
 const WRITES: u64 = 100_000;
 
-// The longest array that a plan of the bench has here.
+// The longest array that a plan of the bench has here; it is a width too.
 const LENGTH: usize = 8;
 
-const GERMAN: &[u8] = include_bytes!("../examples/german.words");
+// The plans of examples/, each with the words text that it is in, if that is not the built-in words.
+fn examples() -> Vec<(Option<Vec<u8>>, Vec<u8>)> {
+    let mut files: Vec<_> = std::fs::read_dir("examples").unwrap().map(|entry| entry.unwrap().path()).collect();
+    files.sort();
+    let named = |file: &std::path::PathBuf, end: &str| file.to_str().unwrap().ends_with(end);
+    let read = |file: &str| std::fs::read(file).unwrap();
+    let words = |file| named(file, ".german.plan").then(|| read("examples/german.words"));
+    files.iter().filter(|file| named(file, ".plan")).map(|file| (words(file), read(file.to_str().unwrap()))).collect()
+}
 
-const EXAMPLES: [(Option<&[u8]>, &str); 2] =
-    [(None, include_str!("../examples/garage.plan")), (Some(GERMAN), include_str!("../examples/garage.german.plan"))];
-
-const BENCH: [&str; 6] = [
+const BENCH: [&str; 7] = [
     include_str!("../bench/dot.plan"),
     include_str!("../bench/sums.plan"),
     include_str!("../bench/maps.plan"),
+    include_str!("../bench/maps_in_vectors.plan"),
     include_str!("../bench/regrouped.plan"),
     include_str!("../bench/matrix.plan"),
     include_str!("../bench/shares.plan"),
@@ -52,6 +59,8 @@ struct Held {
 #[derive(Default)]
 struct Seen {
     rounds: u64,
+    // Those of a `lanes` among them.
+    lanes: u64,
     steps: u64,
     // The steps that another thread made than the one before, in one visit of a `par`.
     changes: u64,
@@ -89,7 +98,7 @@ impl Run<'_> {
     }
 
     // A visit of an outermost `par`; the threads begin together.
-    fn visit(&mut self, rounds: &[Work]) {
+    fn visit(&mut self, rounds: &[Work], word: &str) {
         self.held.get_mut().unwrap().last = THREADS;
         let (run, next, begin) = (&*self, AtomicUsize::new(0), Barrier::new(THREADS));
         let part = &|thread| {
@@ -101,6 +110,7 @@ impl Run<'_> {
             threads.into_iter().map(|thread| thread.join().unwrap()).sum()
         });
         self.seen.rounds += rounds.len() as u64;
+        self.seen.lanes += if word == "lanes" { rounds.len() as u64 } else { 0 };
         // No thread of this visit stepped before its first step.
         self.seen.changes += changes - 1;
     }
@@ -110,26 +120,27 @@ impl Run<'_> {
             Work::Done => {}
             Work::Step(step) => drop(self.make(*step, THREADS)),
             Work::Sequence(parts) => parts.iter().rev().for_each(|part| self.work(part)),
-            Work::Beside(rounds) => self.visit(rounds),
+            Work::Beside(rounds, word) => self.visit(rounds, word),
         }
     }
 }
 
-// A plan of the bench, no array or group of which is longer than LENGTH.
+// A plan of the bench, no array or group of which is longer than LENGTH, and no vector wider.
 fn shorter(plan: &str) -> String {
     let row = |row: &str| match row.split_once(',') {
-        Some((word @ ("arr" | "split"), number)) => format!("{word},{}\n", number.parse::<usize>().unwrap().min(LENGTH)),
+        Some((word @ ("arr" | "split" | "asvec"), number)) => format!("{word},{}\n", number.parse::<usize>().unwrap().min(LENGTH)),
         _ => format!("{row}\n"),
     };
     plan.lines().map(row).collect()
 }
 
-// Runs a plan several times, each on another store. Nothing is done with a plan that has one mixing alone, or too many writes.
-fn run(words: Option<&[u8]>, plan: &[u8], seen: &mut Seen) -> bool {
-    let Some(made) = made::made(words, plan, WRITES) else { return false };
+// Runs a plan several times, each on another store, and tells whether it has lanes. Nothing is done with a plan that has one mixing alone, or
+// too many writes.
+fn run(words: Option<&[u8]>, plan: &[u8], seen: &mut Seen) -> Option<bool> {
+    let made = made::made(words, plan, WRITES)?;
     let loops = made.unfold(Layout::Own);
     if loops.work.count().1 == 1 {
-        return false;
+        return None;
     }
     for seed in 0..TIMES {
         let store = made.store(&mut Numbers::new(seed));
@@ -141,29 +152,34 @@ fn run(words: Option<&[u8]>, plan: &[u8], seen: &mut Seen) -> bool {
         *seen = run.seen;
         seen.steps += made.writes;
     }
-    true
+    Some(made.has_lanes())
 }
 
 fn main() {
     let count: u64 = std::env::args().nth(1).unwrap().parse().unwrap();
     let (mut plans, mut seen) = (0, Seen::default());
-    for (words, plan) in EXAMPLES {
-        assert!(run(words, plan.as_bytes(), &mut seen));
+    for (words, plan) in examples() {
+        run(words.as_deref(), &plan, &mut seen).unwrap();
         plans += 1;
     }
     for plan in BENCH {
-        assert!(run(None, shorter(plan).as_bytes(), &mut seen), "{plan}");
+        assert!(run(None, shorter(plan).as_bytes(), &mut seen).is_some(), "{plan}");
         plans += 1;
     }
-    let (mut seed, last) = (0, plans + count);
+    let (mut seed, last, mut with) = (0, plans + count, plans::Share::of_lanes());
     while plans < last {
-        plans += run(None, &plans::plan(seed), &mut seen) as u64;
+        if let Some(lanes) = run(None, &plans::plan(seed), &mut seen) {
+            with.add(lanes);
+            plans += 1;
+        }
         seed += 1;
     }
-    let Seen { rounds, steps, changes } = seen;
+    let Seen { rounds, lanes, steps, changes } = seen;
     assert!(changes > 0, "no thread stepped behind another");
+    assert!(lanes > 0, "no round of a `lanes` was dealt");
     println!(
-        "{plans} plans, {TIMES} times each, {rounds} rounds dealt to {THREADS} threads: {steps} steps, {changes} behind a step of another thread, \
-         leave the whole store and the writes of the library's forward run"
+        "{plans} plans, {} of the random ones with lanes, {TIMES} times each, {rounds} rounds dealt to {THREADS} threads, {lanes} of them of a \
+         `lanes`: {steps} steps, {changes} behind a step of another thread, leave the whole store and the writes of the library's forward run",
+        with.count()
     );
 }

@@ -4,6 +4,14 @@ use crate::reference::WORDS;
 // The word for each of WORDS, in their order.
 pub type Own = Vec<Vec<u8>>;
 
+// [13.18] The bytes of the longest words text.
+pub const LONGEST: usize = 598;
+
+// [16.2] How many letters the own word of a kind may have.
+pub fn most(kind: usize) -> usize {
+    if WORDS[kind] == "lit" { 3 } else { 8 }
+}
+
 pub fn built_in() -> Own {
     WORDS.map(|word| word.into()).to_vec()
 }

@@ -20,7 +20,8 @@ mod reference;
 mod wording;
 
 use plans::Numbers;
-use wording::Own;
+use reference::WORDS;
+use wording::{most, Own};
 
 const MARGIN: usize = 16;
 const LIT: usize = 6;
@@ -28,20 +29,19 @@ const LIT: usize = 6;
 // ---- words texts
 
 // So many letters; now and then the last or the first of the alphabet only.
-fn letters(numbers: &mut Numbers, count: u64) -> Vec<u8> {
+fn letters(numbers: &mut Numbers, count: usize) -> Vec<u8> {
     let among = *numbers.one_of(&[&b"abcdefghijklmnopqrstuvwxyz"[..], b"az"]);
     (0..count).map(|_| *numbers.one_of(among)).collect()
 }
 
-// How many letters the own word of a kind may have.
-fn most(kind: usize) -> u64 {
-    if kind == LIT { 3 } else { 8 }
+fn a_kind(numbers: &mut Numbers) -> usize {
+    numbers.below(WORDS.len() as u64) as usize
 }
 
 // Own words, no two alike, each of which has as many letters as `count` says for its kind.
-fn distinct(numbers: &mut Numbers, count: impl Fn(usize, &mut Numbers) -> u64) -> Own {
+fn distinct(numbers: &mut Numbers, count: impl Fn(usize, &mut Numbers) -> usize) -> Own {
     let mut own = Own::new();
-    while own.len() < 44 {
+    while own.len() < WORDS.len() {
         let length = count(own.len(), numbers);
         let word = letters(numbers, length);
         if !own.contains(&word) {
@@ -54,22 +54,24 @@ fn distinct(numbers: &mut Numbers, count: impl Fn(usize, &mut Numbers) -> u64) -
 // The built-in words in another order: `lit` gets one that is short enough.
 fn permuted(numbers: &mut Numbers) -> Own {
     let mut own = wording::built_in();
-    for place in (1..44).rev() {
+    for place in (1..own.len()).rev() {
         own.swap(place, numbers.below(place as u64 + 1) as usize);
     }
-    let short: Vec<usize> = (0..44).filter(|kind| own[*kind].len() <= 3).collect();
+    short_lit(own, numbers)
+}
+
+// The words exchanged so that that of `lit` is short enough.
+fn short_lit(mut own: Own, numbers: &mut Numbers) -> Own {
+    let short: Vec<usize> = (0..own.len()).filter(|kind| own[*kind].len() <= most(LIT)).collect();
     own.swap(LIT, *numbers.one_of(&short));
     own
 }
 
 // Words each of which begins the next: a, aa, .. and b, bb, ..; some of them are another's beginning and none is another.
 fn beginnings(numbers: &mut Numbers) -> Own {
-    let mut own: Own = (0..44).map(|i| vec![b'a' + (i / 8) as u8; 1 + i % 8]).collect();
-    let turn = numbers.below(44) as usize;
-    own.rotate_left(turn);
-    let short: Vec<usize> = (0..44).filter(|kind| own[*kind].len() <= 3).collect();
-    own.swap(LIT, *numbers.one_of(&short));
-    own
+    let mut own: Own = (0..WORDS.len()).map(|i| vec![b'a' + (i / 8) as u8; 1 + i % 8]).collect();
+    own.rotate_left(a_kind(numbers));
+    short_lit(own, numbers)
 }
 
 // [16.2] Own words that are accepted.
@@ -81,11 +83,11 @@ fn good(numbers: &mut Numbers) -> Own {
         3 => distinct(numbers, |kind, _| most(kind)),
         4 => {
             let mut own = wording::built_in();
-            let kind = numbers.below(44) as usize;
+            let kind = a_kind(numbers);
             while { own[kind] = letters(numbers, most(kind)); own.iter().filter(|word| **word == own[kind]).count() > 1 } {}
             own
         }
-        _ => distinct(numbers, |kind, numbers| 1 + numbers.below(most(kind))),
+        _ => distinct(numbers, |kind, numbers| 1 + numbers.below(most(kind) as u64) as usize),
     }
 }
 
@@ -138,62 +140,67 @@ fn own_letter<'a>(line: &'a mut [u8], numbers: &mut Numbers) -> &'a mut u8 {
 fn long_word(line: &mut Vec<u8>, numbers: &mut Numbers) {
     let most = if line.starts_with(b"lit,") { 3 } else { 8 };
     line.truncate(comma(line) + 1);
-    let count = most + 1 + numbers.below(3);
+    let count = most + 1 + numbers.below(3) as usize;
     line.extend(letters(numbers, count).into_iter().chain([b'\n']));
 }
 
 // What is done to the lines as a whole.
-const TEXT_DAMAGES: [(&str, fn(&mut Vec<Vec<u8>>, &mut Numbers)); 16] = [
+const TEXT_DAMAGES: [(&str, fn(&mut Vec<Vec<u8>>, &mut Numbers)); 17] = [
     ("four letters and more for lit", |lines, numbers| long_word(&mut lines[LIT], numbers)),
     ("two lines exchanged", |lines, numbers| {
         let (one, other) = two_places(numbers);
         lines.swap(one, other);
     }),
-    ("a line dropped", |lines, numbers| drop(lines.remove(numbers.below(44) as usize))),
+    ("a line dropped", |lines, numbers| drop(lines.remove(a_kind(numbers)))),
+    ("no words of vectors", |lines, _| lines.truncate(kind("vec"))),
     ("a line doubled", |lines, numbers| {
-        let place = numbers.below(44) as usize;
+        let place = a_kind(numbers);
         lines.insert(place, lines[place].clone());
     }),
     ("a line added", |lines, _| lines.push(b"plan,other\n".to_vec())),
-    ("an empty line", |lines, numbers| lines.insert(numbers.below(39) as usize, b"\n".to_vec())),
+    ("an empty line", |lines, numbers| lines.insert(a_kind(numbers), b"\n".to_vec())),
     ("an empty line at the end", |lines, _| lines.push(b"\n".to_vec())),
     ("a byte behind the end", |lines, numbers| lines.push(vec![*numbers.one_of(b" \r\0a,")])),
-    ("the last byte missing", |lines, _| unended(&mut lines[37])),
-    ("byte 10 missing in the middle", |lines, numbers| unended(&mut lines[numbers.below(43) as usize])),
+    ("the last byte missing", |lines, _| unended(lines.last_mut().unwrap())),
+    ("byte 10 missing in the middle", |lines, numbers| unended(&mut lines[numbers.below(WORDS.len() as u64 - 1) as usize])),
     ("a built-in word twice", |lines, numbers| {
         let (one, other) = two_places(numbers);
         let own = lines[one][comma(&lines[one])..].to_vec();
         lines[one] = [&lines[other][..comma(&lines[other])], &own].concat();
     }),
     ("nothing", |lines, _| lines.clear()),
-    ("cut off", |lines, numbers| lines.truncate(numbers.below(44) as usize)),
+    ("cut off", |lines, numbers| lines.truncate(a_kind(numbers))),
     ("the text twice", |lines, _| lines.extend(lines.clone())),
-    ("more than 598 bytes", |lines, numbers| {
-        let more = 599 + numbers.below(700) as usize;
+    ("more bytes than the longest", |lines, numbers| {
+        let more = wording::LONGEST + 1 + numbers.below(700) as usize;
         while lines.concat().len() < more {
-            lines.push(lines[numbers.below(44) as usize].clone());
+            lines.push(lines[a_kind(numbers)].clone());
         }
     }),
     ("bytes without a line", |lines, numbers| *lines = vec![vec![b'a'; 600 + numbers.below(20) as usize]]),
 ];
 
 fn two_places(numbers: &mut Numbers) -> (usize, usize) {
-    let one = numbers.below(44);
-    let other = (one + 1 + numbers.below(43)) % 44;
-    (one as usize, other as usize)
+    let (one, count) = (a_kind(numbers), WORDS.len());
+    (one, (one + 1 + numbers.below(count as u64 - 1) as usize) % count)
+}
+
+fn kind(word: &str) -> usize {
+    WORDS.iter().position(|listed| *listed == word).unwrap()
 }
 
 // One own word given to a second row as well; it is one that `lit` may have where `lit` is that row.
 fn doubled(own: &mut Own, numbers: &mut Numbers) {
     let (mut one, mut other) = two_places(numbers);
-    if other == LIT && own[one].len() > 3 {
+    if other == LIT && own[one].len() > most(LIT) {
         (one, other) = (other, one);
     }
     own[other] = own[one].clone();
 }
 
 // A words text, what was done to it, how an empty plan is answered under it, and the own words that its plans and loops are put into. The
-// text lies in front of bytes that are not lent: if they were read, a text that lacks its end would seem whole, or a whole one too long.
+// text lies in front of the lines that it lacks, or of one too many, which are not lent: if they were read, a text that lacks its end would
+// seem whole, or a whole one too long.
 struct Worded {
     memory: Vec<u8>,
     bytes: usize,
@@ -217,10 +224,11 @@ fn words_text(numbers: &mut Numbers) -> Worded {
         doubled(&mut own, numbers);
         (what, answer) = ("a word twice", "no,17,0");
     }
-    let mut text: Vec<Vec<u8>> = wording::text(&own).split_inclusive(|byte| *byte == b'\n').map(|line| line.to_vec()).collect();
+    let whole: Vec<Vec<u8>> = wording::text(&own).split_inclusive(|byte| *byte == b'\n').map(|line| line.to_vec()).collect();
+    let mut text = whole.clone();
     if (8..12).contains(&choice) || choice == 18 {
         let (name, damage) = numbers.one_of(&LINE_DAMAGES);
-        damage(&mut text[numbers.below(44) as usize], numbers);
+        damage(&mut text[a_kind(numbers)], numbers);
         (what, answer) = (name, "no,16,0");
     }
     if (12..16).contains(&choice) || choice == 19 {
@@ -229,8 +237,9 @@ fn words_text(numbers: &mut Numbers) -> Worded {
         (what, answer) = (name, "no,16,0");
     }
     let bytes = text.concat();
-    let behind = if bytes.ends_with(b"\n") { b"rest,rest\n" } else { b"\nrest,rest" };
-    Worded { memory: [&bytes[..], behind].concat(), bytes: bytes.len(), what, answer, own }
+    let behind = whole[text.len().min(whole.len() - 1)..].concat();
+    let behind = if bytes.ends_with(b"\n") { behind } else { [b"\n", &behind[..]].concat() };
+    Worded { memory: [&bytes[..], &behind].concat(), bytes: bytes.len(), what, answer, own }
 }
 
 // ---- the seven entries
@@ -314,8 +323,8 @@ fn texts(built_in: &[u8], own: &Own, numbers: &mut Numbers) -> Vec<Vec<u8>> {
 }
 
 // [16.3], [16.9] A plan in own words is made into the loops of the same plan in the built-in words, in own words; read back, the loops
-// are the same rows. Both are the library's.
-fn same_rows(worded: &Worded, plan: &[u8]) {
+// are the same rows. Both are the library's. Whether the plan is translated.
+fn same_rows(worded: &Worded, plan: &[u8]) -> bool {
     let words = Some(worded.text());
     let made = |words: Option<&[u8]>, plan: &[u8]| {
         let mut lent = vec![0; 65536];
@@ -328,9 +337,9 @@ fn same_rows(worded: &Worded, plan: &[u8]) {
     };
     let (built_in, own) = (made(None, plan), made(words, &wording::worded(plan, &worded.own)));
     assert_eq!(own, built_in.as_ref().map(|loops| wording::worded(loops, &worded.own)), "loops of the same rows");
-    if let (Some(built_in), Some(own)) = (built_in, own) {
-        assert!(read(words, &own) == read(None, &built_in), "rows read back");
-    }
+    let (Some(built_in), Some(own)) = (built_in, own) else { return false };
+    assert!(read(words, &own) == read(None, &built_in), "rows read back");
+    true
 }
 
 // [16.9] The longest words, and the longest texts.
@@ -338,7 +347,7 @@ fn longest(words: &mut Tally) {
     let mut numbers = Numbers::new(3);
     let own = distinct(&mut numbers, |kind, _| most(kind));
     let text = wording::text(&own);
-    assert_eq!(text.len(), 598, "the longest words text that is accepted");
+    assert_eq!(text.len(), wording::LONGEST, "the longest words text that is accepted");
     let plan = |lines: usize| format!("plan,0\n{}{}", "add,0\n".repeat(lines / 2 - 1), "lit,-2147483648\n".repeat(lines / 2)).into_bytes();
     for lines in [254, 256, 258] {
         words.plan("long plans", Some(&text), &wording::worded(&plan(lines), &own), 65536);
@@ -362,7 +371,7 @@ type Change = (&'static str, &'static [&'static str], fn(&[u8], usize) -> Vec<u8
 
 const CHANGES: [Change; 27] = [
     ("the word", &["hit"], |word, _| word.to_vec()),
-    ("the built-in word", &["hit", "miss"], |_, kind| reference::WORDS[kind].into()),
+    ("the built-in word", &["hit", "miss"], |_, kind| WORDS[kind].into()),
     ("its last letter gone", &["hit", "miss"], |word, _| word[..word.len() - 1].to_vec()),
     ("its first letter gone", &["hit", "miss"], |word, _| word[1..].to_vec()),
     ("its last letter twice", &["hit", "miss"], |word, _| [word, &word[word.len() - 1..]].concat()),
@@ -403,14 +412,15 @@ struct Searches {
 
 impl Searches {
     // Searches for a word, changed. What is lent lies in front of the rest of the word, if it is its beginning: if more were read, it would
-    // be found. [17.2] A hit tells one of 44 places, and a miss all 44 rows.
+    // be found. [17.2] A hit tells a place, counted from 1, and a miss all rows.
     fn one(&mut self, what: &str, words: Option<&[u8]>, own: &Own, kind: usize, change: &Change) -> String {
         let changed = change.2(&own[kind], kind);
         let behind = own[kind].strip_prefix(&changed[..]).unwrap_or(b"");
         let answer = self.tally.look_up(what, words, &[&changed[..], behind].concat()[..changed.len()]);
-        let ended = match answer.parse::<u64>() {
-            Ok(65537..=65580) => "hit",
-            Ok(44) => "miss",
+        let rows = WORDS.len();
+        let ended = match answer.parse::<usize>() {
+            Ok(number) if (65536 + 1..=65536 + rows).contains(&number) => "hit",
+            Ok(number) if number == rows => "miss",
             Ok(number) => panic!("{what}, {}: no search tells {number}", change.0),
             Err(_) => "refused",
         };
@@ -426,7 +436,7 @@ impl Searches {
 
     // Every word under accepted words, as it is and with every change.
     fn every(&mut self, what: &str, words: Option<&[u8]>, own: &Own) {
-        for kind in 0..44 {
+        for kind in 0..WORDS.len() {
             self.placed(what, words, own, kind);
             for change in &CHANGES[1..] {
                 self.one(what, words, own, kind, change);
@@ -452,11 +462,11 @@ impl Searches {
     // Under a words text: each word, if it is accepted; some changed ones, which the plain entry is asked as well.
     fn under(&mut self, worded: &Worded, numbers: &mut Numbers) {
         let (words, accepted) = (Some(worded.text()), worded.answer == "no,1,0");
-        for kind in (0..44).filter(|_| accepted) {
+        for kind in (0..WORDS.len()).filter(|_| accepted) {
             self.placed(worded.what, words, &worded.own, kind);
         }
         for _ in 0..10 {
-            let (kind, change) = (numbers.below(44) as usize, numbers.one_of(&CHANGES));
+            let (kind, change) = (a_kind(numbers), numbers.one_of(&CHANGES));
             let answer = self.one(worded.what, words, &worded.own, kind, change);
             assert!(accepted || answer == worded.answer, "{}: {answer}", worded.what);
             self.one("plain", None, &worded.own, kind, change);
@@ -480,17 +490,20 @@ impl Searches {
     }
 }
 
-fn random(count: u64, words: &mut Tally, plain: &mut Tally, searches: &mut Searches) -> (u64, BTreeMap<&'static str, u64>) {
+// What was done to the words texts and how often; how many of the plans in own words that were translated have vectors, and how many of the
+// loops in own words that were accepted have lanes.
+fn random(count: u64, words: &mut Tally, plain: &mut Tally, searches: &mut Searches) -> (BTreeMap<&'static str, u64>, [u64; 2]) {
     let mut done = BTreeMap::new();
+    let (mut vectors, mut lanes) = (plans::Share::of_vectors(), plans::Share::of_lanes());
     for seed in 0..count {
         let mut numbers = Numbers::new(seed ^ 0x3333);
         let worded = words_text(&mut numbers);
         *done.entry(worded.what).or_default() += 1;
         assert_eq!(entries::check_plan_in(Some(worded.text()), &[]), worded.answer, "{}", worded.what);
         searches.under(&worded, &mut Numbers::new(seed ^ 0x1717));
-        let plan = plans::plan(seed);
-        if worded.answer == "no,1,0" {
-            same_rows(&worded, &plan);
+        let (plan, accepted) = (plans::plan(seed), worded.answer == "no,1,0");
+        if accepted && same_rows(&worded, &plan) {
+            vectors.take(&plan);
         }
         let made = reference::reply(&["translate".into()], &plan).into_bytes();
         let bytes = *numbers.one_of(&[0, 40, 65536, 65536]);
@@ -502,18 +515,22 @@ fn random(count: u64, words: &mut Tally, plain: &mut Tally, searches: &mut Searc
         let rows = (*numbers.one_of(&[0, 5, 4096, 4096, 4096]), *numbers.one_of(&[0, 5, 4096, 4096, 4096]));
         let order = *numbers.one_of(&[0, 1, 2, 2, 3]);
         let store = *numbers.one_of(&[0, 3, 4 * 16384, 4 * 16384, 4 * 16384]);
+        if accepted && reference::writes(&whole).parse::<u64>().is_ok() {
+            lanes.take(&whole);
+        }
         for text in texts(&whole, &worded.own, &mut numbers) {
             words.loops(worded.what, Some(worded.text()), &text, rows, order, store);
             plain.loops("plain", None, &text, rows, order, store);
         }
     }
-    (count, done)
+    (done, [vectors.count(), lanes.count()])
 }
 
 fn main() {
     let (mut words, mut plain) = (Tally(BTreeMap::new()), Tally(BTreeMap::new()));
     let mut searches = Searches { tally: Tally(BTreeMap::new()), ended: BTreeMap::new() };
-    let (count, done) = random(std::env::args().nth(1).unwrap().parse().unwrap(), &mut words, &mut plain, &mut searches);
+    let count = std::env::args().nth(1).unwrap().parse().unwrap();
+    let (done, [vectors, lanes]) = random(count, &mut words, &mut plain, &mut searches);
     longest(&mut words);
     searches.known();
     let ways = LINE_DAMAGES.iter().map(|way| way.0).chain(TEXT_DAMAGES.iter().map(|way| way.0)).chain(["a word twice", "nothing done"]);
@@ -521,15 +538,15 @@ fn main() {
     assert!(missing.is_empty(), "not tried: {missing:?}");
     println!(
         "{count} words texts, whole or damaged in {} ways, {} calls with a words text answered alike by the library and the second \
-         implementation: {}",
+         implementation: {}; {vectors} plans with vectors made into loops in own words, {lanes} loops with lanes accepted in own words",
         done.len() - 1,
         words.0.values().sum::<u64>(),
-        words.counts(&[1, 2, 3, 4, 5, 7, 9, 12, 13, 14, 16, 17])
+        words.counts(&[1, 2, 3, 4, 5, 7, 9, 12, 13, 14, 16, 17, 18])
     );
     println!(
         "{} calls of the plain entries beside them: {}; no byte lent or beside it differs from what the second implementation leaves there",
         plain.0.values().sum::<u64>(),
-        plain.counts(&[1, 2, 4, 5, 7, 9, 12, 13, 14])
+        plain.counts(&[1, 2, 4, 5, 7, 9, 12, 13, 14, 18])
     );
     println!("{}", searches.counts());
 }

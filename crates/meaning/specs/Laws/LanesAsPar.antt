@@ -2,7 +2,7 @@
 -- they are. Assumes nothing.
 use mathlib.Core.Path.{_≡_, refl, ap, ap₂}
 use mathlib.Core.List.{List, [], _∷_}
-use Prim.Native.Nat.{ℕ, _+_, _*_, max}
+use Prim.Native.Nat.{ℕ, _+_, _*_}
 use Rattle.meaning.specs.Terms.{LoopKind}
 use Rattle.meaning.specs.Numbers.{NumberDomain}
 use Rattle.meaning.specs.Sequence.{upFrom, inTurn}
@@ -17,7 +17,7 @@ use Rattle.meaning.specs.AsPar.{asPar, loopsAsPar}
 pub room-as-par : (c : Command) → room (asPar c) ≡ room c
 unfolding asPar room
 room-as-par (Command.assignment p v) = refl
-room-as-par (seq c d) = ap₂ (λ (x y : ℕ). max x y) (room-as-par c) (room-as-par d)
+room-as-par (seq c d) = rw (room-as-par c, room-as-par d)
 room-as-par (loop LoopKind.parallel n b) = ap (λ (x : ℕ). n * x) (room-as-par b)
 room-as-par (loop LoopKind.sequential n b) = room-as-par b
 room-as-par (loop LoopKind.lanes n b) = ap (λ (x : ℕ). n * x) (room-as-par b)
