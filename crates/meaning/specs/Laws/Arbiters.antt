@@ -1,6 +1,6 @@
 -- Runs and arbiters: each run is the run by an arbiter that names just the orders it took, and a run in which every
 -- `par` takes the order named is the run by the arbiter that names it.
-use mathlib.Core.Path.{_≡_, refl, sym, ap, _∙_, subst, fun-ext}
+use mathlib.Core.Path.{_≡_, refl, sym, ap, _∙_, subst}
 use mathlib.Core.List.{List, [], _∷_, _++_, List·Permᴰ, Permᴰ·refl, append-nil}
 use Prim.Native.Nat.{ℕ, zero, suc}
 use native.Mathlib.Decide.{ℕ-discrete}
@@ -12,6 +12,7 @@ use Rattle.meaning.specs.Layout.{firstRoom, secondRoom, roundRoom, regio
 use Rattle.meaning.specs.Runs.{Order, Orders, Environment, withCounter, withRegion, State, run}
 use Rattle.meaning.specs.Arbiters.{Arbiter, runBy}
 use Rattle.meaning.specs.NamedOrders.{always}
+use Rattle.meaning.specs.Laws.Orders.{rounds-by}
 
 -- The way from the top, first step first, and the visit, last step first
 
@@ -72,12 +73,6 @@ arbiter-fair c ch visit n = order-fair c ch (visitAfter visit []) n
 
 module _ (𝓝 : NumberDomain) where
   -- rounds that do the same come to the same
-  same-rounds : (is : List ℕ) (f g : ℕ → State 𝓝 → State 𝓝)
-      → ((i : ℕ) (st : State 𝓝) → f i st ≡ g i st)
-      → (st : State 𝓝) → inTurn is f st ≡ inTurn is g st
-  same-rounds is f g h st =
-      ap (λ (F : ℕ → State 𝓝 → State 𝓝). inTurn is F st) (fun-ext (λ i. fun-ext (λ x. h i x)))
-
   -- A choice's run is the run by every arbiter that names the same orders from this visit on.
   run-by-same : (π : Arbiter) (c : Command) (ch : Orders c) (visit : List ℕ)
       → ((way : List ℕ) (n : ℕ) → π (visitAfter way visit) n ≡ orderAt c ch way n)
@@ -90,31 +85,18 @@ module _ (𝓝 : NumberDomain) where
       ∙ run-by-same π d (ch .1) (1 ∷ visit) (λ way n. same (1 ∷ way) n) ρ (secondRoom a c d)
       (runBy 𝓝 π c (0 ∷ visit) ρ (firstRoom a c d) st)
   run-by-same π (loop LoopKind.parallel n b) ch visit same ρ a st =
-      let F : ℕ → State 𝓝 → State 𝓝 =
-      λ i. runBy 𝓝 π b (i ∷ visit) (withCounter i ρ) (roundRoom a LoopKind.parallel n b i) in
-      same-rounds (ch .0 .0) (λ i. run 𝓝 b (ch .1 i) (withCounter i ρ) (roundRoom a LoopKind.parallel n b i)) F
-      (λ i x.
-      run-by-same π b (ch .1 i) (i ∷ visit) (λ way k. same (i ∷ way) k) (withCounter i ρ)
-      (roundRoom a LoopKind.parallel n b i) x)
-      st
-      ∙ ap (λ (is : List ℕ). inTurn is F st) (sym (same [] n ∙ if-same n (ℕ-discrete n n) (ch .0)))
+      rounds-by 𝓝 π b visit (ch .1) (roundRoom a LoopKind.parallel n b) ρ
+      (λ i x y. run-by-same π b (ch .1 i) (i ∷ visit) (λ way k. same (i ∷ way) k) (withCounter i ρ) x y) (ch .0 .0) st
+      ∙ ap (λ (is : List ℕ). inTurn is (λ i. runBy 𝓝 π b (i ∷ visit) (withCounter i ρ) (roundRoom a LoopKind.parallel n b i)) st)
+      (sym (same [] n ∙ if-same n (ℕ-discrete n n) (ch .0)))
   run-by-same π (loop LoopKind.sequential n b) ch visit same ρ a st =
-      same-rounds (upFrom 0 n)
-      (λ i. run 𝓝 b (ch .1 i) (withCounter i ρ) (roundRoom a LoopKind.sequential n b i))
-      (λ i. runBy 𝓝 π b (i ∷ visit) (withCounter i ρ) (roundRoom a LoopKind.sequential n b i))
-      (λ i x.
-      run-by-same π b (ch .1 i) (i ∷ visit) (λ way k. same (i ∷ way) k) (withCounter i ρ)
-      (roundRoom a LoopKind.sequential n b i) x)
-      st
+      rounds-by 𝓝 π b visit (ch .1) (roundRoom a LoopKind.sequential n b) ρ
+      (λ i x y. run-by-same π b (ch .1 i) (i ∷ visit) (λ way k. same (i ∷ way) k) (withCounter i ρ) x y) (upFrom 0 n) st
   run-by-same π (loop LoopKind.lanes n b) ch visit same ρ a st =
-      let F : ℕ → State 𝓝 → State 𝓝 =
-      λ i. runBy 𝓝 π b (i ∷ visit) (withCounter i ρ) (roundRoom a LoopKind.lanes n b i) in
-      same-rounds (ch .0 .0) (λ i. run 𝓝 b (ch .1 i) (withCounter i ρ) (roundRoom a LoopKind.lanes n b i)) F
-      (λ i x.
-      run-by-same π b (ch .1 i) (i ∷ visit) (λ way k. same (i ∷ way) k) (withCounter i ρ)
-      (roundRoom a LoopKind.lanes n b i) x)
-      st
-      ∙ ap (λ (is : List ℕ). inTurn is F st) (sym (same [] n ∙ if-same n (ℕ-discrete n n) (ch .0)))
+      rounds-by 𝓝 π b visit (ch .1) (roundRoom a LoopKind.lanes n b) ρ
+      (λ i x y. run-by-same π b (ch .1 i) (i ∷ visit) (λ way k. same (i ∷ way) k) (withCounter i ρ) x y) (ch .0 .0) st
+      ∙ ap (λ (is : List ℕ). inTurn is (λ i. runBy 𝓝 π b (i ∷ visit) (withCounter i ρ) (roundRoom a LoopKind.lanes n b i)) st)
+      (sym (same [] n ∙ if-same n (ℕ-discrete n n) (ch .0)))
   run-by-same π (new c b) ch visit same ρ a st =
       run-by-same π b ch visit same (withRegion (regionRoom a c b) ρ) (bodyRoom a c b) st
 
@@ -138,22 +120,13 @@ module _ (𝓝 : NumberDomain) where
       ∙ run-by-name o d (1 ∷ visit) ρ (secondRoom a c d)
       (runBy 𝓝 (λ v n. o n .0) c (0 ∷ visit) ρ (firstRoom a c d) st)
   run-by-name o (loop LoopKind.parallel n b) visit ρ a st =
-      same-rounds (o n .0)
-      (λ i. run 𝓝 b (always o b) (withCounter i ρ) (roundRoom a LoopKind.parallel n b i))
-      (λ i. runBy 𝓝 (λ v n. o n .0) b (i ∷ visit) (withCounter i ρ) (roundRoom a LoopKind.parallel n b i))
-      (λ i x. run-by-name o b (i ∷ visit) (withCounter i ρ) (roundRoom a LoopKind.parallel n b i) x)
-      st
+      rounds-by 𝓝 (λ v n. o n .0) b visit (λ i. always o b) (roundRoom a LoopKind.parallel n b) ρ
+      (λ i x y. run-by-name o b (i ∷ visit) (withCounter i ρ) x y) (o n .0) st
   run-by-name o (loop LoopKind.sequential n b) visit ρ a st =
-      same-rounds (upFrom 0 n)
-      (λ i. run 𝓝 b (always o b) (withCounter i ρ) (roundRoom a LoopKind.sequential n b i))
-      (λ i. runBy 𝓝 (λ v n. o n .0) b (i ∷ visit) (withCounter i ρ) (roundRoom a LoopKind.sequential n b i))
-      (λ i x. run-by-name o b (i ∷ visit) (withCounter i ρ) (roundRoom a LoopKind.sequential n b i) x)
-      st
+      rounds-by 𝓝 (λ v n. o n .0) b visit (λ i. always o b) (roundRoom a LoopKind.sequential n b) ρ
+      (λ i x y. run-by-name o b (i ∷ visit) (withCounter i ρ) x y) (upFrom 0 n) st
   run-by-name o (loop LoopKind.lanes n b) visit ρ a st =
-      same-rounds (o n .0)
-      (λ i. run 𝓝 b (always o b) (withCounter i ρ) (roundRoom a LoopKind.lanes n b i))
-      (λ i. runBy 𝓝 (λ v n. o n .0) b (i ∷ visit) (withCounter i ρ) (roundRoom a LoopKind.lanes n b i))
-      (λ i x. run-by-name o b (i ∷ visit) (withCounter i ρ) (roundRoom a LoopKind.lanes n b i) x)
-      st
+      rounds-by 𝓝 (λ v n. o n .0) b visit (λ i. always o b) (roundRoom a LoopKind.lanes n b) ρ
+      (λ i x y. run-by-name o b (i ∷ visit) (withCounter i ρ) x y) (o n .0) st
   run-by-name o (new c b) visit ρ a st =
       run-by-name o b visit (withRegion (regionRoom a c b) ρ) (bodyRoom a c b) st

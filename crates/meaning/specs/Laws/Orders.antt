@@ -17,11 +17,16 @@ use Rattle.meaning.specs.Arbiters.{Arbiter, runBy}
 -- No order is left out
 
 module _ (𝓝 : NumberDomain) where
-  in-turn-same : (is : List ℕ) (f g : ℕ → State 𝓝 → State 𝓝)
-      → ((i : ℕ) (st : State 𝓝) → f i st ≡ g i st)
-      → (st : State 𝓝) → inTurn is f st ≡ inTurn is g st
-  in-turn-same [] f g h st = refl
-  in-turn-same (i ∷ is) f g h st = ap (inTurn is f) (h i st) ∙ in-turn-same is f g h (g i st)
+  -- The rounds of a loop, as a list names them: if in each the choice comes to what the arbiter comes to, so it does in all of them.
+  pub rounds-by : (π : Arbiter) (b : Command) (visit : List ℕ) (chs : ℕ → Orders b) (room : ℕ → ℕ) (ρ : Environment)
+      → ((i a : ℕ) (st : State 𝓝) → run 𝓝 b (chs i) (withCounter i ρ) a st ≡ runBy 𝓝 π b (i ∷ visit) (withCounter i ρ) a st)
+      → (is : List ℕ) (st : State 𝓝)
+      → inTurn is (λ i. run 𝓝 b (chs i) (withCounter i ρ) (room i)) st
+      ≡ inTurn is (λ i. runBy 𝓝 π b (i ∷ visit) (withCounter i ρ) (room i)) st
+  rounds-by π b visit chs room ρ h [] st = refl
+  rounds-by π b visit chs room ρ h (i ∷ is) st =
+      ap (inTurn is (λ j. run 𝓝 b (chs j) (withCounter j ρ) (room j))) (h i (room i) st)
+      ∙ rounds-by π b visit chs room ρ h is (runBy 𝓝 π b (i ∷ visit) (withCounter i ρ) (room i) st)
 
   -- Whatever permutations an arbiter names, at every visit anew, some orders take just them.
   pub every-order : (π : Arbiter) → ((visit : List ℕ) (n : ℕ) → List·Permᴰ (π visit n) (upFrom 0 n))
@@ -40,29 +45,20 @@ module _ (𝓝 : NumberDomain) where
   every-order π fair (loop LoopKind.parallel n b) visit = (
     ((π visit n, fair visit n), λ i. every-order π fair b (i ∷ visit) .0),
     λ ρ a st.
-        in-turn-same (π visit n)
-        (λ i. run 𝓝 b (every-order π fair b (i ∷ visit) .0) (withCounter i ρ) (roundRoom a LoopKind.parallel n b i))
-        (λ i. runBy 𝓝 π b (i ∷ visit) (withCounter i ρ) (roundRoom a LoopKind.parallel n b i))
-        (λ i x. every-order π fair b (i ∷ visit) .1 (withCounter i ρ) (roundRoom a LoopKind.parallel n b i) x)
-        st,
-  )
-  every-order π fair (loop LoopKind.lanes n b) visit = (
-    ((π visit n, fair visit n), λ i. every-order π fair b (i ∷ visit) .0),
-    λ ρ a st.
-        in-turn-same (π visit n)
-        (λ i. run 𝓝 b (every-order π fair b (i ∷ visit) .0) (withCounter i ρ) (roundRoom a LoopKind.lanes n b i))
-        (λ i. runBy 𝓝 π b (i ∷ visit) (withCounter i ρ) (roundRoom a LoopKind.lanes n b i))
-        (λ i x. every-order π fair b (i ∷ visit) .1 (withCounter i ρ) (roundRoom a LoopKind.lanes n b i) x)
-        st,
+        rounds-by π b visit (λ i. every-order π fair b (i ∷ visit) .0) (roundRoom a LoopKind.parallel n b) ρ
+        (λ i x y. every-order π fair b (i ∷ visit) .1 (withCounter i ρ) x y) (π visit n) st,
   )
   every-order π fair (loop LoopKind.sequential n b) visit = (
     (tt, λ i. every-order π fair b (i ∷ visit) .0),
     λ ρ a st.
-        in-turn-same (upFrom 0 n)
-        (λ i. run 𝓝 b (every-order π fair b (i ∷ visit) .0) (withCounter i ρ) (roundRoom a LoopKind.sequential n b i))
-        (λ i. runBy 𝓝 π b (i ∷ visit) (withCounter i ρ) (roundRoom a LoopKind.sequential n b i))
-        (λ i x. every-order π fair b (i ∷ visit) .1 (withCounter i ρ) (roundRoom a LoopKind.sequential n b i) x)
-        st,
+        rounds-by π b visit (λ i. every-order π fair b (i ∷ visit) .0) (roundRoom a LoopKind.sequential n b) ρ
+        (λ i x y. every-order π fair b (i ∷ visit) .1 (withCounter i ρ) x y) (upFrom 0 n) st,
+  )
+  every-order π fair (loop LoopKind.lanes n b) visit = (
+    ((π visit n, fair visit n), λ i. every-order π fair b (i ∷ visit) .0),
+    λ ρ a st.
+        rounds-by π b visit (λ i. every-order π fair b (i ∷ visit) .0) (roundRoom a LoopKind.lanes n b) ρ
+        (λ i x y. every-order π fair b (i ∷ visit) .1 (withCounter i ρ) x y) (π visit n) st,
   )
   every-order π fair (new c b) visit = (
     every-order π fair b visit .0,
