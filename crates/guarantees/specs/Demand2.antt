@@ -5,7 +5,7 @@
 -- It rests on
 --   meaning    HasType, which is Figure 3 of the paper; translation, which is its sections 4.1 to 4.3; the rows of plans and loops;
 --              planWrites, need; TouchesBelow
---   Questions  1 to 6 and [18.15] at the door; planQuestions of `typing`: of them 8; each limit is said there and nowhere else
+--   Questions  1 to 6 and 18 at the door; planQuestions of `typing`: of them 8; each limit is said there and nowhere else
 --   Ways       how loops are had from a plan's text; Told: what an entry tells
 --   lines      textRows: the rows of a text's lines; textOf: rows as a text
 use mathlib.Core.Path.{_≡_}

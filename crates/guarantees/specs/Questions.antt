@@ -38,7 +38,7 @@ wordsQuestions w = question (isWordsText w) WordsForm ∷ question (distinct (ow
 
 -- ---- 1 to 6 and 18: a plan's text, a loops' text, a table
 
--- [10.4] to [10.6], and [18.15], from the top
+-- [10.4] to [10.6], and [18.15], from the top; a plan's rows are never refused by 18 (`typing/Theorems: plan-never-18`)
 abbrev pub rowsDoor : Sort → List Row → List Question
 rowsDoor s R = walkQuestions 0 (due s noNames ∷ []) R
 

@@ -40,7 +40,7 @@ fn check_limits(kinds: &[u8], numbers: &[i32]) -> Checked
     }
 }
 
-// Questions 2 (of the kinds), 4 to 6 with [18.15], 9 and 11 of a table's rows.
+// Questions 2 (of the kinds), 4 to 6, 18, 9 and 11 of a table's rows.
 fn check_rows(kinds: &[u8], numbers: &[i32]) -> Checked
     requires { ⌜ (length (now kinds) ≡ length (now numbers)) × (length (now kinds) ≤ 4096) ⌝ }
     ensures { λ r. ⌜ r ≡ checkLoopsRows (rowsOf (now (kinds .entry)) (now (numbers .entry))) ⌝ }
@@ -53,7 +53,7 @@ fn check_rows(kinds: &[u8], numbers: &[i32]) -> Checked
 }
 
 // [10.16] The check of a lent table, whose rows are as many as the shorter slice has ([1.8]): questions 2 (of the kinds), 3 to 6,
-// [18.15], 9, 11.
+// 18, 9, 11.
 pub fn check_table(kinds: &[u8], numbers: &[i32]) -> Checked
     ensures { λ r. ⌜ ChecksTable (now (kinds .entry)) (now (numbers .entry)) r ⌝ }
 {
@@ -117,7 +117,7 @@ fn read_with(table: &Table, text: &[u8], kinds: &mut [u8], numbers: &mut [i32]) 
     }
 }
 
-// [10.16] The check of a loops text: questions 1 to 6, [18.15], 9 and 11.
+// [10.16] The check of a loops text: questions 1 to 6, 18, 9 and 11.
 pub fn check_text(text: &[u8]) -> Checked
     ensures { λ r. ⌜ ChecksLoops words (now (text .entry)) r ⌝ }
 {

@@ -1,5 +1,5 @@
--- The run in which an arbiter names the order at every visit of every `par` [9.5] and every `lanes` [18.10]. It is there for the law that no order is left
--- out. Definitions only; assumes nothing.
+-- The run in which an arbiter names the order at every visit of every `par` [9.5] and every `lanes` [18.10]. It is there for the law that no
+-- order is left out. Definitions only; assumes nothing.
 use mathlib.Core.List.{List, _∷_}
 use Prim.Native.Nat.{ℕ}
 use Rattle.meaning.specs.Terms.{LoopKind}

@@ -3,6 +3,7 @@
 -- Types: the relation of Figure 3, computed
 pub mod Typing
 pub mod Inference
+pub mod Series
 -- Numbers, orders, rooms, paths and offsets
 pub mod Groups
 pub mod Orders

@@ -177,7 +177,7 @@ need-few L h few = omega (arith, need-by-writes L h)
 pub need-taken : (L : Loops) → LoopsPass L → (need L ≡ regionsFrom L) ⊎ EndsBefore (need L) (L .command) (regionsFrom L)
 need-taken L h = need-reached L h
 
--- [18.10] And for the need.
+-- [18.10] For the need too a `lanes` counts as a `par`.
 pub need-counts-as-par : (L : Loops) → need (loopsAsPar L) ≡ need L
 need-counts-as-par L = need-as-par L
 

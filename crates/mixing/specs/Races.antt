@@ -23,7 +23,7 @@ RoundsApart kind n b ρ a =
     (λ x. WritesNot x b (withCounter j ρ) (roundRoom a kind n b j))
     b (withCounter i ρ) (roundRoom a kind n b i)
 
--- So at every visit of every `par` and, [18.10], of every `lanes` of the command, whose room begins at `a`.
+-- So at every visit of every `par`, and [18.10] of every `lanes`, of the command, whose room begins at `a`.
 unfoldable pub WithoutRaces : Command → Environment → ℕ → Type 0
 WithoutRaces (Command.assignment p v) ρ a = Unit {0}
 WithoutRaces (seq c d) ρ a = WithoutRaces c ρ (firstRoom a c d) × WithoutRaces d ρ (secondRoom a c d)

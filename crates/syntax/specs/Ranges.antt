@@ -41,8 +41,8 @@ wide = word-vec ∷ word-asvec ∷ word-lanes ∷ []
 abbrev pub widths : List ℕ
 widths = 2 ∷ 4 ∷ 8 ∷ 16 ∷ []
 
--- [10.5] K as in [13.6], sizes as in [13.7], widths and `at` as in [13.19], `idx` and the `lit` of an offset as in [13.8]; `in`, `var`, `ctr` and `loc` name one in
--- force; the `lit` of a term or value is any; every other number is 0. Of a row of kind k and number n where a row of sort s is due
+-- [10.5] K as in [13.6], sizes as in [13.7], widths as in [13.19], `at` as in [13.20], `idx` and the `lit` of an offset as in [13.8];
+-- `in`, `var`, `ctr` and `loc` name one in force; the `lit` of a term or value is any; every other number is 0. Of a row of kind k and number n where a row of sort s is due
 -- and these names are in force.
 unfoldable pub inRange : Sort → Names → ℕ → ℕ → Bool
 inRange s names k n =

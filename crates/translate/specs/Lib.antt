@@ -1,4 +1,4 @@
--- The translation of a plan's text: [6.1], [10.1] to [10.8] [10.10] to [10.12], and [18.15].
+-- The translation of a plan's text: [6.1], [10.1] to [10.8], [10.10] to [10.12], and [18.15].
 
 -- The definitions
 pub mod Entry

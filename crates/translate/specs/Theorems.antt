@@ -85,7 +85,7 @@ text-put ws good t text text′ n I = go (makeText ws t) refl (I .answer)
           behind = ap (drop n) (I .text-left) ∙ drop-at S _ n l ∙ ap (λ (i : ℕ). drop i text) l;
         }
 
--- 65,536 bytes are room for the text of all loops that are made: where so many are lent, only questions 1 to 8, 10, 11 and [18.15] refuse.
+-- 65,536 bytes are room for the text of all loops that are made: where so many are lent, only questions 1 to 8, 10, 18 and 11 refuse.
 pub room-for-all : (ws : List (List ℕ)) (good : Good ws) (t : List ℕ) (bytes : ℕ) (q : Refusal) → 65536 ≤ bytes
     → unlessRefused (makeText ws t) (printing (textOf ws (madeRows (planIn ws t))) bytes) ≡ Refused q → makeText ws t ≡ Refused q
 unfolding printing

@@ -1,4 +1,4 @@
--- Questions 1 to 8 as one list for a text, and 2 and 4 to 8 as one for rows, in the order in which they are put: [10.16]; [18.15] stands
+-- Questions 1 to 8 as one list for a text, and 2 and 4 to 8 as one for rows, in the order in which they are put: [10.16]; 18 [18.15] stands
 -- right behind 6, and a plan's rows are never refused by it (`plan-never-18` of `Theorems`). That the check of a text or of rows is the
 -- first "no" of this list is said by `Theorems`. Definitions only; assumes nothing.
 use mathlib.Core.Bool.{Bool, true, false}

@@ -102,7 +102,7 @@ rows-accepted R = (
       (admitted-rows (a .plan) (a .admitted), a .admitted .within .rowsFew)),
 )
 
--- [10.18] The walk is the first "no" of questions 2 (of kinds), 4 to 6 and [18.15], of plans and of loops.
+-- [10.18] The walk is the first "no" of questions 2 (of kinds), 4 to 6 and 18 [18.15], of plans and of loops.
 pub walk-first-no : (s : Sort) (R : List Row)
     → walkTable s R ≡ ask Refused (kindQuestions 0 R ++ walkQuestions 0 (due s noNames ∷ []) R) (Told (length R))
 walk-first-no = table-asks

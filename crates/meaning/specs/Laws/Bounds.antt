@@ -14,6 +14,7 @@ use Rattle.meaning.specs.Offsets.{summands, sumOnto, sumOf, offsetOf, of
 use Rattle.meaning.specs.Limits.{IsCount, IsWidth, RoundsInRange, bound, counterBound, OffsetPasses}
 use Rattle.meaning.specs.Limits.{OffsetFits, CellsWithin}
 use Rattle.meaning.specs.Laws.Typing.{IsSeries, MayBeIn}
+use Rattle.meaning.specs.Laws.Series.{by-series, by-elements}
 use Rattle.meaning.specs.Laws.Groups.{group-below, quotient-below}
 use Rattle.meaning.specs.Laws.Paths.{PathOf, cellOf, cellOf-below}
 use Rattle.meaning.specs.Laws.Evaluation.{pathBy, Additive, totalBy, summands-total, offset-is-cell}
@@ -170,20 +171,11 @@ within-groups m {s} {t} h = record {
 }
 
 pub within-series : (series : Series) (n : ℕ) (t : DataType) → MayBeIn series t → SameWithin (seriesOf series n t) (array n t)
-within-series Series.arrays n t h = within-refl (array n t)
-within-series Series.vectors n t h =
-    subst (λ (s : DataType). SameWithin (vector n) (array n s)) (sym h) (within-vector n)
+within-series = by-series SameWithin within-refl within-vector
 
 pub within-elements : (series : Series) (t : DataType) → IsSeries series t
     → SameWithin t (array (arrayLength t) (element t))
-within-elements series t h =
-    subst (λ (s : DataType). SameWithin s (array (arrayLength s) (element s))) (sym h)
-    (go series (arrayLength t) (element t))
-  where
-    go : (series : Series) (n : ℕ) (t : DataType)
-        → SameWithin (seriesOf series n t) (array (arrayLength (seriesOf series n t)) (element (seriesOf series n t)))
-    go Series.arrays n t = within-refl (array n t)
-    go Series.vectors n t = within-vector n
+within-elements = by-elements SameWithin within-refl within-vector
 
 number-within-path : (ns : List ℕ) (p : Path Offset)
     → PathWithin ns number p → PathOf number (pathBy (boundUnder ns) p)

@@ -7,6 +7,7 @@ use native.Mathlib.Omega.{arith}
 use Rattle.meaning.specs.Types.{DataType, Series, cells, arrayLength, element, seriesOf, number, array, vector}
 use Rattle.meaning.specs.Paths.{Step, Path, headIndex, tail, byPart, index, first, second}
 use Rattle.meaning.specs.Laws.Typing.{IsSeries, MayBeIn}
+use Rattle.meaning.specs.Laws.Series.{by-series, by-elements}
 use Rattle.meaning.specs.Laws.Groups.{group-below, group-injective}
 
 -- a path that leads to a cell of a value of this type
@@ -98,18 +99,10 @@ same-array m {s} {t} h = record {
 
 -- n elements of type t, and the elements of a type, as an array
 pub same-series : (series : Series) (n : ℕ) (t : DataType) → MayBeIn series t → SamePaths (seriesOf series n t) (array n t)
-same-series Series.arrays n t h = same-refl (array n t)
-same-series Series.vectors n t h = subst (λ (s : DataType). SamePaths (vector n) (array n s)) (sym h) (same-vector n)
+same-series = by-series SamePaths same-refl same-vector
 
 pub same-elements : (series : Series) (t : DataType) → IsSeries series t → SamePaths t (array (arrayLength t) (element t))
-same-elements series t h =
-    subst (λ (s : DataType). SamePaths s (array (arrayLength s) (element s))) (sym h)
-    (go series (arrayLength t) (element t))
-  where
-    go : (series : Series) (n : ℕ) (t : DataType)
-        → SamePaths (seriesOf series n t) (array (arrayLength (seriesOf series n t)) (element (seriesOf series n t)))
-    go Series.arrays n t = same-refl (array n t)
-    go Series.vectors n t = same-vector n
+same-elements = by-elements SamePaths same-refl same-vector
 
 -- Paths regrouped: numbers for the offsets of `grouped`, `ungrouped`, `unzipped` and `zippedAt`
 
