@@ -3,8 +3,5 @@
 
 -- The definitions
 pub mod Arithmetic
--- Their laws, and computed examples
-pub mod Laws
-pub mod Rounding
-pub mod Monotone
-pub mod Examples
+
+-- Their laws, and computed examples, stand in proofs/.

@@ -1,4 +1,6 @@
 // Arithmetic on cells, [4.1] to [4.5]: the exact result, made in 64 bits, clamped to 32. Every public function answers every input.
+#![tactic(auto)]
+
 ghost use Rattle.std.specs.Prelude.{◌≡◌, true, ◌≤◌, ◌^◌, pos, nat_abs};
 ghost use Rattle.std.specs.Int.Signed.{lt_z};
 ghost use Rattle.arithmetic.specs.Arithmetic.{clamp, sum, difference, product, negation, nearest_z, quotient, lesser, greater};

@@ -1,103 +1,104 @@
 // The cards of [15.1] and [15.2], executed as a user would, over the public entries: P1 to P10, and those without a name. A card's plan
 // is read from its file. One line a card, and one for each order of a run: its name and its answer.
-ghost use Rattle.io.specs.Counts.{IsPrefixLen};
+#![tactic(auto)]
 
-use libc::STDOUT_FILENO;
+ghost use Rattle.std.specs.Prelude.{◌≡◌, ◌≤◌, length, take};
+
+use files::File;
 use loops::Checked;
 use refusals::{Answer, Refusal};
+use std::io;
+use std::rt::Files;
 
-fn main() {
-    example_and_groups();
-    lengths();
-    divisions();
-    exchange_and_store();
-    sizes_and_minus_zero();
-    run_only();
+fn main(rt: HostRuntime) -> io::Result<()> {
+    example_and_groups(&rt)?;
+    lengths(&rt)?;
+    divisions(&rt)?;
+    exchange_and_store(&rt)?;
+    sizes_and_minus_zero(&rt)?;
+    run_only(&rt)
 }
 
 // P1 [15.1] and P2.
-fn example_and_groups() {
-    translate_card(b"P1", b"P1.plan");
-    run_card(b"P1", b"P1.plan", &mut [4i32, 5, 0, 0], 2, 1);
+fn example_and_groups<R: Files + Print>(rt: &R) -> io::Result<()> {
+    translate_card(rt, "P1", "P1.plan")?;
+    run_card(rt, "P1", "P1.plan", &mut [4i32, 5, 0, 0], 2, 1)?;
     run_card(
-        b"P2",
-        b"P2.plan",
+        rt,
+        "P2",
+        "P2.plan",
         &mut [10i32, 11, 12, 13, 14, 15, 0, 0, 0, 0, 0, 0],
         6,
         3,
-    );
+    )
 }
 
 // P3 and P4.
-fn lengths() {
-    check_card(b"P3", b"P3.plan");
-    check_card(b"P4, idx,1", b"P4-idx-1.plan");
-    check_card(b"P4, idx,2", b"P4-idx-2.plan");
+fn lengths<R: Files + Print>(rt: &R) -> io::Result<()> {
+    check_card(rt, "P3", "P3.plan")?;
+    check_card(rt, "P4, idx,1", "P4-idx-1.plan")?;
+    check_card(rt, "P4, idx,2", "P4-idx-2.plan")
 }
 
 // P5 and P6.
-fn divisions() {
-    run_card(b"P5, by 2", b"P5-by-2.plan", &mut [0i32], 0, 1);
-    run_card(b"P5, by 0", b"P5-by-0.plan", &mut [0i32], 0, 1);
-    run_card(b"P6", b"P6.plan", &mut [0i32], 0, 1);
+fn divisions<R: Files + Print>(rt: &R) -> io::Result<()> {
+    run_card(rt, "P5, by 2", "P5-by-2.plan", &mut [0i32], 0, 1)?;
+    run_card(rt, "P5, by 0", "P5-by-0.plan", &mut [0i32], 0, 1)?;
+    run_card(rt, "P6", "P6.plan", &mut [0i32], 0, 1)
 }
 
 // P7 and P8.
-fn exchange_and_store() {
-    run_card(b"P7", b"P7.plan", &mut [0i32, 0, 0, 0, 0, 0, 0], 1, 2);
-    run_card(b"P8, store 4", b"P1.plan", &mut [4i32, 5, 0, 0], 2, 1);
-    run_card(b"P8, store 3", b"P1.plan", &mut [4i32, 5, 0], 2, 1);
+fn exchange_and_store<R: Files + Print>(rt: &R) -> io::Result<()> {
+    run_card(rt, "P7", "P7.plan", &mut [0i32, 0, 0, 0, 0, 0, 0], 1, 2)?;
+    run_card(rt, "P8, store 4", "P1.plan", &mut [4i32, 5, 0, 0], 2, 1)?;
+    run_card(rt, "P8, store 3", "P1.plan", &mut [4i32, 5, 0], 2, 1)
 }
 
 // P9 and P10.
-fn sizes_and_minus_zero() {
-    check_card(b"P9, 64 x 64", b"P9-64.plan");
-    check_card(b"P9, 65 x 64", b"P9-65.plan");
-    check_card(b"P10", b"P10.plan");
+fn sizes_and_minus_zero<R: Files + Print>(rt: &R) -> io::Result<()> {
+    check_card(rt, "P9, 64 x 64", "P9-64.plan")?;
+    check_card(rt, "P9, 65 x 64", "P9-65.plan")?;
+    check_card(rt, "P10", "P10.plan")
 }
 
 // The cards without a name.
-fn run_only() {
-    check_card(b"empty text", b"empty.plan");
-    check_card(b"257 lines", b"257-lines.plan");
-    check_card(b"arr,4097", b"arr-4097.plan");
-    check_card(b"zip of 3 and 4", b"zip-3-4.plan");
-    check_card(b"9 levels", b"9-levels.plan");
+fn run_only<R: Files + Print>(rt: &R) -> io::Result<()> {
+    check_card(rt, "empty text", "empty.plan")?;
+    check_card(rt, "257 lines", "257-lines.plan")?;
+    check_card(rt, "arr,4097", "arr-4097.plan")?;
+    check_card(rt, "zip of 3 and 4", "zip-3-4.plan")?;
+    check_card(rt, "9 levels", "9-levels.plan")
 }
 
 // The bytes of a plan's file; none where it cannot be opened.
-fn read_plan(path: &[u8], text: &mut [u8; 4097]) -> usize
-    ensures { IsPrefixLen result text.new }
+fn read_plan<R: Files>(rt: &R, path: &str, text: &mut [u8; 4097]) -> usize
+    ensures { (result ≤ length text.new) × (result ≡ length (take result text.new)) }
 {
-    let file = os::open_read(path);
-    if file < 0 {
-        return 0;
+    let file = files::read(rt, path, text);
+    match file {
+        File::Read(bytes) => bytes,
+        File::NotOpened => 0,
     }
-    let size = io::read_full(file, text);
-    libc::close(file);
-    size
 }
 
 // The check of a plan.
-fn check_card(name: &[u8], path: &[u8]) {
+fn check_card<R: Files + Print>(rt: &R, name: &str, path: &str) -> io::Result<()> {
     let mut plan = [0u8; 4097];
-    let size = read_plan(path, &mut plan);
+    let size = read_plan(rt, path, &mut plan);
     let checked = plans::check_text(&plan[..size]);
-    io::write_all(STDOUT_FILENO, name);
+    print!(rt; "{name}")?;
     match checked {
-        Answer::Told(_) => {
-            io::write_all(STDOUT_FILENO, b": passes\n");
-        }
-        Answer::Refused(refusal) => refuse(refusal),
+        Answer::Told(_) => println!(rt; ": passes"),
+        Answer::Refused(refusal) => refuse(rt, refusal),
     }
 }
 
 // The bytes of the loops' text made from a plan's file; none where the plan is refused.
-fn make_loops(path: &[u8], text: &mut [u8; 65536]) -> usize
-    ensures { IsPrefixLen result text.new }
+fn make_loops<R: Files>(rt: &R, path: &str, text: &mut [u8; 65536]) -> usize
+    ensures { (result ≤ length text.new) × (result ≡ length (take result text.new)) }
 {
     let mut plan = [0u8; 4097];
-    let size = read_plan(path, &mut plan);
+    let size = read_plan(rt, path, &mut plan);
     let made = translate::translate_text(&plan[..size], text);
     match made {
         Answer::Told(bytes) => front(text, bytes),
@@ -107,7 +108,7 @@ fn make_loops(path: &[u8], text: &mut [u8; 65536]) -> usize
 
 // So many bytes of a text, or as many as there are.
 fn front(text: &[u8], bytes: usize) -> usize
-    ensures { IsPrefixLen result text.now }
+    ensures { (result ≤ length text.now) × (result ≡ length (take result text.now)) }
 {
     if bytes < text.len() {
         return bytes;
@@ -116,87 +117,83 @@ fn front(text: &[u8], bytes: usize) -> usize
 }
 
 // The loops made from a plan: their lines, writes and need.
-fn translate_card(name: &[u8], path: &[u8]) {
+fn translate_card<R: Files + Print>(rt: &R, name: &str, path: &str) -> io::Result<()> {
     let mut text = [0u8; 65536];
-    let size = make_loops(path, &mut text);
-    io::write_all(STDOUT_FILENO, name);
-    show_loops(&text[..size]);
+    let size = make_loops(rt, path, &mut text);
+    print!(rt; "{name}")?;
+    show_loops(rt, &text[..size])
 }
 
 // What is counted of loops.
-fn show_loops(text: &[u8]) {
+fn show_loops<P: Print>(rt: &P, text: &[u8]) -> io::Result<()> {
     let mut kinds = [0u8; 4096];
     let mut numbers = [0i32; 4096];
     let read = loops::read_text(text, &mut kinds, &mut numbers);
     match read {
-        Answer::Told(rows) => print_count(b": lines,", rows as u64),
-        Answer::Refused(refusal) => refuse(refusal),
+        Answer::Told(rows) => print!(rt; ": lines,{rows}")?,
+        Answer::Refused(refusal) => refuse(rt, refusal)?,
     }
     let checked = loops::check_text(text);
     match checked {
-        Checked::Passes { writes, need } => {
-            print_count(b" writes,", writes as u64);
-            print_count(b" need,", need as u64);
-            io::write_all(STDOUT_FILENO, b"\n");
-        }
-        Checked::Refused(refusal) => refuse(refusal),
+        Checked::Passes { writes, need } => println!(rt; " writes,{writes} need,{need}"),
+        Checked::Refused(refusal) => refuse(rt, refusal),
     }
 }
 
 // The runs of the loops made from a plan, in each order, one after the other on one store; the output is so many cells from the
 // first.
-fn run_card(name: &[u8], path: &[u8], store: &mut [i32], first: usize, count: usize) {
+fn run_card<R: Files + Print>(
+    rt: &R,
+    name: &str,
+    path: &str,
+    store: &mut [i32],
+    first: usize,
+    count: usize,
+) -> io::Result<()> {
     let mut text = [0u8; 65536];
-    let size = make_loops(path, &mut text);
-    run_order(name, &text[..size], 0, store, first, count);
-    run_order(name, &text[..size], 1, store, first, count);
-    run_order(name, &text[..size], 2, store, first, count);
+    let size = make_loops(rt, path, &mut text);
+    run_order(rt, name, &text[..size], 0, store, first, count)?;
+    run_order(rt, name, &text[..size], 1, store, first, count)?;
+    run_order(rt, name, &text[..size], 2, store, first, count)
 }
 
 // The run in one order.
-fn run_order(name: &[u8], text: &[u8], order: u32, store: &mut [i32], first: usize, count: usize) {
+fn run_order<P: Print>(
+    rt: &P,
+    name: &str,
+    text: &[u8],
+    order: u32,
+    store: &mut [i32],
+    first: usize,
+    count: usize,
+) -> io::Result<()> {
     let mut none = [0u8; 0];
     let ran = run::run_text(text, order, store, &mut none);
-    io::write_all(STDOUT_FILENO, name);
-    print_count(b", order ", order as u64);
+    print!(rt; "{name}, order {order}")?;
     match ran {
-        Answer::Told(writes) => show_run(store, first, count, writes),
-        Answer::Refused(refusal) => refuse(refusal),
+        Answer::Told(writes) => show_run(rt, store, first, count, writes),
+        Answer::Refused(refusal) => refuse(rt, refusal),
     }
 }
 
 // The output cells and the writes.
-fn show_run(store: &[i32], first: usize, count: usize, writes: usize) {
-    io::write_all(STDOUT_FILENO, b":");
-    let mut cell = first;
-    while cell < store.len() {
-        if cell - first < count {
-            print_number(store[cell]);
-        }
-        cell += 1;
+fn show_run<P: Print>(
+    rt: &P,
+    store: &[i32],
+    first: usize,
+    count: usize,
+    writes: usize,
+) -> io::Result<()> {
+    print!(rt; ":")?;
+    for number in store.iter().skip(first).take(count) {
+        print!(rt; " {number}")?;
     }
-    print_count(b" writes,", writes as u64);
-    io::write_all(STDOUT_FILENO, b"\n");
-}
-
-// A blank and a number.
-fn print_number(number: i32) {
-    let mut text = *b"           ";
-    numerals::put(number, &mut text, 0);
-    io::write_all(STDOUT_FILENO, b" ");
-    let size = front(&text, numerals::size(number));
-    io::write_all(STDOUT_FILENO, &text[..size]);
-}
-
-// A count behind what it counts.
-fn print_count(of: &[u8], count: u64) {
-    io::write_all(STDOUT_FILENO, of);
-    io::print_decimal(STDOUT_FILENO, count);
+    println!(rt; " writes,{writes}")
 }
 
 // The rest of a refused card's line.
-fn refuse(refusal: Refusal) {
-    print_count(b": no,", refusals::number(refusal) as u64);
-    print_count(b",", refusals::line(refusal) as u64);
-    io::write_all(STDOUT_FILENO, b"\n");
+fn refuse<P: Print>(rt: &P, refusal: Refusal) -> io::Result<()> {
+    let number = refusals::number(refusal);
+    let line = refusals::line(refusal);
+    println!(rt; ": no,{number},{line}")
 }

@@ -1,9 +1,9 @@
 -- What each clause makes: the nodes put, the rows put, and where the translation then stands. T and U are the table of
 -- references before and after. Definitions only; assumes nothing.
 use Rattle.std.specs.Prelude.{◌≡◌, Bool, true, cond, List, ℕ, ◌+◌, ◌-◌, eqb, pos, get_or, set}
-use Rattle.words.specs.Kinds.{word_in_holds, word_var, word_lit, word_mappar, word_zip, word_pair, word_split, word_join}
+use Rattle.words.specs.Kinds.{word_kind_in, word_var, word_lit, word_mappar, word_zip, word_pair, word_split, word_join}
 use Rattle.words.specs.Kinds.{word_fst, word_snd, word_idx, word_seq, word_for, word_par, word_new, word_loc, word_ctr}
-use Rattle.words.specs.Kinds.{word_asvec, word_asscal, word_mapvec, word_at_holds, word_lanes}
+use Rattle.words.specs.Kinds.{word_asvec, word_asscal, word_mapvec, word_kind_at, word_lanes}
 use Rattle.words.specs.Groups.{is_map}
 use Rattle.meaning.specs.Types.{DataType, is_number, cells, array_length, element}
 use Rattle.meaning.specs.Expressions.{Expression, Acceptor}
@@ -24,7 +24,7 @@ region_node k = cond (is_map k) 1 0
 
 -- [18.12] The word of arrays whose node a word of vectors makes: of `asvec`, `asscal` and `at`
 abbrev pub node_kind : ℕ → ℕ
-node_kind k = cond (eqb k word_asvec) word_split (cond (eqb k word_asscal) word_join (cond (eqb k word_at_holds) word_idx k))
+node_kind k = cond (eqb k word_asvec) word_split (cond (eqb k word_asscal) word_join (cond (eqb k word_kind_at) word_idx k))
 
 -- [6.22] The number of a node over one operand of type t: of a `join` the length of a group, [18.13] of an `asscal` the width, else that of
 -- its row
@@ -112,7 +112,7 @@ pub record VariableUsed (T U : List ℕ) (n : ℕ) (s : State) (r : Translated) 
 
 -- [6.12] An input of the type at place t, a variable or a literal, which stands in a row of the plan.
 pub record LeafUsed (T U : List ℕ) (k n t row : ℕ) (s : State) (r : Translated) : Type 0 where
-  pub input : k ≡ word_in_holds → Pushed T U s.len (node_of word_in_holds t n 0 0) × NodeUsed s r
+  pub input : k ≡ word_kind_in → Pushed T U s.len (node_of word_kind_in t n 0 0) × NodeUsed s r
   pub variable : k ≡ word_var → VariableUsed T U n s r
   pub literal : k ≡ word_lit → Pushed T U s.len (node_of word_lit 0 row 0 0) × NodeUsed s r
 

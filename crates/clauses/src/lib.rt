@@ -1,7 +1,9 @@
 // What one word of a term does in the translation, around the calls for its operands. Here are the clauses of using a term
 // ([6.12] to [6.15]): its node over those of its operands, the region of a used map, and where the translation goes on.
+#![tactic(auto)]
+
 ghost use Rattle.std.specs.Prelude.{◌≡◌, ◌+◌, ◌≤◌, ◌<◌, length};
-ghost use Rattle.words.specs.Kinds.{word_in_holds, word_var};
+ghost use Rattle.words.specs.Kinds.{word_kind_in, word_var};
 ghost use Rattle.meaning.specs.Types.{array_length, element as elementType};
 ghost use Rattle.type_table.specs.Table.{type_at, Sound};
 ghost use Rattle.emission.specs.Table.{table};
@@ -19,7 +21,7 @@ pub mod parts;
 
 // Where the translation stands: the counters and regions in force, the nodes that the variables read (innermost last), the nodes made
 // and the rows put.
-#[derive(Drop)]
+#[derive(Clone, Copy)]
 pub struct State {
     pub counters: u16,
     pub regions: u16,
@@ -31,7 +33,7 @@ pub struct State {
 
 // What writing or using a term gives: the rows that it passed, the node that reads what was used, the regions in force, the nodes made and the
 // rows put.
-#[derive(Drop)]
+#[derive(Clone, Copy)]
 pub struct Translated {
     pub rows: usize,
     pub value: usize,
@@ -122,7 +124,7 @@ pub fn leaf(
     state: State,
 ) -> Translated
     requires { (1 ≤ state.len) × (state.len < 1024) × (place < 65536) × (row < 65536) × (length references.old ≡ 1024)
-        × (kind ≡ word_in_holds → number < 65536) × (kind ≡ word_var → number < state.count) × (state.count ≤ 16) × (length state.variables ≡ 16) }
+        × (kind ≡ word_kind_in → number < 65536) × (kind ≡ word_var → number < state.count) × (state.count ≤ 16) × (length state.variables ≡ 16) }
     ensures { LeafUsed references.old references.new kind number place row state result }
 {
     if kind == WORD_VAR {

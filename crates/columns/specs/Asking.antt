@@ -3,17 +3,17 @@ use Rattle.std.specs.Prelude.{Bool, true, false, cond, ◌||◌, List, ℕ, zero
 use Rattle.std.proofs.Math.Option.{Option, none, some}
 use Rattle.refusals.specs.declared.Refusal.{Refusal}
 use Rattle.refusals.specs.declared.Refusal.TheVariants.{OffsetBound}
-use Rattle.words.specs.Kinds.{word_in_holds, word_out, word_loc}
+use Rattle.words.specs.Kinds.{word_kind_in, word_out, word_loc}
 use Rattle.meaning.specs.Runs.{entry}
 use Rattle.syntax.specs.Ranges.{as_natural}
 
 -- the cells of what a place or a reading goes into, m being those of the region that it names
 unfoldable pub cells_by : ℕ → ℕ → ℕ → List ℕ → ℕ → ℕ
-cells_by k n m ins out = cond (eqb k word_in_holds) (entry ins n) (cond (eqb k word_loc) m out)
+cells_by k n m ins out = cond (eqb k word_kind_in) (entry ins n) (cond (eqb k word_loc) m out)
 
 -- a place or a reading
 unfoldable pub is_access : ℕ → Bool
-is_access k = eqb k word_in_holds || eqb k word_loc || eqb k word_out
+is_access k = eqb k word_kind_in || eqb k word_loc || eqb k word_out
 
 -- "no" on a row: it is a place or a reading, and the bound v of its offset is too large
 unfoldable pub no_by : ℕ → ℕ → ℕ → ℕ → List ℕ → ℕ → Bool

@@ -1,5 +1,7 @@
 // Question 9 ([10.9]), the writes ([7.1]) and the need ([7.4]) of loops, from their rows: each column over the rows is filled by one pass,
 // and nothing recurses.
+#![tactic(auto)]
+
 ghost use Rattle.std.specs.Prelude.{◌≡◌, suc, ◌≤◌, length};
 ghost use Rattle.meaning.specs.Layout.{all_cells};
 ghost use Rattle.syntax.specs.Ranges.{cell_numbers};
@@ -20,7 +22,7 @@ pub mod rooms;
 
 // The writes of loops, 16,777,217 standing for every number above 16,777,216, and the cells that they need, 2^48 standing for every greater
 // number; or the first "no" to question 9.
-#[derive(Drop)]
+#[derive(Clone, Copy)]
 pub enum Asked {
     Passed { writes: usize, need: usize },
     Refused(Refusal),

@@ -43,6 +43,7 @@ fn greater(x: usize, y: usize) -> usize
 }
 
 // The room of a command's regions.
+#[tactic(auto, using(std::proofs::lemmas::Bool::Decides::nat_tests), unfolding(crate::specs::Figures::room_by))]
 fn row_room(kind: u8, n: usize, first: usize, second: usize) -> usize
     ensures { result ≡ room_by kind n first second }
 {

@@ -3,7 +3,7 @@
 -- of. Definitions only; assumes nothing.
 use Rattle.std.specs.Prelude.{cond, List, [], ◌∷◌, ◌++◌, ℕ, zero, suc, eqb, ltb, ℤ, pos, get_or}
 use Rattle.arithmetic.specs.Arithmetic.{Operation}
-use Rattle.words.specs.Kinds.{word_in_holds, word_lit, word_neg, word_add, word_sub, word_mul, word_div, word_min, word_out, word_loc}
+use Rattle.words.specs.Kinds.{word_kind_in, word_lit, word_neg, word_add, word_sub, word_mul, word_div, word_min, word_out, word_loc}
 use Rattle.words.specs.Groups.{is_operation}
 use Rattle.meaning.specs.Types.{number}
 use Rattle.meaning.specs.Loops.{Offset}
@@ -37,7 +37,7 @@ module _ {A : Type 0} (nothing : A) (make : ℕ → A → A → A) where
 abbrev pub class_of : ℕ → Class
 class_of k =
     cond (eqb k word_lit) Literal
-    (cond (eqb k word_in_holds) Input
+    (cond (eqb k word_kind_in) Input
     (cond (eqb k word_loc) Region
     (cond (eqb k word_out) Output
     (cond (eqb k word_neg) Negation

@@ -7,7 +7,7 @@ use type_table::{ArrayShape, NUMBER_TYPE, VectorShape};
 use words::kinds::*;
 
 // How many elements there are, the place of their type, and the word of the loop that assigns them.
-#[derive(Drop)]
+#[derive(Clone, Copy)]
 pub enum ElementsShape {
     Elements {
         length: usize,

@@ -1,4 +1,6 @@
 // What the translation of a plan emits: the rows of values, of places and of assignments: [6.3], [6.17] to [6.23].
+#![tactic(auto)]
+
 pub mod assign;
 pub mod elements;
 mod offsets;

@@ -12,7 +12,7 @@ use crate::references::{ZIP_FIRST, ZIP_SECOND, kind_in, number_in};
 use crate::rows::{MOST_ROWS, put_count};
 use words::kinds::*;
 
-#[derive(Drop)]
+#[derive(Clone, Copy)]
 pub enum Change {
     Zip,
     Pair,
@@ -28,7 +28,7 @@ pub enum Change {
 }
 
 // What stands at a step of a path: a part, or an index. An index made of others names the depth of their path.
-#[derive(Drop)]
+#[derive(Clone, Copy)]
 pub enum Found {
     Nothing,
     FirstPart,

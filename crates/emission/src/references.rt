@@ -19,7 +19,7 @@ pub const ZIP_FIRST: u8 = 254;
 pub const ZIP_SECOND: u8 = 255;
 
 // What is done with a node.
-#[derive(Drop)]
+#[derive(Clone, Copy)]
 pub enum Class {
     Literal,
     Input,

@@ -1,11 +1,11 @@
 -- The cards P1 to P10, [15.1] and [15.2], and plans with vectors: lists from the plans' texts, and one proof.
 --
 -- It is computed from the definitions that the contracts of the entries name:
---   typing      checkPlanText: `check_text` of `plans`
---   translate   makeText, planIn, rowsMade; text_of of `lines`: `translate_text`
---   loops       checkLoopsText: `check_text`
---   run         runText: `run_text`
---   refusals    refusalNumber, refusalLine: the number and the line of a refusal
+--   typing      check_plan_text: `check_text` of `plans`
+--   translate   make_text, plan_in, rows_made; text_of of `lines`: `translate_text`
+--   loops       check_loops_text: `check_text`
+--   run         run_text: `run_text`
+--   refusals    refusal_number, refusal_line: the number and the line of a refusal
 -- Where arrays differ in length only, the fact is shown for every length: `split_any_length` (P3), `index_any_length` (P4) and
 -- `cells_any_length` (P9) of `typing`, Theorems.
 use Rattle.std.specs.Prelude.{◌≡◌, refl, cond, List, [], ◌∷◌, ◌++◌, map, ℕ, eqb, ℤ, pos, negsuc, take, drop}

@@ -7,7 +7,7 @@
 --   Questions  which questions an entry asks, in order; with `plan_questions` of `typing`, `made_questions` of `translate`
 --   Runs       the run in which every `par` and every `lanes` [18.10] takes the order named
 --   words      word_at: the word of a row; Search: what a search answers
---   meaning    Plan, Loops and their rows; translation, commandWrites, need; store: cells and bytes as a store; values: value_of
+--   meaning    Plan, Loops and their rows; translation, command_writes, need; store: cells and bytes as a store; values: value_of
 use Rattle.std.specs.Prelude.{false, ◌≡◌, List, [], ◌++◌, map, ℕ, ◌+◌, ◌/◌, ◌%◌, ◌<◌, ℤ, length, drop}
 use Rattle.refusals.specs.declared.Refusal.{Refusal}
 use Rattle.refusals.specs.declared.Answer.{Answer}

@@ -4,10 +4,10 @@
 --
 -- It rests on
 --   meaning    HasType, which is Figure 3 of the paper; translation, which is its sections 4.1 to 4.3; the rows of plans and loops;
---              planWrites, need; TouchesBelow
---   Questions  1 to 6 and 18 at the door; planQuestions of `typing`: of them 8; each limit is said there and nowhere else
+--              plan_writes, need; TouchesBelow
+--   Questions  1 to 6 and 18 at the door; plan_questions of `typing`: of them 8; each limit is said there and nowhere else
 --   Ways       how loops are had from a plan's text; Told: what an entry tells
---   lines      textRows: the rows of a text's lines; text_of: rows as a text
+--   lines      text_rows: the rows of a text's lines; text_of: rows as a text
 use Rattle.std.specs.Prelude.{◌≡◌, List, [], ◌↔◌, ℕ, ◌≤◌, ◌<◌, ℤ, length}
 use Rattle.refusals.specs.declared.Answer.{Answer}
 use Rattle.words.specs.Kinds.{Row, rows_of}

@@ -4,10 +4,10 @@
 -- It rests on
 --   Demand2    PlanAccepted: the one plan whose rows the text's lines are; Ways: how loops are had from the text
 --   Runs       IsRun: every run; Permutes: an arbiter that names, at each visit of each `par` and each `lanes` [18.10], each round once;
---              runNamed: the run that takes what it names
---   meaning    planValue: the value, read from the plan's formulas alone; Outcome: what a run must have come to; Shaped; translation,
---              planWrites, need; and what those are made of
---   mixing     MixingOf: the mixings of the steps of loops; afterMixing: what the steps of one come to
+--              run_named: the run that takes what it names
+--   meaning    plan_value: the value, read from the plan's formulas alone; Outcome: what a run must have come to; Shaped; translation,
+--              plan_writes, need; and what those are made of
+--   mixing     MixingOf: the mixings of the steps of loops; after_mixing: what the steps of one come to
 --   Told       what an entry tells; store: cells and bytes as a store; programs: the lines that the runner prints
 use Rattle.std.specs.Prelude.{◌≡◌, List, [], map, ℕ, ◌≤◌, ℤ, length, take}
 use Rattle.refusals.specs.declared.Answer.{Answer}

@@ -2,8 +2,8 @@
 -- are the same. Definitions only; `Theorems` has the proof.
 --
 -- It rests on
---   meaning    loopsAsPar: the loops with `par` for every `lanes`; need
---   Runs       runNamed: the run that takes the order that an arbiter names at each visit
+--   meaning    loops_as_par: the loops with `par` for every `lanes`; need
+--   Runs       run_named: the run that takes the order that an arbiter names at each visit
 --   mixing     MixingOf: the mixings of the steps of loops
 use Rattle.std.specs.Prelude.{◌≡◌, ◌↔◌, List, ℤ}
 use Rattle.meaning.specs.Loops.{Loops}

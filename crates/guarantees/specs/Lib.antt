@@ -16,10 +16,7 @@ pub mod Mixings
 pub mod Lanes
 pub mod Twins
 pub mod Demands
--- Laws, and what is proved
-pub mod Laws
-pub mod Theorems
 -- The cards P1 to P10, computed
 pub mod Cards
--- Computed tests of the translation, clause by clause, and of the value and the runs
-pub mod Tests
+
+-- What is proved, its laws, and computed tests of the translation, the value and the runs stand in proofs/.

@@ -2,9 +2,9 @@
 -- those of a plan, [9.14], is in Demand3.
 --
 -- It rests on
---   mixing     MixingOf: the mixings of the steps of loops; afterMixing: what the steps of one come to; workOf, Done: what cores can do;
+--   mixing     MixingOf: the mixings of the steps of loops; after_mixing: what the steps of one come to; work_of, Done: what cores can do;
 --              WithoutRaces: what one round of a `par` or `lanes` [18.10] writes, no other round of the same visit reads or writes
---   Runs       IsRun: every run; runInOrder: the run in an order that is named
+--   Runs       IsRun: every run; run_in_order: the run in an order that is named
 use Rattle.std.specs.Prelude.{◌≡◌, ◌↔◌, List, ℤ}
 use Rattle.meaning.specs.Numbers.{clamped32}
 use Rattle.meaning.specs.Loops.{Loops}

@@ -5,8 +5,8 @@
 --
 -- Each field from `check_plan_holds` on begins with the contract of one twin, which is proved of its code for every input and has no `requires`. It
 -- rests on
---   Questions  wordsQuestions: 16 and 17, in order
---   own_words  isWordsText: what a words text is; own_words: its own words
+--   Questions  words_questions: 16 and 17, in order
+--   own_words  is_words_text: what a words text is; own_words: its own words
 --   words      Good: which tables of words the demands hold for
 --   Told       number and line of a refusal, as told by an entry, and to C; Answers: the form of the programs' answers
 --   Demand1    what is lent, as it was, or as left; and what the contract of each entry promises

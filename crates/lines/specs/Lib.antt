@@ -4,7 +4,5 @@
 pub mod Reading
 pub mod Lent
 pub mod Printing
--- What the contracts of parts say besides
--- Their laws
-pub mod Laws
-pub mod TableLaws
+
+-- Their laws stand in proofs/.

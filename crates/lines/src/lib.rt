@@ -1,4 +1,6 @@
 // Texts and rows: a text is read into kinds and numbers ([1.8]), and rows are printed as a text ([1.9]).
+#![tactic(auto)]
+
 ghost use Rattle.std.specs.Prelude.{◌≡◌, length};
 ghost use Rattle.refusals.specs.declared.Answer.TheVariants.{Told};
 ghost use Rattle.words.specs.Kinds.{rows_of};
@@ -16,21 +18,21 @@ mod printer;
 mod reader;
 
 // What stands before a line's comma: a word of the table ([1.3]), or in the values file the number of a cell ([11.3]).
-#[derive(Drop)]
+#[derive(Clone, Copy)]
 pub enum Heads {
     Words,
     Cells,
 }
 
 // [1.2] What a line is: a row of a kind, or of a cell, and a number; or nothing well written.
-#[derive(Drop)]
+#[derive(Clone, Copy)]
 pub enum Line {
     IsRow { kind: usize, number: i32 },
     NoRow,
 }
 
 // [10.1], [10.3] The most bytes and lines that a text may have.
-#[derive(Drop)]
+#[derive(Clone, Copy)]
 pub struct Limits {
     pub bytes: usize,
     pub lines: usize,

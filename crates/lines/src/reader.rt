@@ -11,7 +11,7 @@ use refusals::{Answer, Refusal};
 use words::{Found, Table};
 
 // A line, and where the next one begins.
-#[derive(Drop)]
+#[derive(Clone, Copy)]
 pub struct Next {
     pub line: Line,
     pub after: usize,

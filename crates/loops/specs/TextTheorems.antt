@@ -15,7 +15,7 @@ use Rattle.lines.specs.Reading.{reading, head_of, loops_limits}
 use Rattle.lines.specs.Lent.{text_rows, ask_room}
 use Rattle.lines.specs.Printing.{text_of}
 use Rattle.lines.specs.Printing.{Each, Printable}
-use Rattle.lines.specs.Laws.{rows_back, reads_back, rows_read}
+use Rattle.lines.proofs.Laws.{rows_back, reads_back, rows_read}
 use Rattle.lines.specs.declared.Heads.TheVariants.{Words}
 use Rattle.meaning.specs.Types.{DataType}
 use Rattle.meaning.specs.Terms.{Plan}
@@ -28,7 +28,7 @@ use Rattle.meaning.specs.Rows.{plan_rows, loops_rows}
 use Rattle.meaning.specs.Counts.{plan_writes}
 use Rattle.meaning.specs.Limits.{lanes_apart, LoopsWithin, PlanWithin, TouchesBelow}
 use Rattle.meaning.specs.Translation.{translation}
-use Rattle.meaning.specs.Theorems.{own_loops_within}
+use Rattle.meaning.proofs.Theorems.{own_loops_within}
 use Rattle.loops.specs.declared.Checked.{Checked}
 use Rattle.loops.specs.declared.Checked.TheVariants.{Passes, Refused}
 use Rattle.loops.specs.Check.{need_of, check_loops_rows, after_answer, check_loops_text}

@@ -21,7 +21,7 @@ use Rattle.meaning.specs.Rows.{loops_rows}
 use Rattle.meaning.specs.Counts.{command_writes, plan_writes}
 use Rattle.meaning.specs.Limits.{LoopsPass, LoopsWithin, lanes_apart, PlanWithin, TouchesBelow}
 use Rattle.meaning.specs.Translation.{translation}
-use Rattle.meaning.specs.Theorems.{safe_loops, beyond_need, writes_of_run, own_loops_within, own_loops_pass, own_writes, run_is_choice}
+use Rattle.meaning.proofs.Theorems.{safe_loops, beyond_need, writes_of_run, own_loops_within, own_loops_pass, own_writes, run_is_choice}
 use Rattle.syntax.specs.Walk.{walk_table}
 use Rattle.syntax.specs.Reading.{loops_of}
 use Rattle.syntax.specs.InRange.{LoopsInRange}

@@ -1,5 +1,7 @@
 // The check of loops, whoever wrote them: [10.1] to [10.6], [18.15], [10.9] and [10.11]; the need; and reading loops into a lent table of
 // rows. Where a words text is given, [16.4] and [16.5] come first.
+#![tactic(auto)]
+
 ghost use Rattle.words.specs.Tables.{words_in};
 ghost use Rattle.words.specs.Words.{words};
 ghost use Rattle.std.specs.Prelude.{◌≡◌, ◌≤◌, length};
@@ -16,7 +18,7 @@ use refusals::{Answer, Refusal};
 use words::Table;
 
 // The writes of loops that pass and the cells that they need; or the first "no".
-#[derive(Drop)]
+#[derive(Clone, Copy)]
 pub enum Checked {
     Passes { writes: usize, need: usize },
     Refused(Refusal),

@@ -2,20 +2,20 @@
 -- proof.
 --
 -- It rests on these definitions and on no other of this crate:
---   Types         DataType, cells, the parts of a type, Series, seriesOf
---   Terms         LoopKind, seriesIn, Term, Plan
---   Typing        HasType, which is Figure 3 of the paper; typeOf, by which the translation goes
+--   Types         DataType, cells, the parts of a type, Series, series_of
+--   Terms         LoopKind, series_in, Term, Plan
+--   Typing        HasType, which is Figure 3 of the paper; type_of, by which the translation goes
 --   Numbers       NumberDomain
---   Sequence      up_from, inTurn
+--   Sequence      up_from, in_turn
 --   Values        Datum, value, flatten, and what they are made of
 --   Loops         Offset, Place, Value, Command, Loops
---   Layout        room, where the rooms of a command's parts begin, regionsFrom, need
---   Runs          Order, roundsIn, Environment, State, afterSet, Rounds, Run, RunOf, and what they are made of
---   Paths         Step, Path, headIndex, tail, byPart
+--   Layout        room, where the rooms of a command's parts begin, regions_from, need
+--   Runs          Order, rounds_in, Environment, State, after_set, Rounds, Run, RunOf, and what they are made of
+--   Paths         Step, Path, head_index, tail, by_part
 --   Expressions   Expression, Acceptor
---   Offsets       readAt, writeAt, the counting from 0 innermost, and what they are made of
---   Translation   assign, writeTerm, useTerm, translation
---   Counts        writesInto, writesOnUse, planWrites
+--   Offsets       read_at, write_at, the counting from 0 innermost, and what they are made of
+--   Translation   assign, write_term, use_term, translation
+--   Counts        writes_into, writes_on_use, plan_writes
 -- here: the values that lie in the input cells, and what a run must have come to; of the crate arithmetic: Operation,
 -- and for cells of 32 bits operate and negation; of the library: lists, permutations, whole and natural numbers.
 use Rattle.std.specs.Prelude.{◌≡◌, List, [], ◌∷◌, map, ℕ, ◌+◌, ◌*◌, ◌≤◌, length, take, drop}

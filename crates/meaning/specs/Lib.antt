@@ -24,6 +24,5 @@ pub mod Counts
 pub mod Rows
 pub mod Limits
 pub mod Demand3
--- Their laws, and what is proved
-pub mod Laws
-pub mod Theorems
+
+-- Their laws, and what is proved, stand in proofs/.

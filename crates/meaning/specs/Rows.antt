@@ -2,11 +2,11 @@
 -- [1.6] A number that a word has no use for is 0. Definitions only; assumes nothing.
 use Rattle.std.specs.Prelude.{List, [], ◌∷◌, ◌++◌, ℕ, length, pos}
 use Rattle.arithmetic.specs.Arithmetic.{Operation}
-use Rattle.words.specs.Kinds.{Row, word_plan, word_num, word_arr, word_two, word_in_holds, word_var, word_lit, word_neg}
+use Rattle.words.specs.Kinds.{Row, word_plan, word_num, word_arr, word_two, word_kind_in, word_var, word_lit, word_neg}
 use Rattle.words.specs.Kinds.{word_add, word_sub, word_mul, word_div, word_min, word_max, word_mappar, word_mapseq}
 use Rattle.words.specs.Kinds.{word_redseq, word_zip, word_pair, word_split, word_join, word_fst, word_snd, word_idx}
 use Rattle.words.specs.Kinds.{word_loops, word_cells, word_set, word_seq, word_for, word_par, word_new, word_out}
-use Rattle.words.specs.Kinds.{word_vec, word_asvec, word_asscal, word_mapvec, word_at_holds, word_lanes}
+use Rattle.words.specs.Kinds.{word_vec, word_asvec, word_asscal, word_mapvec, word_kind_at, word_lanes}
 use Rattle.words.specs.Kinds.{word_loc, word_ctr, word_plus, word_times, word_over, word_rest}
 use Rattle.meaning.specs.Types.{DataType, Series, number, array, vector}
 use Rattle.meaning.specs.Terms.{LoopKind, Term, Plan}
@@ -42,7 +42,7 @@ join_word Series.vectors = word_asscal
 
 abbrev pub index_word : Series → ℕ
 index_word Series.arrays = word_idx
-index_word Series.vectors = word_at_holds
+index_word Series.vectors = word_kind_at
 
 -- Plans
 
@@ -53,7 +53,7 @@ type_rows (DataType.pair s t) = (word_two, pos 0) ∷ (type_rows s ++ type_rows 
 type_rows (vector w) = (word_vec, pos w) ∷ []
 
 unfoldable pub term_rows : Term → List Row
-term_rows (Term.input k) = (word_in_holds, pos k) ∷ []
+term_rows (Term.input k) = (word_kind_in, pos k) ∷ []
 term_rows (Term.variable d) = (word_var, pos d) ∷ []
 term_rows (Term.literal v) = (word_lit, v) ∷ []
 term_rows (Term.negate e) = (word_neg, pos 0) ∷ term_rows e
@@ -86,7 +86,7 @@ offset_rows (over n x) = (word_over, pos n) ∷ offset_rows x
 offset_rows (rest n x) = (word_rest, pos n) ∷ offset_rows x
 
 unfoldable pub value_rows : Value → List Row
-value_rows (Value.input k o) = (word_in_holds, pos k) ∷ offset_rows o
+value_rows (Value.input k o) = (word_kind_in, pos k) ∷ offset_rows o
 value_rows (Value.region d o) = (word_loc, pos d) ∷ offset_rows o
 value_rows (Value.literal v) = (word_lit, v) ∷ []
 value_rows (Value.negate v) = (word_neg, pos 0) ∷ value_rows v

@@ -6,8 +6,5 @@
 pub mod Mixing
 pub mod Cores
 pub mod Races
--- Their laws, and what is proved
-pub mod Laws
-pub mod Theorems
--- All mixings of some loops, computed
-pub mod Tests
+
+-- Their laws, what is proved, and all mixings of some loops, computed, stand in proofs/.

@@ -1,18 +1,20 @@
 // [1.4] Numbers as a text writes them, in decimal: read from bytes, and put into bytes.
+#![tactic(auto)]
+
 ghost use Rattle.std.specs.Prelude.{◌≡◌, ◌≤◌, pos, nat_abs, length};
 ghost use Rattle.std.proofs.lemmas.List.Edits.{sets};
 ghost use Rattle.numerals.specs.Numerals.{digit, numeral_of, unsigned, not_below_zero, below_zero, decimal};
 ghost use Rattle.numerals.specs.Magnitudes.{at_most};
 
 // What bytes say: a number, or none that is well written.
-#[derive(Drop)]
+#[derive(Clone, Copy)]
 pub enum Numeral {
     Is(i32),
     Malformed,
 }
 
 // The same without a sign.
-#[derive(Drop)]
+#[derive(Clone, Copy)]
 enum Magnitude {
     Is(u64),
     Malformed,

@@ -5,7 +5,7 @@ use Rattle.std.specs.Float.Ieee.Fits.{and_i, and_l, and_r}
 use Rattle.words.specs.Kinds.{word_lit}
 use Rattle.words.specs.Words.{words, table, same_letters, word_at, compared}
 use Rattle.words.specs.Good.{lower_case, distinct, well_formed, Good}
-use Rattle.words.specs.Laws.{same_equal, compared_few}
+use Rattle.words.proofs.Laws.{same_equal, compared_few}
 use Rattle.words.specs.declared.Search.{Search}
 use Rattle.words.specs.Tables.{words_in}
 use Rattle.texts.specs.Texts.{lines_of, before_comma, after_comma}

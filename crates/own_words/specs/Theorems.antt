@@ -6,7 +6,7 @@ use Rattle.std.specs.Float.Ieee.Fits.{and_i, and_l, and_r}
 use Rattle.words.specs.Kinds.{word_lit}
 use Rattle.words.specs.Words.{words, same_letters, word_at}
 use Rattle.words.specs.Good.{lower_case, distinct, well_formed, Good}
-use Rattle.words.specs.Laws.{same_refl, words_count, words_good, word_formed}
+use Rattle.words.proofs.Laws.{same_refl, words_count, words_good, word_formed}
 use Rattle.texts.specs.Texts.{lines_of, before_comma, after_comma}
 use Rattle.texts.specs.Laws.{Free, free_append, before_cut, after_cut, lines_line, closed_last}
 use Rattle.refusals.specs.declared.Answer.TheVariants.{Told, Refused}

@@ -1,4 +1,6 @@
 // Reads a words text into a table of words: [16.1], [16.2], [16.4] to [16.6]; and searches its own words: [17.3].
+#![tactic(auto)]
+
 ghost use Rattle.std.specs.Prelude.{◌≡◌, true, map, ◌+◌, ◌≤◌, ◌<◌, length, get_or, drop};
 ghost use Rattle.words.specs.Good.{lower_case, distinct};
 ghost use Rattle.words.specs.Tables.{word_in, words_in};
@@ -12,7 +14,7 @@ use words::kinds::{WORD_COUNT, WORD_LIT};
 use words::{Found, Search, Table};
 
 // How a search under a words text ended, or the "no" to that text.
-#[derive(Drop)]
+#[derive(Clone, Copy)]
 pub enum Searched {
     Told(Search),
     Refused(Refusal),

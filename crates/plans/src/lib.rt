@@ -1,4 +1,6 @@
 // The check of a plan: [10.1] to [10.8], and [10.12] where a table of rows is lent; before them [16.4] and [16.5] where a words text is given.
+#![tactic(auto)]
+
 ghost use Rattle.std.specs.Prelude.{◌≡◌, ◌≤◌, length};
 ghost use Rattle.words.specs.Kinds.{rows_of};
 ghost use Rattle.words.specs.Tables.{words_in};

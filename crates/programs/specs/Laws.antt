@@ -1,5 +1,5 @@
 -- What the contracts of the entries give a caller. Assumes nothing.
-use Rattle.std.specs.Prelude.{Bool, true, false, cond, ◌≡◌, refl, List, ◌++◌, ℕ, ◌≤◌, leb, ℤ, length, drop}
+use Rattle.std.specs.Prelude.{Bool, true, false, cond, ◌≡◌, refl, List, ℕ, ◌≤◌, leb, ℤ, length, drop}
 use Rattle.std.proofs.Common.{sym, ap, ◌∙◌, arith, leb-true, length-append}
 use Rattle.refusals.specs.declared.Refusal.TheVariants.{LentSize}
 use Rattle.refusals.specs.declared.Answer.{Answer}

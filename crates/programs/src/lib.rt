@@ -1,5 +1,7 @@
 // [11.9] What the two programs decide: the text that the translator prints for a plan's text, and the text that the runner prints for
 // loops and values; with the built-in words, or under a words text ([16.8]).
+#![tactic(auto)]
+
 ghost use Rattle.std.specs.Prelude.{List, ℤ};
 ghost use Rattle.words.specs.Tables.{words_in};
 ghost use Rattle.words.specs.Words.{words};

@@ -18,7 +18,7 @@ use refusals::{Answer, Refusal};
 use syntax::ranges;
 
 // How many cells the inputs of loops have in all, and how many their output.
-#[derive(Drop)]
+#[derive(Clone, Copy)]
 pub struct Layout {
     pub inputs: usize,
     pub output: usize,

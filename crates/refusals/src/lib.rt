@@ -1,9 +1,11 @@
 // The refusals: one case for each question, [10.1] to [10.15], [16.4], [16.5] and [18.15], that can be answered "no"; and the answer of everything that may refuse.
+#![tactic(auto)]
+
 ghost use Rattle.std.specs.Prelude.{◌≡◌};
 ghost use Rattle.refusals.specs.Refusals.{refusal_number, refusal_line};
 
 // Which question was answered "no"; where its rule gives a line, that line, counted from 1 [1.5].
-#[derive(Drop)]
+#[derive(Clone, Copy)]
 pub enum Refusal {
     TextForm,
     LineForm(usize),
@@ -26,7 +28,7 @@ pub enum Refusal {
 }
 
 // [10.17] A number, or the first question that was answered "no".
-#[derive(Drop)]
+#[derive(Clone, Copy)]
 pub enum Answer {
     Told(usize),
     Refused(Refusal),

@@ -7,7 +7,7 @@ use Rattle.meaning.specs.Terms.{Term}
 use Rattle.meaning.specs.Expressions.{Expression, Acceptor}
 use Rattle.meaning.specs.Translation.{write_term, no_expression}
 use Rattle.meaning.specs.Rows.{term_rows, command_rows}
-use Rattle.meaning.specs.Laws.UseRows.{use_rows, expression_of, regions_opened}
+use Rattle.meaning.proofs.Laws.UseRows.{use_rows, expression_of, regions_opened}
 use Rattle.syntax.specs.Standing.{TermStands, term_kind}
 use Rattle.type_table.specs.Table.{Sound}
 use Rattle.type_table.specs.Columns.{Noted}

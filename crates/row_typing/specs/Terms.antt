@@ -1,7 +1,7 @@
 -- Rows that stand in front, those of a type or of a term, and what it is that their types were found. Definitions only; assumes
 -- nothing.
 use Rattle.std.specs.Prelude.{◌≡◌, cond, List, ◌++◌, ℕ, ◌+◌, ◌-◌, ◌≤◌, ◌<◌, eqb, ℤ, length, get_or, set, drop}
-use Rattle.words.specs.Kinds.{Row, rows_of, word_in_holds, word_var}
+use Rattle.words.specs.Kinds.{Row, rows_of, word_kind_in, word_var}
 use Rattle.meaning.specs.Types.{DataType, number}
 use Rattle.meaning.specs.Terms.{Term}
 use Rattle.meaning.specs.Rows.{type_rows, term_rows}
@@ -85,4 +85,4 @@ pub record SecondTyped (T : List ℕ) (m : ℕ) (C : List ℕ) (row : ℕ) (I Γ
 -- [5.2] The place of the type of `in`, `var` and `lit`
 abbrev pub leaf_place : ℕ → ℕ → Scope → ℕ
 leaf_place k n s =
-    cond (eqb k word_in_holds) (get_or s.inputs n 0) (cond (eqb k word_var) (get_or s.variables (s.count - (n + 1)) 0) 0)
+    cond (eqb k word_kind_in) (get_or s.inputs n 0) (cond (eqb k word_var) (get_or s.variables (s.count - (n + 1)) 0) 0)

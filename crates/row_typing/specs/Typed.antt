@@ -40,7 +40,7 @@ pub record PlanRoom (ks : List ℕ) (ns : List ℤ) (T C : List ℕ) : Type 0 wh
   pub stands : PlanStands ks ns plan
 
 -- `type_plan(kinds, numbers, nodes, types)` answers r: it requires PlanRoom (now kinds) (now numbers) (now nodes) (now types), and
--- ensures this of ks = now kinds.entry, ns = now numbers.entry, T and U = now nodes at entry and exit, C and D = now types so.
+-- ensures this of ks = kinds.now, ns = numbers.now, T and U = now nodes at entry and exit, C and D = now types so.
 pub record PlanAnswered (ks : List ℕ) (ns : List ℤ) (T C U D : List ℕ) (r : TypedPlan) : Type 0 where
   pub no : (P : Plan) (q : Refusal) → PlanStands ks ns P → check_plan P ≡ refused q → r.typing ≡ Refused q
   pub yes : (P : Plan) (t : DataType) → PlanStands ks ns P → check_plan P ≡ typed t

@@ -1,4 +1,6 @@
 // The types of a plan's rows, by recursion over the rows: [10.7] and [10.8].
+#![tactic(auto)]
+
 mod inputs;
 mod terms;
 
@@ -9,7 +11,7 @@ use type_rules::scope::Scope;
 
 // The places of the inputs' types; the term's first row; and the place of its type, its rows and the types that the table has, or the
 // first "no".
-#[derive(Drop)]
+#[derive(Clone, Copy)]
 pub struct TypedPlan {
     pub inputs: [u16; 8],
     pub row: usize,

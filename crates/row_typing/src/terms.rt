@@ -1,6 +1,6 @@
 // The types that rows spell and the types of terms ([5.1]), found by recursion over the rows, operands first ([5.11]).
 ghost use Rattle.std.specs.Prelude.{◌≡◌, List, suc, ◌+◌, ◌-◌, ◌*◌, ◌≤◌, ◌<◌, length};
-ghost use Rattle.words.specs.Kinds.{word_in_holds, word_var};
+ghost use Rattle.words.specs.Kinds.{word_kind_in, word_var};
 ghost use Rattle.meaning.specs.Types.{DataType, number};
 ghost use Rattle.meaning.specs.Terms.{Term};
 ghost use Rattle.meaning.specs.Rows.{type_rows, term_rows};
@@ -84,7 +84,7 @@ fn put_type(column: &mut [u16], row: usize, answer: Typing) -> Typing
 
 // [5.2] The place of the type of `in`, `var` and `lit`.
 fn leaf_place(kind: u8, number: usize, scope: Scope) -> usize
-    requires { (kind ≡ word_in_holds → number < 8) × (kind ≡ word_var → number < scope.count) × (scope.count ≤ 16) }
+    requires { (kind ≡ word_kind_in → number < 8) × (kind ≡ word_var → number < scope.count) × (scope.count ≤ 16) }
     ensures { result ≡ leaf_place kind number scope }
 {
     if kind == WORD_IN {

@@ -13,7 +13,7 @@ use Rattle.meaning.specs.Numbers.{clamped32}
 use Rattle.meaning.specs.Loops.{Loops}
 use Rattle.meaning.specs.Runs.{RunOf}
 use Rattle.meaning.specs.NamedOrders.{always}
-use Rattle.meaning.specs.Theorems.{run_is_choice}
+use Rattle.meaning.proofs.Theorems.{run_is_choice}
 use Rattle.syntax.specs.Reading.{loops_of}
 use Rattle.loops.specs.declared.Checked.{Checked}
 use Rattle.loops.specs.declared.Checked.TheVariants as check

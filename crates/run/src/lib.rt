@@ -1,6 +1,8 @@
 // The entries that run loops: [16.4] and [16.5] where a words text is given, the questions of the check of loops, then [10.13], then
 // [10.14]. A store is lent as cells and bytes,
 // either of which may be empty.
+#![tactic(auto)]
+
 ghost use Rattle.words.specs.Tables.{words_in};
 ghost use Rattle.words.specs.Words.{words};
 ghost use Rattle.std.specs.Prelude.{◌≡◌, ℕ, ◌≤◌, length};

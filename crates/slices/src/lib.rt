@@ -1,4 +1,6 @@
 // Stores into lent slices that answer every place: what would lie past the end is not stored, as `set` of a list has it.
+#![tactic(auto)]
+
 ghost use Rattle.std.specs.Prelude.{◌≡◌, set};
 
 pub fn put_u8(slice: &mut [u8], at: usize, value: u8)

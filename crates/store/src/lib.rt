@@ -1,5 +1,7 @@
 // [9.1] A store lent as two slices, either of which may be empty: first cells, then bytes, four to a cell. Every place is answered:
 // past the end a cell reads as 0, and nothing is put.
+#![tactic(auto)]
+
 ghost use Rattle.std.specs.Prelude.{◌≡◌, pos, length, get_or, set};
 ghost use Rattle.store.specs.Store.{store_of, frame_of};
 

@@ -1,6 +1,6 @@
 -- What is due behind a row, its operands: [1.7], [2.1] to [2.3]. Definitions only; assumes nothing.
 use Rattle.std.specs.Prelude.{Bool, true, false, cond, List, [], ◌∷◌, ℕ, zero, suc, eqb}
-use Rattle.words.specs.Kinds.{word_in_holds, word_set, word_loc}
+use Rattle.words.specs.Kinds.{word_kind_in, word_set, word_loc}
 use Rattle.words.specs.declared.Sort.{Sort}
 use Rattle.words.specs.declared.Sort.TheVariants.{Plan, DataType, Term, Loops, Cells, Command, Place, Value, Offset}
 use Rattle.syntax.specs.declared.names.Names.{Names}
@@ -30,7 +30,7 @@ operand_sort Loops k last = cond last Command Cells
 operand_sort Cells k last = Cells
 operand_sort Command k last = cond (eqb k word_set) (cond last Value Place) Command
 operand_sort Place k last = Offset
-operand_sort Value k last = cond (one_of k (word_in_holds ∷ word_loc ∷ [])) Offset Value
+operand_sort Value k last = cond (one_of k (word_kind_in ∷ word_loc ∷ [])) Offset Value
 operand_sort Offset k last = Offset
 
 abbrev pub due : Sort → Names → Due

@@ -1,7 +1,7 @@
 -- The range of each word's number: [10.5]. Definitions only; assumes nothing.
 use Rattle.std.specs.Prelude.{Bool, true, false, cond, ◌&&◌, List, [], ◌∷◌, map, ℕ, eqb, ltb, leb, ℤ, pos, negsuc}
-use Rattle.words.specs.Kinds.{word_plan, word_arr, word_in_holds, word_var, word_lit, word_split, word_idx, word_loops, word_cells, word_for}
-use Rattle.words.specs.Kinds.{word_par, word_new, word_loc, word_ctr, word_times, word_over, word_rest, word_vec, word_asvec, word_at_holds}
+use Rattle.words.specs.Kinds.{word_plan, word_arr, word_kind_in, word_var, word_lit, word_split, word_idx, word_loops, word_cells, word_for}
+use Rattle.words.specs.Kinds.{word_par, word_new, word_loc, word_ctr, word_times, word_over, word_rest, word_vec, word_asvec, word_kind_at}
 use Rattle.words.specs.Kinds.{word_lanes}
 use Rattle.words.specs.Groups.{one_of}
 use Rattle.words.specs.declared.Sort.{Sort}
@@ -46,8 +46,8 @@ in_range s names k n =
     (cond (one_of k wide) (one_of n widths)
     (cond (one_of k (word_plan ∷ word_loops ∷ [])) (leb n 8)
     (cond (eqb k word_idx) (leb n 4095)
-    (cond (eqb k word_at_holds) (leb n 15)
-    (cond (eqb k word_in_holds) (ltb n names.inputs)
+    (cond (eqb k word_kind_at) (leb n 15)
+    (cond (eqb k word_kind_in) (ltb n names.inputs)
     (cond (eqb k word_var) (ltb n names.variables)
     (cond (eqb k word_ctr) (ltb n names.counters)
     (cond (eqb k word_loc) (ltb n names.regions)

@@ -2,10 +2,10 @@
 -- said by `Theorems`. Definitions only; assumes nothing.
 use Rattle.std.specs.Prelude.{cond, List, [], ◌∷◌, map, ℕ, suc, eqb, ℤ, pos, get_or, take, drop}
 use Rattle.arithmetic.specs.Arithmetic.{Operation}
-use Rattle.words.specs.Kinds.{Row, word_num, word_arr, word_two, word_in_holds, word_var, word_lit, word_neg, word_add, word_sub, word_mul}
+use Rattle.words.specs.Kinds.{Row, word_num, word_arr, word_two, word_kind_in, word_var, word_lit, word_neg, word_add, word_sub, word_mul}
 use Rattle.words.specs.Kinds.{word_div, word_min, word_max, word_mappar, word_mapseq, word_redseq, word_zip, word_pair, word_split}
 use Rattle.words.specs.Kinds.{word_join, word_fst, word_snd, word_idx, word_set, word_seq, word_for, word_par, word_new, word_out, word_loc}
-use Rattle.words.specs.Kinds.{word_ctr, word_plus, word_times, word_over, word_rest, word_vec, word_asvec, word_asscal, word_mapvec, word_at_holds}
+use Rattle.words.specs.Kinds.{word_ctr, word_plus, word_times, word_over, word_rest, word_vec, word_asvec, word_asscal, word_mapvec, word_kind_at}
 use Rattle.words.specs.Kinds.{word_lanes}
 use Rattle.words.specs.Words.{operands_of}
 use Rattle.words.specs.declared.Operands.{Operands}
@@ -63,7 +63,7 @@ plan_part k z S = record {
       ∷ []);
   term =
       choose k (Term.literal (pos 0))
-      ((word_in_holds, Term.input (as_natural z))
+      ((word_kind_in, Term.input (as_natural z))
       ∷ (word_var, Term.variable (as_natural z))
       ∷ (word_lit, Term.literal z)
       ∷ (word_neg, Term.negate (term_behind S 0))
@@ -86,7 +86,7 @@ plan_part k z S = record {
       ∷ (word_asvec, Term.split Series.vectors (as_natural z) (term_behind S 0))
       ∷ (word_asscal, Term.join Series.vectors (term_behind S 0))
       ∷ (word_mapvec, Term.map LoopKind.lanes (term_behind S 0) (term_behind S 1))
-      ∷ (word_at_holds, Term.index Series.vectors (as_natural z) (term_behind S 0))
+      ∷ (word_kind_at, Term.index Series.vectors (as_natural z) (term_behind S 0))
       ∷ []);
 }
 
@@ -145,7 +145,7 @@ loops_part k z S = record {
       ∷ []);
   value =
       choose k empty_loops.value
-      ((word_in_holds, Value.input (as_natural z) (part S 0).offset)
+      ((word_kind_in, Value.input (as_natural z) (part S 0).offset)
       ∷ (word_loc, Value.region (as_natural z) (part S 0).offset)
       ∷ (word_lit, Value.literal z)
       ∷ (word_neg, Value.negate (part S 0).value)

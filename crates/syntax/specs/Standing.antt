@@ -1,7 +1,7 @@
 -- What it is that rows stand at the front of kinds and numbers; a term's first row and its operands. Definitions only;
 -- assumes nothing.
 use Rattle.std.specs.Prelude.{◌≡◌, List, ◌++◌, ℕ, ℤ, pos, length}
-use Rattle.words.specs.Kinds.{Row, rows_of, word_in_holds, word_var, word_lit, word_neg, word_redseq, word_zip, word_pair, word_fst, word_snd}
+use Rattle.words.specs.Kinds.{Row, rows_of, word_kind_in, word_var, word_lit, word_neg, word_redseq, word_zip, word_pair, word_fst, word_snd}
 use Rattle.meaning.specs.Terms.{Term}
 use Rattle.meaning.specs.Rows.{operation_word, map_word, split_word, join_word, index_word, term_rows}
 use Rattle.syntax.specs.Ranges.{as_natural}
@@ -39,7 +39,7 @@ row k n s = record { kind = k; number = n; shape = s }
 
 -- [3.9] A map's body has one variable of its own, [3.10] that of a reduction two.
 abbrev pub view_of : Term → View
-view_of (Term.input k) = row word_in_holds (pos k) none
+view_of (Term.input k) = row word_kind_in (pos k) none
 view_of (Term.variable d) = row word_var (pos d) none
 view_of (Term.literal v) = row word_lit v none
 view_of (Term.negate e) = row word_neg (pos 0) (one e)

@@ -1,5 +1,7 @@
 // The walk over rows in prefix order [1.7] that puts questions 4, 5, 6 and 18 to them, row by row from the top: [10.4] to [10.6], [18.15]. One walk
 // serves plans and loops: what a row is asked depends on what is due.
+#![tactic(auto)]
+
 mod names;
 mod operands;
 pub mod ranges;

@@ -6,7 +6,7 @@ use words::groups::{is_loop, is_map};
 use words::kinds::*;
 
 // How many names of each kind are in force.
-#[derive(Drop)]
+#[derive(Clone, Copy)]
 pub struct Names {
     pub inputs: usize,
     pub variables: usize,

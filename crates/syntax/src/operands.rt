@@ -9,7 +9,7 @@ use words::Sort;
 use words::kinds::*;
 
 // What is due: a row of a sort, and the names in force there.
-#[derive(Drop)]
+#[derive(Clone, Copy)]
 pub struct Due {
     pub sort: Sort,
     pub names: Names,

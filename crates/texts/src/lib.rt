@@ -1,4 +1,6 @@
 // Cutting a text into lines [1.1] and a line into fields [1.2]: a line ends at the next byte 10, a field at the next comma.
+#![tactic(auto)]
+
 ghost use Rattle.std.specs.Prelude.{◌≡◌, ◌≤◌, length};
 ghost use Rattle.texts.specs.Texts.{place_of};
 

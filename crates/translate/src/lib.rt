@@ -1,5 +1,7 @@
 // The translation of a plan's text: [10.1] to [10.8], [10.10], [18.15], [10.11] and [10.12], before them [16.4] and [16.5] where a words text is
 // given, and the loops as rows or as a text. Nothing lent is touched before the last "no" has been ruled out ([10.17]).
+#![tactic(auto)]
+
 ghost use Rattle.words.specs.Tables.{words_in};
 ghost use Rattle.words.specs.Words.{words};
 ghost use Rattle.translate.specs.Promises.{TranslatesRows, TranslatesText, TranslatesRowsIn, TranslatesTextIn};

@@ -1,7 +1,7 @@
 -- Questions 7 and 8, [10.7] and [10.8], on a row whose operands have types, by the row's kind and number; and what it is that the code
 -- found what the check says. Definitions only; assumes nothing.
 use Rattle.std.specs.Prelude.{◌≡◌, Bool, true, cond, ◌&&◌, List, ◌∷◌, ℕ, ◌+◌, ◌*◌, ◌/◌, ◌≤◌, ◌<◌, eqb, length}
-use Rattle.words.specs.Kinds.{word_neg, word_zip, word_pair, word_split, word_join, word_fst, word_snd, word_asvec, word_asscal, word_mapvec, word_at_holds}
+use Rattle.words.specs.Kinds.{word_neg, word_zip, word_pair, word_split, word_join, word_fst, word_snd, word_asvec, word_asscal, word_mapvec, word_kind_at}
 use Rattle.words.specs.Groups.{is_map}
 use Rattle.meaning.specs.Types.{DataType, Series, number, array, array_length, element, first_type, second_type, is_number, series_of}
 use Rattle.type_table.specs.Table.{type_at, Sound}
@@ -44,7 +44,7 @@ unary_rule k n line t =
     (cond (eqb k word_snd) (second_rule line t)
     (cond (eqb k word_asvec) (split_rule Series.vectors n line t)
     (cond (eqb k word_asscal) (join_rule Series.vectors line t)
-    (cond (eqb k word_at_holds) (index_rule Series.vectors n line t)
+    (cond (eqb k word_kind_at) (index_rule Series.vectors n line t)
     (index_rule Series.arrays n line t))))))))
 
 -- [5.6] `zip`: two arrays of one length.

@@ -6,7 +6,8 @@ ghost use Rattle.meaning.specs.Limits.{IsWidth};
 ghost use Rattle.refusals.specs.declared.Refusal.TheVariants.{TypeMisfit};
 ghost use Rattle.type_table.specs.Table.{type_at};
 ghost use Rattle.typing.specs.Check.{sized};
-ghost use Rattle.type_rules.specs.Rules.{Room, Found, negate_rule, split_rule, join_rule, first_rule, second_rule, index_rule, unary_rule, zip_rule, map_rule, operation_rule, binary_rule, reduce_rule};
+ghost use Rattle.type_rules.specs.Rules.{Room, Found, negate_rule, split_rule, join_rule, first_rule, second_rule, index_rule, unary_rule, zip_rule};
+ghost use Rattle.type_rules.specs.Rules.{map_rule, operation_rule, binary_rule, reduce_rule};
 ghost use Rattle.type_rules.specs.declared.Typing.TheVariants.{Typed, Refused};
 
 use crate::{Typing, vectors};

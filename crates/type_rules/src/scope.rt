@@ -12,7 +12,7 @@ use words::groups::is_map;
 use words::kinds::*;
 
 // Places of types: of each input, and of each variable, the innermost last.
-#[derive(Drop)]
+#[derive(Clone, Copy)]
 pub struct Scope {
     pub inputs: [u16; 8],
     pub variables: [u16; 16],
@@ -37,7 +37,7 @@ pub fn with_variable(scope: Scope, place: usize) -> Scope
 }
 
 // [5.11] The names in force in an operand, and whether there is such an operand: a body stands over an array, [18.6] or over a vector.
-#[derive(Drop)]
+#[derive(Clone, Copy)]
 pub struct Opened {
     pub fits: bool,
     pub scope: Scope,

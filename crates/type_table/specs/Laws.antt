@@ -8,7 +8,7 @@ use Rattle.std.proofs.lemmas.List.{get_or_at, take-set-le}
 use Rattle.std.proofs.Math.Seq.{split_at}
 use Rattle.meaning.specs.Types.{DataType, number, array, vector, cells, levels}
 use Rattle.meaning.specs.Limits.{TypeWithin, CellsWithin}
-use Rattle.meaning.specs.Laws.Bounds.{width_is_count}
+use Rattle.meaning.proofs.Laws.Bounds.{width_is_count}
 use Rattle.type_table.specs.Nodes.{node_of, kind_in, levels_in, cells_in, left_in, right_in}
 use Rattle.type_table.specs.Table.{by_kind, node_type, types_from, types_of, type_at, PartsBefore, SoundAt, Sound, Put, ArrayTold, PairTold, VectorTold}
 use Rattle.type_table.specs.declared.ArrayShape.{ArrayShape}

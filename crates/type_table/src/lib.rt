@@ -1,5 +1,7 @@
 // A table of types in lent words, for the check of a plan and for its translation. A type is named by its place; what it
 // is made of stands before it. Beside each type stand its cells and levels, so that nobody counts them again.
+#![tactic(auto)]
+
 ghost use Rattle.std.specs.Prelude.{◌≡◌, true, false, suc, ◌+◌, ◌*◌, ◌≤◌, ◌<◌, max, length};
 ghost use Rattle.meaning.specs.Types.{DataType, number, array as arrayType, vector, is_number, cells as cells_of, levels as levelsOf};
 ghost use Rattle.meaning.specs.Limits.{IsWidth};
@@ -19,21 +21,21 @@ const VECTOR: u64 = 3;
 pub const NUMBER_TYPE: usize = 0;
 
 // An array's length and the place of its element's type.
-#[derive(Drop)]
+#[derive(Clone, Copy)]
 pub enum ArrayShape {
     Array { length: usize, element: usize },
     NoArray,
 }
 
 // The places of a pair's two types.
-#[derive(Drop)]
+#[derive(Clone, Copy)]
 pub enum PairShape {
     Pair { first: usize, second: usize },
     NoPair,
 }
 
 // [18.1] A vector's width.
-#[derive(Drop)]
+#[derive(Clone, Copy)]
 pub enum VectorShape {
     Vector { width: usize },
     NoVector,

@@ -10,8 +10,5 @@ pub mod Lengths
 pub mod Questions
 pub mod TypeQuestions
 pub mod EntryQuestions
--- Laws, and what is proved
-pub mod Laws
-pub mod Theorems
--- Computed examples
-pub mod Examples
+
+-- Their laws, what is proved, and computed examples stand in proofs/.

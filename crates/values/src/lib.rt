@@ -1,4 +1,6 @@
 // The values file of the runner: questions 1, 2, 14 and 15 of [10.16], and each value into its cell ([11.3]).
+#![tactic(auto)]
+
 ghost use Rattle.std.specs.Prelude.{◌≡◌, ◌≤◌, length};
 ghost use Rattle.words.specs.Kinds.{rows_of};
 ghost use Rattle.values.specs.Promises.{FillsStore};

@@ -1,5 +1,7 @@
 // The entries for firmware written in C: [12.1]. Each answers as [12.2] and [12.3] say; slices and stores come as [12.4] says, and
-// nothing is allocated or kept ([12.5]).
+// nothing is allocated or kept ([12.5]). `vazhdumir_c` exports them.
+#![tactic(auto)]
+
 ghost use Rattle.std.specs.Prelude.{◌≤◌, length, ◌≡◌};
 ghost use Rattle.words.specs.Words.{words};
 ghost use Rattle.words.specs.declared.Search.{Search};
@@ -83,48 +85,42 @@ fn searched_code(searched: Searched) -> u64
 }
 
 // Checks a plan's text.
-#[unsafe(no_mangle)]
-pub extern "C" fn vazhdumir_check_plan(text: &[u8]) -> u64
+pub fn vazhdumir_check_plan(text: &[u8]) -> u64
     ensures { ChecksPlanForC words text.now result }
 {
     accepted_code(plans::check_text(text))
 }
 
 // Translates a plan's text; the text of the loops goes to the front of the lent one: how many bytes were put.
-#[unsafe(no_mangle)]
-pub extern "C" fn vazhdumir_translate(text: &[u8], lent: &mut [u8]) -> u64
+pub fn vazhdumir_translate(text: &[u8], lent: &mut [u8]) -> u64
     ensures { TranslatesForC words text.now lent.old result lent.new }
 {
     code(translate::translate_text(text, lent))
 }
 
 // Checks a text of loops: the writes that every run of them makes.
-#[unsafe(no_mangle)]
-pub extern "C" fn vazhdumir_check_loops(text: &[u8]) -> u64
+pub fn vazhdumir_check_loops(text: &[u8]) -> u64
     ensures { ChecksLoopsForC words text.now result }
 {
     checked_code(loops::check_text(text))
 }
 
 // The cells that a text of loops needs.
-#[unsafe(no_mangle)]
-pub extern "C" fn vazhdumir_need(text: &[u8]) -> u64
+pub fn vazhdumir_need(text: &[u8]) -> u64
     ensures { TellsNeedForC words text.now result }
 {
     code(loops::need_text(text))
 }
 
 // Reads a text of loops into a lent table: how many rows were put.
-#[unsafe(no_mangle)]
-pub extern "C" fn vazhdumir_read_loops(text: &[u8], kinds: &mut [u8], numbers: &mut [i32]) -> u64
+pub fn vazhdumir_read_loops(text: &[u8], kinds: &mut [u8], numbers: &mut [i32]) -> u64
     ensures { ReadsLoopsForC words text.now kinds.old numbers.old result kinds.new numbers.new }
 {
     code(loops::read_text(text, kinds, numbers))
 }
 
 // Runs a text of loops on a store in bytes, every `par` in the order named: how many writes were made.
-#[unsafe(no_mangle)]
-pub extern "C" fn vazhdumir_run(text: &[u8], order: u32, bytes: &mut [u8]) -> u64
+pub fn vazhdumir_run(text: &[u8], order: u32, bytes: &mut [u8]) -> u64
     ensures { RunsTextForC words text.now order bytes.old result bytes.new }
 {
     let mut none = [0i32; 0];
@@ -132,13 +128,7 @@ pub extern "C" fn vazhdumir_run(text: &[u8], order: u32, bytes: &mut [u8]) -> u6
 }
 
 // The same of a lent table.
-#[unsafe(no_mangle)]
-pub extern "C" fn vazhdumir_run_rows(
-    kinds: &[u8],
-    numbers: &[i32],
-    order: u32,
-    bytes: &mut [u8],
-) -> u64
+pub fn vazhdumir_run_rows(kinds: &[u8], numbers: &[i32], order: u32, bytes: &mut [u8]) -> u64
     ensures { RunsRowsForC kinds.now numbers.now order bytes.old result bytes.new }
 {
     let mut none = [0i32; 0];
@@ -146,44 +136,38 @@ pub extern "C" fn vazhdumir_run_rows(
 }
 
 // Searches the built-in words for one: how many rows were compared, and 2^16 more where it is listed.
-#[unsafe(no_mangle)]
-pub extern "C" fn vazhdumir_look_up(word: &[u8]) -> u64
+pub fn vazhdumir_look_up(word: &[u8]) -> u64
     ensures { LooksUpForC words word.now result }
 {
     search_code(words::look_up(word))
 }
 
 // [16.7] The twins: each takes a words text, and then what its entry takes.
-#[unsafe(no_mangle)]
-pub extern "C" fn vazhdumir_check_plan_in(words: &[u8], text: &[u8]) -> u64
+pub fn vazhdumir_check_plan_in(words: &[u8], text: &[u8]) -> u64
     ensures { ChecksPlanForCIn words.now text.now result }
 {
     accepted_code(plans::check_text_in(words, text))
 }
 
-#[unsafe(no_mangle)]
-pub extern "C" fn vazhdumir_translate_in(words: &[u8], text: &[u8], lent: &mut [u8]) -> u64
+pub fn vazhdumir_translate_in(words: &[u8], text: &[u8], lent: &mut [u8]) -> u64
     ensures { TranslatesForCIn words.now text.now lent.old result lent.new }
 {
     code(translate::translate_text_in(words, text, lent))
 }
 
-#[unsafe(no_mangle)]
-pub extern "C" fn vazhdumir_check_loops_in(words: &[u8], text: &[u8]) -> u64
+pub fn vazhdumir_check_loops_in(words: &[u8], text: &[u8]) -> u64
     ensures { ChecksLoopsForCIn words.now text.now result }
 {
     checked_code(loops::check_text_in(words, text))
 }
 
-#[unsafe(no_mangle)]
-pub extern "C" fn vazhdumir_need_in(words: &[u8], text: &[u8]) -> u64
+pub fn vazhdumir_need_in(words: &[u8], text: &[u8]) -> u64
     ensures { TellsNeedForCIn words.now text.now result }
 {
     code(loops::need_text_in(words, text))
 }
 
-#[unsafe(no_mangle)]
-pub extern "C" fn vazhdumir_read_loops_in(
+pub fn vazhdumir_read_loops_in(
     words: &[u8],
     text: &[u8],
     kinds: &mut [u8],
@@ -194,16 +178,14 @@ pub extern "C" fn vazhdumir_read_loops_in(
     code(loops::read_text_in(words, text, kinds, numbers))
 }
 
-#[unsafe(no_mangle)]
-pub extern "C" fn vazhdumir_run_in(words: &[u8], text: &[u8], order: u32, bytes: &mut [u8]) -> u64
+pub fn vazhdumir_run_in(words: &[u8], text: &[u8], order: u32, bytes: &mut [u8]) -> u64
     ensures { RunsTextForCIn words.now text.now order bytes.old result bytes.new }
 {
     let mut none = [0i32; 0];
     code(run::run_text_in(words, text, order, &mut none, bytes))
 }
 
-#[unsafe(no_mangle)]
-pub extern "C" fn vazhdumir_look_up_in(words: &[u8], word: &[u8]) -> u64
+pub fn vazhdumir_look_up_in(words: &[u8], word: &[u8]) -> u64
     ensures { LooksUpForCIn words.now word.now result }
 {
     searched_code(own_words::look_up_in(words, word))

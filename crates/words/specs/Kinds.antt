@@ -24,8 +24,8 @@ word_arr = 2
 abbrev pub word_two : ℕ
 word_two = 3
 
-abbrev pub word_in_holds : ℕ
-word_in_holds = 4
+abbrev pub word_kind_in : ℕ
+word_kind_in = 4
 
 abbrev pub word_var : ℕ
 word_var = 5
@@ -139,8 +139,8 @@ word_asscal = 40
 abbrev pub word_mapvec : ℕ
 word_mapvec = 41
 
-abbrev pub word_at_holds : ℕ
-word_at_holds = 42
+abbrev pub word_kind_at : ℕ
+word_kind_at = 42
 
 abbrev pub word_lanes : ℕ
 word_lanes = 43

@@ -11,5 +11,5 @@ pub mod Promises
 -- What the contracts of parts say besides
 pub mod Packed
 pub mod Tables
--- Their laws
-pub mod Laws
+
+-- Their laws stand in proofs/.

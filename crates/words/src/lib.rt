@@ -1,4 +1,6 @@
 // The words of plans and loops: the built-in table, other tables of the same form, and the search for a word in one: [2.1] to [2.3], [1.3], [17.1].
+#![tactic(auto)]
+
 pub mod groups;
 pub mod kinds;
 
@@ -12,7 +14,7 @@ ghost use Rattle.words.specs.Words.{words, word_at, same_letters, look_up, colum
 use crate::kinds::WORD_COUNT;
 
 // [2.1] The sorts of rows.
-#[derive(Drop)]
+#[derive(Clone, Copy)]
 pub enum Sort {
     Plan,
     DataType,
@@ -26,21 +28,21 @@ pub enum Sort {
 }
 
 // Where a word stands in the table.
-#[derive(Drop)]
+#[derive(Clone, Copy)]
 pub enum Found {
     At(usize),
     NotListed,
 }
 
 // What a search down a table answers: where the word stands, and how many rows were compared with it.
-#[derive(Drop)]
+#[derive(Clone, Copy)]
 pub struct Search {
     pub found: Found,
     pub compared: usize,
 }
 
 // How many operands a row has; or its word makes no row of the sort asked for.
-#[derive(Drop)]
+#[derive(Clone, Copy)]
 pub enum Operands {
     Count(usize),
     NotOfSort,

@@ -87,7 +87,8 @@ module _ (Y : List ℕ) (N : List ℤ) (T : List ℕ) (t v q c r : ℕ) (o o' : 
         h
         ∙ ap₂ (λ (E : Expression) (P : Acceptor). put_rows (assign_rows s E P (c + 1) r) o₁)
         (step_read T U len word_ctr c v q B hl hc hv hq Y N refl) (step_written T U len word_ctr c v q B hl hc hv hq Y refl)
-        ∙ ap₂ (λ (d : ℕ) (y : Table). put_rows (assign_rows s (Expression.index (expression_at Y N T v) (Offset.counter c)) (Acceptor.index (acceptor_at Y T q) (Offset.counter c)) d r) y) (add-one c) p
+        ∙ ap₂ (λ (d : ℕ) (y : Table). put_rows
+        (assign_rows s (Expression.index (expression_at Y N T v) (Offset.counter c)) (Acceptor.index (acceptor_at Y T q) (Offset.counter c)) d r) y) (add-one c) p
         ∙ sym (ap (λ (l : List Row). put_rows l o) (its_assignment is (expression_at Y N T v) (acceptor_at Y T q) c r))
 
     pub assign_pair : (U W X : List ℕ) (a b : ℕ) (o₁ o₂ : Table) → type_at Y t ≡ DataType.pair (type_at Y a) (type_at Y b) → o₁ ≡ put_row o (word_seq, pos 0)
@@ -111,7 +112,8 @@ module _ (Y : List ℕ) (N : List ℤ) (T : List ℕ) (t v q c r : ℕ) (o o' : 
         (step_read W X len word_snd 0 v q D hl (omega arith) hv hq Y N refl ∙ ap Expression.second (reads_on T W len v hv G Y N))
         (step_written W X len word_snd 0 v q D hl (omega arith) hv hq Y refl ∙ ap Acceptor.second (writes_on T W len q hq G Y))
         ∙ ap (put_rows (assign_rows (type_at Y b) (Expression.second E) (Acceptor.second P) c r)) first
-        ∙ sym (put_append (assign_rows (type_at Y a) (Expression.first E) (Acceptor.first P) c r) (assign_rows (type_at Y b) (Expression.second E) (Acceptor.second P) c r) (put_row o (word_seq, pos 0)))
+        ∙ sym (put_append (assign_rows (type_at Y a) (Expression.first E) (Acceptor.first P) c r) (assign_rows (type_at Y b) (Expression.second E) (Acceptor.second P) c r)
+        (put_row o (word_seq, pos 0)))
         ∙ sym (ap (λ (u : DataType). put_rows (assign_rows u E P c r) o) is)
 
 -- the nodes below are as they were

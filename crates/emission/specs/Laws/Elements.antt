@@ -10,7 +10,7 @@ use Rattle.meaning.specs.Expressions.{Expression, Acceptor}
 use Rattle.meaning.specs.Translation.{assign}
 use Rattle.meaning.specs.Rows.{command_rows}
 use Rattle.meaning.specs.Limits.{TypeWithin}
-use Rattle.meaning.specs.Laws.Bounds.{length_within, width_is_count}
+use Rattle.meaning.proofs.Laws.Bounds.{length_within, width_is_count}
 use Rattle.type_table.specs.Nodes.{kind_in, left_in, right_in}
 use Rattle.type_table.specs.Table.{by_kind, type_at, Sound}
 use Rattle.type_table.specs.Laws.{type_here}

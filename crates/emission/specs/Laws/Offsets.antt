@@ -10,7 +10,7 @@ use Rattle.meaning.specs.Loops.{Offset, plus, times}
 use Rattle.meaning.specs.Paths.{Path, tail, by_part}
 use Rattle.meaning.specs.Offsets.{leading_index, summands, sum_onto, sum_of}
 use Rattle.meaning.specs.Rows.{offset_rows}
-use Rattle.meaning.specs.Laws.Bounds.{cells_within}
+use Rattle.meaning.proofs.Laws.Bounds.{cells_within}
 use Rattle.type_table.specs.Table.{type_at, types_from, types_of, node_type, Sound}
 use Rattle.emission.specs.Elements.{HasElements}
 use Rattle.emission.specs.Table.{Table, put_row, put_rows}

@@ -2,7 +2,7 @@
 -- nothing.
 use Rattle.std.specs.Prelude.{◌≡◌, refl, [], ◌∷◌, Bool, true, false, cond, ℕ, ◌<◌, pos, drop}
 use Rattle.std.proofs.Common.{ap, sym, ◌∙◌, arith, ne_eqb}
-use Rattle.words.specs.Kinds.{word_in_holds, word_lit, word_neg, word_out, word_loc}
+use Rattle.words.specs.Kinds.{word_kind_in, word_lit, word_neg, word_out, word_loc}
 use Rattle.words.specs.Groups.{is_operation}
 use Rattle.meaning.specs.Loops.{Offset, Place, Value}
 use Rattle.meaning.specs.Paths.{Path, tail, by_part, index, first, second}
@@ -18,12 +18,12 @@ use Rattle.emission.specs.declared.paths.Change.TheVariants.{Zip, Pair, Ungroupe
 use Rattle.emission.specs.declared.references.Class.TheVariants.{Operation, Rearranged}
 
 -- the class of a kind that is none of those named
-module _ (k : ℕ) (a : k ≡ word_lit → ⊥) (b : k ≡ word_in_holds → ⊥) (c : k ≡ word_loc → ⊥) (d : k ≡ word_out → ⊥) (e : k ≡ word_neg → ⊥) where
+module _ (k : ℕ) (a : k ≡ word_lit → ⊥) (b : k ≡ word_kind_in → ⊥) (c : k ≡ word_loc → ⊥) (d : k ≡ word_out → ⊥) (e : k ≡ word_neg → ⊥) where
   pub class_operation : is_operation k ≡ true → Operation ≡ class_of k
-  class_operation h = rw (ne_eqb k word_lit a, ne_eqb k word_in_holds b, ne_eqb k word_loc c, ne_eqb k word_out d, ne_eqb k word_neg e, h) refl
+  class_operation h = rw (ne_eqb k word_lit a, ne_eqb k word_kind_in b, ne_eqb k word_loc c, ne_eqb k word_out d, ne_eqb k word_neg e, h) refl
 
   pub class_other : is_operation k ≡ false → Rearranged ≡ class_of k
-  class_other h = rw (ne_eqb k word_lit a, ne_eqb k word_in_holds b, ne_eqb k word_loc c, ne_eqb k word_out d, ne_eqb k word_neg e, h) refl
+  class_other h = rw (ne_eqb k word_lit a, ne_eqb k word_kind_in b, ne_eqb k word_loc c, ne_eqb k word_out d, ne_eqb k word_neg e, h) refl
 
 -- The node that a path goes on to: of a zip or a pair one of the two; node 0, which stands for nothing, behind what cannot be read,
 -- or written.

@@ -5,9 +5,9 @@ use Rattle.std.proofs.Common.{◌∙◌, subst, arith, add-one, take-take, get_o
 use Prim.Native.Nat.{ℕ, zero, suc, ◌+◌, ◌-◌, ◌<◌, ◌≤◌}
 use Rattle.std.proofs.Math.IntN.{pos}
 use Rattle.std.proofs.lemmas.List.{take-set-le}
-use Rattle.words.specs.Kinds.{Row, word_in_holds, word_lit, word_neg, word_out, word_loc}
+use Rattle.words.specs.Kinds.{Row, word_kind_in, word_lit, word_neg, word_out, word_loc}
 use Rattle.words.specs.Groups.{operations, is_operation}
-use Rattle.words.specs.Laws.{at_member}
+use Rattle.words.proofs.Laws.{at_member}
 use Rattle.meaning.specs.Loops.{Offset}
 use Rattle.meaning.specs.Paths.{Path}
 use Rattle.meaning.specs.Expressions.{Expression}
@@ -75,7 +75,7 @@ its_test false false false false false false h = absurd (let z : 0 ≡ 1 = ap op
 operation_word_holds : (k : ℕ) → class_of k ≡ Operation → operation_word (operation_of k) ≡ k
 operation_word_holds k h =
     at_member (λ w. operation_word (operation_of w) ≡ w) k operations
-    (its_test (eqb k word_lit) (eqb k word_in_holds) (eqb k word_loc) (eqb k word_out) (eqb k word_neg) (is_operation k) h)
+    (its_test (eqb k word_lit) (eqb k word_kind_in) (eqb k word_loc) (eqb k word_out) (eqb k word_neg) (is_operation k) h)
     (refl, (refl, (refl, (refl, (refl, (refl, tt))))))
 
 -- the value of an expression at a path, as rows
@@ -115,7 +115,7 @@ module _ (Y : List ℕ) (N : List ℤ) (c r : ℕ) (T : List ℕ) (v a b : ℕ) 
     unfolding put_rows value_rows
     value_literal e n en h = value_as (Expression.literal (get_or N n (pos 0))) (made_as Literal e ∙ ap (λ (i : ℕ). Expression.literal (get_or N i (pos 0))) (sym en)) h
 
-    pub value_input : g ≡ Input → (n t : ℕ) (o₁ : Table) → n ≡ number_in (get_or T v 0) → t ≡ type_in (get_or T v 0) → o₁ ≡ put_row o (word_in_holds, pos n)
+    pub value_input : g ≡ Input → (n t : ℕ) (o₁ : Table) → n ≡ number_in (get_or T v 0) → t ≡ type_in (get_or T v 0) → o₁ ≡ put_row o (word_kind_in, pos n)
         → o' ≡ put_rows (rows_under c (offset_of (type_at Y t) p)) o₁ → o' ≡ put_rows (value_at c r (expression_at Y N T v) p) o
     unfolding put_rows value_rows
     value_input e n t o₁ en et h l =

@@ -6,7 +6,7 @@ use Rattle.words.specs.Groups.{one_of}
 use Rattle.words.specs.Words.{operands_of, words, table}
 use Rattle.meaning.specs.Layout.{room, need}
 use Rattle.meaning.specs.Rows.{offset_rows, value_rows, place_rows, command_rows}
-use Rattle.meaning.specs.Laws.Computed.{rows}
+use Rattle.meaning.proofs.Laws.Computed.{rows}
 use Rattle.syntax.specs.Ranges.{in_range}
 use Rattle.syntax.specs.Names.{opened_by}
 use Rattle.syntax.specs.Operands.{operand_of, operands_due}

@@ -5,18 +5,18 @@ use mathlib.Core.List.{List, [], ◌∷◌, ◌++◌}
 use Rattle.std.proofs.Common.{inl, inr, arith, SFits}
 use Rattle.std.specs.Int.{w32}
 use Rattle.arithmetic.specs.Arithmetic.{Operation}
-use Rattle.words.specs.Kinds.{Row, word_loops, word_cells, word_set, word_seq, word_new, word_out, word_loc, word_in_holds, word_lit, word_neg, word_ctr, word_plus, word_times, word_over, word_rest}
+use Rattle.words.specs.Kinds.{Row, word_loops, word_cells, word_set, word_seq, word_new, word_out, word_loc, word_kind_in, word_lit, word_neg, word_ctr, word_plus, word_times, word_over, word_rest}
 use Rattle.words.specs.Good.{Good}
 use Rattle.words.specs.Words.{words}
-use Rattle.words.specs.Laws.{words_count}
+use Rattle.words.proofs.Laws.{words_count}
 use Rattle.lines.specs.Printing.{text_of}
 use Rattle.lines.specs.Printing.{Each, Printable}
-use Rattle.lines.specs.Laws.{Ranged, text_size}
+use Rattle.lines.proofs.Laws.{Ranged, text_size}
 use Rattle.meaning.specs.Terms.{LoopKind}
 use Rattle.meaning.specs.Loops.{Offset, Place, Value, Command, Loops, plus, times, over, rest, seq, loop, new}
 use Rattle.meaning.specs.Rows.{operation_word, loop_word, offset_rows, value_rows, place_rows, command_rows, all_cells_rows, loops_rows}
 use Rattle.meaning.specs.Limits.{LoopsWithin}
-use Rattle.meaning.specs.Laws.Bounds.{rounds_are_count}
+use Rattle.meaning.proofs.Laws.Bounds.{rounds_are_count}
 use Rattle.syntax.specs.InRange.{OffsetInRange, PlaceInRange, ValueInRange, CommandInRange, AllCounts}
 use Rattle.loops.specs.Laws.Passing.{within_cells, within_command}
 use Rattle.loops.specs.Laws.Literals.{ValueLiterals, CommandLiterals}
@@ -81,7 +81,7 @@ module _ (K : ℕ) (few : K ≤ 8) where
 
   value_fits : (k r : ℕ) (v : Value) → k ≤ 32 → r ≤ 256 → ValueInRange K k r v → ValueLiterals (SFits w32) v → AllFit (value_rows v)
   unfolding value_rows
-  value_fits k r (Value.input j o) l m h g = one_more word_in_holds j _ (omega (arith, words_count)) (omega (arith, h.0)) (offset_fits k o l h.1)
+  value_fits k r (Value.input j o) l m h g = one_more word_kind_in j _ (omega (arith, words_count)) (omega (arith, h.0)) (offset_fits k o l h.1)
   value_fits k r (Value.region d o) l m h g = one_more word_loc d _ (omega (arith, words_count)) (omega (arith, h.0)) (offset_fits k o l h.1)
   value_fits k r (Value.literal z) l m h g = literal z g
   value_fits k r (Value.negate v) l m h g = one_more word_neg 0 _ (omega (arith, words_count)) (omega arith) (value_fits k r v l m h g)

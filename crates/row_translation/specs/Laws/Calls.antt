@@ -7,7 +7,7 @@ use Rattle.meaning.specs.Types.{DataType}
 use Rattle.meaning.specs.Terms.{Term}
 use Rattle.meaning.specs.Expressions.{Expression, Acceptor}
 use Rattle.meaning.specs.Rows.{term_rows}
-use Rattle.meaning.specs.Laws.UseRows.{regions_opened}
+use Rattle.meaning.proofs.Laws.UseRows.{regions_opened}
 use Rattle.syntax.specs.Standing.{term_kind, operand_count, first_operand, second_operand}
 use Rattle.syntax.proofs.Standing.{its_kind}
 use Rattle.syntax.proofs.Front.{part}

@@ -11,7 +11,7 @@ use Rattle.meaning.specs.Loops.{Offset}
 use Rattle.meaning.specs.Expressions.{Expression, Acceptor}
 use Rattle.meaning.specs.Translation.{write_term}
 use Rattle.meaning.specs.Rows.{command_rows}
-use Rattle.meaning.specs.Laws.UseRows.{use_rows, expression_of, regions_opened, reduce_rows, IsAssigned, write_rows_map}
+use Rattle.meaning.proofs.Laws.UseRows.{use_rows, expression_of, regions_opened, reduce_rows, IsAssigned, write_rows_map}
 use Rattle.syntax.specs.Standing.{term_kind, term_number, operand_count, first_operand, second_operand, third_operand, second_opens}
 use Rattle.syntax.proofs.Standing.{three_operands}
 use Rattle.syntax.proofs.Shapes.{Reduction, as_reduction, Map, as_map, map_opens}
@@ -30,7 +30,8 @@ module _ (I : List DataType) where
     pub opened : regions_opened e ≡ regions_opened (first_operand e)
     pub rows : (Γ : List DataType) (Δ : List Expression) (c r : ℕ) → use_rows I e Γ Δ c r ≡ use_rows I (first_operand e) Γ Δ c r
     pub reads : (Y : List ℕ) (N : List ℤ) (Γ : List DataType) (Δ : List Expression) (r : ℕ) (F : Expression)
-        → read_by (class_of (node_kind (term_kind e))) Y N (node_kind (term_kind e)) 0 (number_over (term_kind e) (term_number e) (type_of I Γ (first_operand e))) (expression_of I (first_operand e) Γ Δ r) F
+        → read_by (class_of (node_kind (term_kind e))) Y N (node_kind (term_kind e)) 0 (number_over (term_kind e) (term_number e) (type_of I Γ (first_operand e)))
+        (expression_of I (first_operand e) Γ Δ r) F
         ≡ expression_of I e Γ Δ r
 
   pub one_operand : (e : Term) → has_one_operand (term_kind e) ≡ true → OneOperand e

@@ -5,13 +5,13 @@ use Rattle.std.proofs.Common.{subst, ◌∙◌, get_or-drop}
 use mathlib.Core.List.{List, [], ◌∷◌}
 use native.Mathlib.Omega.{arith}
 use Rattle.std.proofs.Math.ListN.{get_or}
-use Rattle.words.specs.Kinds.{Row, rows_of, word_in_holds, word_var, word_lit}
+use Rattle.words.specs.Kinds.{Row, rows_of, word_kind_in, word_var, word_lit}
 use Rattle.words.specs.Groups.{is_leaf}
 use Rattle.meaning.specs.Types.{DataType, number}
 use Rattle.meaning.specs.Terms.{Term}
 use Rattle.meaning.specs.Expressions.{Expression}
 use Rattle.meaning.specs.Rows.{term_rows}
-use Rattle.meaning.specs.Laws.UseRows.{use_rows, expression_of, regions_opened}
+use Rattle.meaning.proofs.Laws.UseRows.{use_rows, expression_of, regions_opened}
 use Rattle.syntax.specs.Ranges.{as_natural}
 use Rattle.syntax.specs.Standing.{term_kind, operand_count}
 use Rattle.syntax.proofs.Shapes.{Leaf, as_leaf}
@@ -60,14 +60,14 @@ module _ (Y : List ℕ) (N : List ℤ) (I Γ : List DataType) (Δ : List Express
       → LeafUsed T U k n p row s r → Used Y N I Γ Δ e s T U (table K M s.to) (table K M r.to) r
   unfolding use_rows expression_of term_rows
   by_leaf (Leaf.input j) ks ns C k n p row S ek en ep ew h1 hl hp hw hT L =
-      let f : k ≡ word_in_holds = ek ∙ its_kind ks ns (length I) (length Γ) (Term.input j) S.rows in
+      let f : k ≡ word_kind_in = ek ∙ its_kind ks ns (length I) (length Γ) (Term.input j) S.rows in
       let g : n ≡ j = en ∙ its_number ks ns (length I) (length Γ) (Term.input j) S.rows in
       let t : type_at Y p ≡ get_or I j number = ap (type_at Y) ep ∙ (type_here ks ns C Y N T s I Γ Δ (Term.input j) S).1 in
-      let B : Pushed T U s.len (node_of word_in_holds p n 0 0) × NodeUsed s r = L.input f in
+      let B : Pushed T U s.len (node_of word_kind_in p n 0 0) × NodeUsed s r = L.input f in
       let A : NodeUsed s r = B.1 in
       used_here (Term.input j) refl refl refl A.rows A.regions A.to
       (ap (expression_at Y N U) A.value
-      ∙ pushed_reads T U s.len word_in_holds p n 0 0 B.0 hl hp (omega (arith, g, S.rows.in_range, S.inputs)) (omega arith) (omega arith) Y N
+      ∙ pushed_reads T U s.len word_kind_in p n 0 0 B.0 hl hp (omega (arith, g, S.rows.in_range, S.inputs)) (omega arith) (omega arith) Y N
       ∙ ap₂ Expression.input g t)
       (omega (arith, A.value, A.len)) B.0.grown (omega (arith, A.len)) (omega (arith, A.len))
   by_leaf (Leaf.variable d) ks ns C k n p row S ek en ep ew h1 hl hp hw hT L =

@@ -6,7 +6,7 @@ use Rattle.words.specs.Words.{table, operands_of}
 use Rattle.meaning.specs.Types.{DataType, Series}
 use Rattle.meaning.specs.Terms.{Term}
 use Rattle.meaning.specs.Expressions.{Expression}
-use Rattle.meaning.specs.Laws.Bounds.{width_is_count}
+use Rattle.meaning.proofs.Laws.Bounds.{width_is_count}
 use Rattle.syntax.specs.Ranges.{as_natural}
 use Rattle.syntax.specs.InRange.{TermInRange}
 use Rattle.syntax.specs.Standing.{term_kind, term_number}

@@ -10,7 +10,7 @@ use Rattle.meaning.specs.Loops.{Offset}
 use Rattle.meaning.specs.Expressions.{Expression, Acceptor}
 use Rattle.meaning.specs.Translation.{Write, assign, body_into, round_by_next, write_term}
 use Rattle.meaning.specs.Rows.{term_rows, command_rows}
-use Rattle.meaning.specs.Laws.UseRows.{use_rows, expression_of, regions_opened, reduce_rows}
+use Rattle.meaning.proofs.Laws.UseRows.{use_rows, expression_of, regions_opened, reduce_rows}
 use Rattle.syntax.specs.Standing.{first_operand, second_operand, third_operand}
 use Rattle.syntax.proofs.Standing.{its_kind, rows_of_three}
 use Rattle.syntax.proofs.Front.{part}

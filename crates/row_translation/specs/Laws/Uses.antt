@@ -13,7 +13,7 @@ use Rattle.meaning.specs.Typing.{type_of}
 use Rattle.meaning.specs.Expressions.{Expression, Acceptor}
 use Rattle.meaning.specs.Translation.{write_term}
 use Rattle.meaning.specs.Rows.{command_rows}
-use Rattle.meaning.specs.Laws.UseRows.{use_rows, expression_of, regions_opened}
+use Rattle.meaning.proofs.Laws.UseRows.{use_rows, expression_of, regions_opened}
 use Rattle.syntax.specs.Ranges.{as_natural}
 use Rattle.syntax.specs.Standing.{term_kind, term_number, first_operand, second_operand}
 use Rattle.syntax.proofs.Standing.{its_kind, its_number, rows_of_one, rows_of_two}

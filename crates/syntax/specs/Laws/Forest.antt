@@ -9,7 +9,7 @@ use Rattle.meaning.specs.Types.{DataType}
 use Rattle.meaning.specs.Terms.{Term, Plan}
 use Rattle.meaning.specs.Loops.{Offset, Place, Value, Command, Loops}
 use Rattle.meaning.specs.Limits.{IsCount, IsWidth}
-use Rattle.meaning.specs.Laws.Lanes.{LanesFit}
+use Rattle.meaning.proofs.Laws.Lanes.{LanesFit}
 use Rattle.meaning.specs.Rows.{type_rows, term_rows, plan_rows, offset_rows, value_rows, place_rows, command_rows, loops_rows}
 use Rattle.syntax.specs.declared.names.Names.{Names}
 use Rattle.syntax.specs.declared.operands.Due.{Due}

@@ -1,5 +1,5 @@
 -- The operands of a row of any number: all but the last are alike. And the words of operations and maps. Assumes nothing.
-use Rattle.std.specs.Prelude.{◌≡◌, refl, true, false, List, [], ◌∷◌, ◌++◌, ℕ, zero, suc, ◌+◌}
+use Rattle.std.specs.Prelude.{◌≡◌, refl, true, false, List, [], ◌∷◌, ◌++◌, ℕ, zero, suc}
 use Rattle.std.proofs.Common.{ap, arith, ne_eqb}
 use Rattle.arithmetic.specs.Arithmetic.{Operation}
 use Rattle.words.specs.Groups.{one_of, operations, is_operation, is_map}
@@ -7,7 +7,7 @@ use Rattle.meaning.specs.Terms.{LoopKind}
 use Rattle.meaning.specs.Rows.{operation_word, map_word}
 use Rattle.syntax.specs.declared.operands.Due.{Due}
 use Rattle.syntax.specs.Operands.{operand_of, operands_due}
-use Rattle.words.specs.Laws.{All}
+use Rattle.words.proofs.Laws.{All}
 use Rattle.syntax.specs.Laws.Each.{◌also◌}
 
 unfoldable pub copies : ℕ → Due → List Due

@@ -14,7 +14,7 @@ use Rattle.refusals.specs.declared.Answer.TheVariants.{Told, Refused}
 use Rattle.refusals.specs.Answers.{after}
 use Rattle.words.specs.Kinds.{Row, word_loops, word_cells, word_seq, word_for, word_par, word_new, word_lanes}
 use Rattle.words.specs.Groups.{is_listed, one_of}
-use Rattle.words.specs.Laws.{word_listed}
+use Rattle.words.proofs.Laws.{word_listed}
 use Rattle.words.specs.Words.{operands_of, table}
 use Rattle.words.specs.declared.Operands.TheVariants.{Count}
 use Rattle.words.specs.declared.Sort.TheVariants as sort

@@ -5,7 +5,7 @@ use Rattle.refusals.specs.declared.Refusal.{Refusal}
 use Rattle.refusals.specs.declared.Refusal.TheVariants.{LineForm}
 use Rattle.words.specs.Kinds.{Row}
 use Rattle.words.specs.Groups.{is_listed}
-use Rattle.words.specs.Laws.{word_listed}
+use Rattle.words.proofs.Laws.{word_listed}
 use Rattle.refusals.specs.declared.Answer.{Answer}
 use Rattle.refusals.specs.declared.Answer.TheVariants.{Told, Refused}
 use Rattle.words.specs.declared.Sort.{Sort}

@@ -3,7 +3,7 @@ use Rattle.std.specs.Prelude.{◌≡◌, true, ◌&&◌, List, [], ◌∷◌, �
 use Rattle.std.proofs.Math.Path.{refl}
 use Rattle.std.proofs.Common.{sym, ap, ◌∙◌, subst, arith}
 use Rattle.arithmetic.specs.Arithmetic.{Operation}
-use Rattle.words.specs.Kinds.{Row, word_in_holds, word_lit, word_neg, word_add, word_sub, word_mul, word_div, word_min, word_max, word_loops}
+use Rattle.words.specs.Kinds.{Row, word_kind_in, word_lit, word_neg, word_add, word_sub, word_mul, word_div, word_min, word_max, word_loops}
 use Rattle.words.specs.Kinds.{word_cells, word_set, word_seq, word_for, word_par, word_new, word_out, word_loc, word_ctr, word_plus}
 use Rattle.words.specs.Kinds.{word_times, word_over, word_rest, word_lanes}
 use Rattle.words.specs.Words.{table}
@@ -11,7 +11,7 @@ use Rattle.words.specs.declared.Sort.TheVariants as sort
 use Rattle.meaning.specs.Terms.{LoopKind}
 use Rattle.meaning.specs.Loops.{Offset, Place, Value, Command, Loops, plus, times, over, rest, seq, loop, new}
 use Rattle.meaning.specs.Limits.{IsCount, RoundsInRange}
-use Rattle.meaning.specs.Laws.Lanes.{lanes_around, LanesFit, lanes_apart_holds}
+use Rattle.meaning.proofs.Laws.Lanes.{lanes_around, LanesFit, lanes_apart_holds}
 use Rattle.meaning.specs.Rows.{offset_rows, value_rows, place_rows, command_rows, all_cells_rows, loops_rows}
 use Rattle.syntax.specs.declared.names.Names.{Names}
 use Rattle.syntax.specs.declared.operands.Due.{Due}
@@ -83,7 +83,7 @@ module _ (N : Names) (few : N.inputs ≤ 8) where
       (λ z a r f p.
       let n = position z N.inputs (omega arith) r in
       let t = one O a p in
-      (Value.input (as_natural z) t.0, (n.1, t.1), headed word_in_holds n.0 t.2))
+      (Value.input (as_natural z) t.0, (n.1, t.1), headed word_kind_in n.0 t.2))
       also (λ z a r f p. (Value.literal z, tt, headed word_lit refl p))
       also (λ z a r f p. let t = one W a p in (Value.negate t.0, t.1, headed word_neg (nought z r) t.2))
       also (λ z a r f p. value_operation Operation.addition word_add z a (λ v w. refl) r p)

@@ -6,9 +6,8 @@ use Rattle.refusals.specs.declared.Answer.TheVariants.{Told}
 use Rattle.words.specs.Words.{table}
 use Rattle.words.specs.declared.Sort.{Sort}
 use Rattle.words.specs.declared.Sort.TheVariants as sort
-use Rattle.meaning.specs.Types.{DataType}
-use Rattle.meaning.specs.Terms.{Term, Plan}
-use Rattle.meaning.specs.Loops.{Offset, Place, Value, Command, Loops}
+use Rattle.meaning.specs.Terms.{Plan}
+use Rattle.meaning.specs.Loops.{Loops}
 use Rattle.meaning.specs.Rows.{plan_rows, loops_rows}
 use Rattle.syntax.specs.declared.names.Names.{Names}
 use Rattle.syntax.specs.declared.operands.Due.{Due}

@@ -5,7 +5,7 @@ use mathlib.Core.List.{List, [], ◌∷◌, ◌++◌}
 use Rattle.std.proofs.Common.{arith, lt-ltb, le-leb}
 use Rattle.std.proofs.Math.IntN.{pos}
 use Rattle.arithmetic.specs.Arithmetic.{Operation}
-use Rattle.words.specs.Kinds.{Row, word_in_holds, word_lit, word_neg, word_add, word_sub, word_mul, word_div, word_min, word_max, word_loops}
+use Rattle.words.specs.Kinds.{Row, word_kind_in, word_lit, word_neg, word_add, word_sub, word_mul, word_div, word_min, word_max, word_loops}
 use Rattle.words.specs.Kinds.{word_cells, word_set, word_seq, word_for, word_par, word_new, word_out, word_loc, word_ctr, word_plus}
 use Rattle.words.specs.Kinds.{word_times, word_over, word_rest, word_lanes}
 use Rattle.words.specs.Words.{operands_of, table}
@@ -13,7 +13,7 @@ use Rattle.words.specs.declared.Sort.TheVariants as sort
 use Rattle.meaning.specs.Terms.{LoopKind}
 use Rattle.meaning.specs.Loops.{Offset, Place, Value, Command, Loops, plus, times, over, rest, seq, loop, new}
 use Rattle.meaning.specs.Limits.{IsCount, RoundsInRange}
-use Rattle.meaning.specs.Laws.Lanes.{lanes_around, LanesFit, lanes_fit}
+use Rattle.meaning.proofs.Laws.Lanes.{lanes_around, LanesFit, lanes_fit}
 use Rattle.meaning.specs.Rows.{operation_word, loop_word, offset_rows, value_rows, place_rows, command_rows, all_cells_rows, loops_rows}
 use Rattle.syntax.specs.declared.names.Names.{Names}
 use Rattle.syntax.specs.declared.operands.Due.{Due}
@@ -64,7 +64,7 @@ module _ (N : Names) (b : Bounded N) where
 
   pub pass_value : (v : Value) → ValueInRange N.inputs N.counters N.regions v → Passes (W ∷ []) (value_rows v)
   unfolding value_rows operands_of table operands_due operand_of opened_by in_range one_of
-  pass_value (Value.input k o) h = row W word_in_holds (pos k) 1 (offset_rows o) refl (lt-ltb k N.inputs h.0) b (pass_offset o h.1)
+  pass_value (Value.input k o) h = row W word_kind_in (pos k) 1 (offset_rows o) refl (lt-ltb k N.inputs h.0) b (pass_offset o h.1)
   pass_value (Value.region d o) h = row W word_loc (pos d) 1 (offset_rows o) refl (lt-ltb d N.regions h.0) b (pass_offset o h.1)
   pass_value (Value.literal z) h = row W word_lit z 0 [] refl refl b none
   pass_value (Value.negate v) h = row W word_neg (pos 0) 1 (value_rows v) refl refl b (pass_value v h)

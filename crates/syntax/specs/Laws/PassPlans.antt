@@ -4,9 +4,9 @@ use mathlib.Core.List.{List, [], ◌∷◌, ◌++◌, append_assoc}
 use Rattle.std.specs.Prelude.{ℕ, ◌+◌, ◌≤◌, pos, length}
 use Rattle.std.proofs.Common.{add-one, lt-ltb, le-leb}
 use Rattle.arithmetic.specs.Arithmetic.{Operation}
-use Rattle.words.specs.Kinds.{Row, word_plan, word_num, word_arr, word_two, word_in_holds, word_var, word_lit, word_neg, word_add, word_sub}
+use Rattle.words.specs.Kinds.{Row, word_plan, word_num, word_arr, word_two, word_kind_in, word_var, word_lit, word_neg, word_add, word_sub}
 use Rattle.words.specs.Kinds.{word_mul, word_div, word_min, word_max, word_mappar, word_mapseq, word_redseq, word_zip, word_pair}
-use Rattle.words.specs.Kinds.{word_split, word_join, word_fst, word_snd, word_idx, word_vec, word_asvec, word_asscal, word_mapvec, word_at_holds}
+use Rattle.words.specs.Kinds.{word_split, word_join, word_fst, word_snd, word_idx, word_vec, word_asvec, word_asscal, word_mapvec, word_kind_at}
 use Rattle.words.specs.Words.{operands_of, table}
 use Rattle.words.specs.declared.Sort.TheVariants as sort
 use Rattle.meaning.specs.Types.{DataType, Series, number, array, vector}
@@ -81,11 +81,11 @@ module _ (N : Names) (b : Bounded N) (a : List Row) (f : Passes (T N ∷ []) a) 
   pass_index : (series : Series) (k : ℕ) → k ≤ last_element series → Passes (T N ∷ []) ((index_word series, pos k) ∷ a)
   unfolding operands_of table operands_due operand_of opened_by in_range one_of
   pass_index Series.arrays k h = row (T N) word_idx (pos k) 1 a refl (le-leb k 4095 h) b f
-  pass_index Series.vectors k h = row (T N) word_at_holds (pos k) 1 a refl (le-leb k 15 h) b f
+  pass_index Series.vectors k h = row (T N) word_kind_at (pos k) 1 a refl (le-leb k 15 h) b f
 
 pub pass_term : (N : Names) → Bounded N → (e : Term) → TermInRange N.inputs N.variables e → Passes (T N ∷ []) (term_rows e)
 unfolding term_rows operands_of table operands_due operand_of opened_by in_range one_of
-pass_term N b (Term.input k) h = row (T N) word_in_holds (pos k) 0 [] refl (lt-ltb k N.inputs h) b none
+pass_term N b (Term.input k) h = row (T N) word_kind_in (pos k) 0 [] refl (lt-ltb k N.inputs h) b none
 pass_term N b (Term.variable d) h = row (T N) word_var (pos d) 0 [] refl (lt-ltb d N.variables h) b none
 pass_term N b (Term.literal z) h = row (T N) word_lit z 0 [] refl refl b none
 pass_term N b (Term.negate e) h = row (T N) word_neg (pos 0) 1 (term_rows e) refl refl b (pass_term N b e h)

@@ -3,9 +3,9 @@ use Rattle.std.specs.Prelude.{◌≡◌, true, List, [], ◌∷◌, ◌++◌, �
 use Rattle.std.proofs.Math.Path.{refl}
 use Rattle.std.proofs.Common.{sym, ap, ◌∙◌, subst, append_assoc, add-one, arith}
 use Rattle.arithmetic.specs.Arithmetic.{Operation}
-use Rattle.words.specs.Kinds.{Row, word_plan, word_num, word_arr, word_two, word_in_holds, word_var, word_lit, word_neg, word_add, word_sub}
+use Rattle.words.specs.Kinds.{Row, word_plan, word_num, word_arr, word_two, word_kind_in, word_var, word_lit, word_neg, word_add, word_sub}
 use Rattle.words.specs.Kinds.{word_mul, word_div, word_min, word_max, word_mappar, word_mapseq, word_redseq, word_zip, word_pair}
-use Rattle.words.specs.Kinds.{word_split, word_join, word_fst, word_snd, word_idx, word_vec, word_asvec, word_asscal, word_mapvec, word_at_holds}
+use Rattle.words.specs.Kinds.{word_split, word_join, word_fst, word_snd, word_idx, word_vec, word_asvec, word_asscal, word_mapvec, word_kind_at}
 use Rattle.words.specs.Words.{table}
 use Rattle.words.specs.declared.Sort.TheVariants as sort
 use Rattle.meaning.specs.Types.{DataType, Series, number, array, vector}
@@ -59,7 +59,7 @@ module _ (N : Names) (few : N.inputs ≤ 8) where
   pub term_nodes : EachWord sort.Term (Node E) 0 table
   unfolding EachWord table term_rows operands_due operand_of opened_by in_range one_of
   term_nodes =
-      (λ z a r f p. let n = position z N.inputs (omega arith) r in (Term.input (as_natural z), n.1, headed word_in_holds n.0 p))
+      (λ z a r f p. let n = position z N.inputs (omega arith) r in (Term.input (as_natural z), n.1, headed word_kind_in n.0 p))
       also (λ z a r f p.
       let n = position z N.variables (omega (arith, f.variables_fit)) r in
       (Term.variable (as_natural z), n.1, headed word_var n.0 p))
@@ -104,7 +104,7 @@ module _ (N : Names) (few : N.inputs ≤ 8) where
       term_of_two M word_mapvec z a (Term.map LoopKind.lanes) (λ e f. refl) (λ e g h i. (f.variables_fit, h, i)) (nought z r) p)
       also (λ z a r f p.
       let n = most z 15 (omega arith) r in
-      term_of word_at_holds z (pos (as_natural z)) a (Term.index Series.vectors (as_natural z)) (λ e. refl) (λ e h. (n.1, h)) n.0 p)
+      term_of word_kind_at z (pos (as_natural z)) a (Term.index Series.vectors (as_natural z)) (λ e. refl) (λ e h. (n.1, h)) n.0 p)
       also tt
 
 -- ---- the first row

@@ -2,7 +2,7 @@
 use Rattle.std.specs.Prelude.{◌≡◌, refl, List, [], ◌∷◌, ◌++◌, map, ℕ, suc, ◌+◌, pos, length, get_or, take}
 use Rattle.std.proofs.Common.{sym, ap, ap₂, ◌∙◌, append-nil, arith, get_or-append-add}
 use Rattle.arithmetic.specs.Arithmetic.{Operation}
-use Rattle.words.specs.Kinds.{word_in_holds, word_lit, word_neg, word_add, word_sub, word_mul, word_div, word_min, word_max, word_cells, word_set}
+use Rattle.words.specs.Kinds.{word_kind_in, word_lit, word_neg, word_add, word_sub, word_mul, word_div, word_min, word_max, word_cells, word_set}
 use Rattle.words.specs.Kinds.{word_seq, word_for, word_par, word_new, word_out, word_loc, word_ctr, word_plus, word_times, word_over}
 use Rattle.words.specs.Kinds.{word_rest, word_lanes}
 use Rattle.words.specs.Words.{operands_of, table}
@@ -45,7 +45,8 @@ unfolding offset_rows operands_among operands_of table choose
 read_offset_holds (Offset.literal v) = none loops_sorts loops_part offset_rows offset_in word_lit (pos v) (Offset.literal v) refl refl (λ S. refl) refl
 read_offset_holds (Offset.counter d) = none loops_sorts loops_part offset_rows offset_in word_ctr (pos d) (Offset.counter d) refl refl (λ S. refl) refl
 read_offset_holds (plus x y) =
-    two loops_sorts loops_part offset_rows offset_in offset_rows offset_in offset_rows offset_in word_plus (pos 0) plus x y refl refl (λ a b S. refl) (λ a b. refl) (read_offset_holds x) (read_offset_holds y)
+    two loops_sorts loops_part offset_rows offset_in offset_rows offset_in offset_rows offset_in word_plus (pos 0) plus x y refl refl (λ a b S. refl)
+    (λ a b. refl) (read_offset_holds x) (read_offset_holds y)
 read_offset_holds (times n x) = one loops_sorts loops_part offset_rows offset_in offset_rows offset_in word_times (pos n) (times n) x refl refl (λ a S. refl) (λ a. refl) (read_offset_holds x)
 read_offset_holds (over n x) = one loops_sorts loops_part offset_rows offset_in offset_rows offset_in word_over (pos n) (over n) x refl refl (λ a S. refl) (λ a. refl) (read_offset_holds x)
 read_offset_holds (rest n x) = one loops_sorts loops_part offset_rows offset_in offset_rows offset_in word_rest (pos n) (rest n) x refl refl (λ a S. refl) (λ a. refl) (read_offset_holds x)
@@ -72,7 +73,7 @@ read_value_operation Operation.maximum v w h g = two_values word_max (Value.oper
 
 read_value : (v : Value) → ValueHas v
 unfolding value_rows operands_among operands_of table choose
-read_value (Value.input k o) = one loops_sorts loops_part offset_rows offset_in value_rows value_in word_in_holds (pos k) (Value.input k) o refl refl (λ a S. refl) (λ a. refl) (read_offset_holds o)
+read_value (Value.input k o) = one loops_sorts loops_part offset_rows offset_in value_rows value_in word_kind_in (pos k) (Value.input k) o refl refl (λ a S. refl) (λ a. refl) (read_offset_holds o)
 read_value (Value.region d o) = one loops_sorts loops_part offset_rows offset_in value_rows value_in word_loc (pos d) (Value.region d) o refl refl (λ a S. refl) (λ a. refl) (read_offset_holds o)
 read_value (Value.literal z) = none loops_sorts loops_part value_rows value_in word_lit z (Value.literal z) refl refl (λ S. refl) refl
 read_value (Value.negate v) = one loops_sorts loops_part value_rows value_in value_rows value_in word_neg (pos 0) Value.negate v refl refl (λ a S. refl) (λ a. refl) (read_value v)
@@ -87,9 +88,11 @@ read_loop LoopKind.lanes n c h = one loops_sorts loops_part command_rows command
 read_command : (c : Command) → CommandHas c
 unfolding command_rows operands_among operands_of table choose
 read_command (Command.assignment p v) =
-    two loops_sorts loops_part place_rows place_in value_rows value_in command_rows command_in word_set (pos 0) Command.assignment p v refl refl (λ a b S. refl) (λ a b. refl) (read_place p) (read_value v)
+    two loops_sorts loops_part place_rows place_in value_rows value_in command_rows command_in word_set (pos 0) Command.assignment p v refl refl
+    (λ a b S. refl) (λ a b. refl) (read_place p) (read_value v)
 read_command (seq c d) =
-    two loops_sorts loops_part command_rows command_in command_rows command_in command_rows command_in word_seq (pos 0) seq c d refl refl (λ a b S. refl) (λ a b. refl) (read_command c) (read_command d)
+    two loops_sorts loops_part command_rows command_in command_rows command_in command_rows command_in word_seq (pos 0) seq c d refl refl (λ a b S. refl)
+    (λ a b. refl) (read_command c) (read_command d)
 read_command (loop kind n c) = read_loop kind n c (read_command c)
 read_command (new n c) = one loops_sorts loops_part command_rows command_in command_rows command_in word_new (pos n) (new n) c refl refl (λ a S. refl) (λ a. refl) (read_command c)
 

@@ -2,9 +2,9 @@
 use Rattle.std.specs.Prelude.{◌≡◌, refl, List, [], ◌∷◌, ◌++◌, map, ℕ, suc, ℤ, pos, length, get_or, take}
 use Rattle.std.proofs.Common.{sym, ap, ap₂, ◌∙◌, append-nil}
 use Rattle.arithmetic.specs.Arithmetic.{Operation}
-use Rattle.words.specs.Kinds.{word_num, word_arr, word_two, word_in_holds, word_var, word_lit, word_neg, word_add, word_sub, word_mul, word_div}
+use Rattle.words.specs.Kinds.{word_num, word_arr, word_two, word_kind_in, word_var, word_lit, word_neg, word_add, word_sub, word_mul, word_div}
 use Rattle.words.specs.Kinds.{word_min, word_max, word_mappar, word_mapseq, word_redseq, word_zip, word_pair, word_split, word_join}
-use Rattle.words.specs.Kinds.{word_fst, word_snd, word_idx, word_vec, word_asvec, word_asscal, word_mapvec, word_at_holds}
+use Rattle.words.specs.Kinds.{word_fst, word_snd, word_idx, word_vec, word_asvec, word_asscal, word_mapvec, word_kind_at}
 use Rattle.words.specs.Words.{operands_of, table}
 use Rattle.words.specs.declared.Sort.{Sort}
 use Rattle.words.specs.declared.Sort.TheVariants as sort
@@ -28,7 +28,8 @@ TermHas e = Has plan_sorts plan_part term_rows (λ (x : PlanPart). x.term) e
 read_type : (t : DataType) → TypeHas t
 unfolding type_rows operands_among operands_of table choose
 read_type number = none plan_sorts plan_part type_rows (λ (x : PlanPart). x.type) word_num (pos 0) number refl refl (λ S. refl) refl
-read_type (array n t) = one plan_sorts plan_part type_rows (λ (x : PlanPart). x.type) type_rows (λ (x : PlanPart). x.type) word_arr (pos n) (array n) t refl refl (λ a S. refl) (λ a. refl) (read_type t)
+read_type (array n t) = one plan_sorts plan_part type_rows (λ (x : PlanPart). x.type) type_rows (λ (x : PlanPart). x.type) word_arr (pos n) (array n)
+    t refl refl (λ a S. refl) (λ a. refl) (read_type t)
 read_type (DataType.pair s t) =
     two plan_sorts plan_part type_rows (λ (x : PlanPart). x.type) type_rows (λ (x : PlanPart). x.type) type_rows
     (λ (x : PlanPart). x.type) word_two (pos 0) DataType.pair s t refl refl (λ a b S. refl) (λ a b. refl)
@@ -79,7 +80,7 @@ read_join Series.vectors e h = one_term word_asscal (pos 0) (Term.join Series.ve
 read_index : (series : Series) (k : ℕ) (e : Term) → TermHas e → TermHas (Term.index series k e)
 unfolding term_rows operands_among operands_of table choose
 read_index Series.arrays k e h = one_term word_idx (pos k) (Term.index Series.arrays k) e refl refl (λ a S. refl) (λ a. refl) h
-read_index Series.vectors k e h = one_term word_at_holds (pos k) (Term.index Series.vectors k) e refl refl (λ a S. refl) (λ a. refl) h
+read_index Series.vectors k e h = one_term word_kind_at (pos k) (Term.index Series.vectors k) e refl refl (λ a S. refl) (λ a. refl) h
 
 read_reduce : (c d e : Term) → TermHas c → TermHas d → TermHas e → TermHas (Term.reduce c d e)
 unfolding term_rows operands_among operands_of table choose
@@ -93,7 +94,7 @@ read_reduce c d e h g f = (
 
 read_term : (e : Term) → TermHas e
 unfolding term_rows operands_among operands_of table choose
-read_term (Term.input k) = leaf_term word_in_holds (pos k) (Term.input k) refl refl (λ S. refl) refl
+read_term (Term.input k) = leaf_term word_kind_in (pos k) (Term.input k) refl refl (λ S. refl) refl
 read_term (Term.variable d) = leaf_term word_var (pos d) (Term.variable d) refl refl (λ S. refl) refl
 read_term (Term.literal z) = leaf_term word_lit z (Term.literal z) refl refl (λ S. refl) refl
 read_term (Term.negate e) = one_term word_neg (pos 0) Term.negate e refl refl (λ a S. refl) (λ a. refl) (read_term e)

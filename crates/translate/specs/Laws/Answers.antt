@@ -20,7 +20,7 @@ use Rattle.meaning.specs.Loops.{Loops}
 use Rattle.meaning.specs.Counts.{plan_writes}
 use Rattle.meaning.specs.Limits.{lanes_apart, PlanWithin}
 use Rattle.meaning.specs.Translation.{translation}
-use Rattle.meaning.specs.Theorems.{own_loops_pass, own_writes}
+use Rattle.meaning.proofs.Theorems.{own_loops_pass, own_writes}
 use Rattle.typing.specs.Entry.{check_plan_text}
 use Rattle.loops.specs.declared.Checked.TheVariants.{Passes, Refused as NoPass}
 use Rattle.loops.specs.Check.{ask_writes, unless, check_loops, check_table}

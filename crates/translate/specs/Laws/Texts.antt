@@ -7,16 +7,16 @@ use Rattle.words.specs.Kinds.{Row}
 use Rattle.words.specs.Words.{look_up}
 use Rattle.texts.specs.Texts.{lines_of}
 use Rattle.lines.specs.Reading.{rows_in, reading, plan_limits}
-use Rattle.lines.specs.Laws.{rows_read}
+use Rattle.lines.proofs.Laws.{rows_read}
 use Rattle.meaning.specs.Rows.{plan_rows}
 use Rattle.syntax.specs.Reading.{plan_of}
 use Rattle.syntax.specs.Theorems.{plan_tree}
 use Rattle.typing.specs.Entry.{check_plan_text}
 use Rattle.typing.specs.Accepted.{Numbers32}
-use Rattle.typing.specs.Laws.EntryQuestions.{passed_refused}
-use Rattle.typing.specs.Laws.Plans.{plan_accepted}
-use Rattle.typing.specs.Laws.Rows.{passed_rows}
-use Rattle.typing.specs.Laws.Texts.{read_within, rows_printable, printable_numbers, read_text, unread_text}
+use Rattle.typing.proofs.Laws.EntryQuestions.{passed_refused}
+use Rattle.typing.proofs.Laws.Plans.{plan_accepted}
+use Rattle.typing.proofs.Laws.Rows.{passed_rows}
+use Rattle.typing.proofs.Laws.Texts.{read_within, rows_printable, printable_numbers, read_text, unread_text}
 use Rattle.translate.specs.Entry.{plan_in}
 use Rattle.translate.specs.Accepted.{TextPlan}
 
