@@ -10,7 +10,7 @@ use mir.Syntax.{w32, w64}
 use mir.Val.{SFits, to_z, of_z}
 use mir.Facts.{to_z-of_z, sfits_lit}
 use Rattle.arithmetic.specs.Arithmetic.{clamp, nearest_z, quotient}
-use Rattle.arithmetic.specs.Rounding.{minus_size}
+use Rattle.arithmetic.proofs.RoundedQuotients.{minus_size}
 use Rattle.arithmetic.proofs.Laws.{wide, operand_same, result_fits, difference_exact}
 use Rattle.arithmetic.proofs.Rounding.{Asked}
 
@@ -75,4 +75,4 @@ module _ {x y : ℤ} (hx : SFits w32 x) (hy : SFits w32 y) where
 -- n is what `nearest` answered, and r what `clamp` answered
 pub divided : {m n r q : ℤ} → clamp m ≡ q → mag n < 2 ^ 63 → n ≡ m → mag r < 2 ^ 31 → r ≡ clamp (to_z w64 (of_z w64 n)) → to_z w32 (of_z w32 r) ≡ q
 divided {n} rounded hn nearest hr clamped =
-    to_z-of_z (record { sfits = hr }) ∙ clamped ∙ ap clamp (to_z-of_z {z = n} (record { sfits = hn }) ∙ nearest) ∙ rounded
+    to_z-of_z {w = w32} (record { sfits = hr }) ∙ clamped ∙ ap clamp (to_z-of_z {w = w64} {z = n} (record { sfits = hn }) ∙ nearest) ∙ rounded

@@ -36,7 +36,7 @@ module _ {f : ℤ → ℤ → ℤ} (e : Exact f) {x y : ℤ} (hx : SFits w32 x) 
 
   -- r is what `clamp` answered
   pub result_clamped : {r : ℤ} → mag r < 2 ^ 31 → r ≡ clamp (to_z w64 (of_z w64 (f (wide x) (wide y)))) → to_z w32 (of_z w32 r) ≡ clamp (f x y)
-  result_clamped hr p = to_z-of_z (record { sfits = hr }) ∙ p ∙ ap clamp (to_z-of_z result_fits ∙ result_same)
+  result_clamped hr p = to_z-of_z {w = w32} (record { sfits = hr }) ∙ p ∙ ap clamp (to_z-of_z result_fits ∙ result_same)
 
 -- ---- the three operations are exact; `mag` is n both of n and of -(n + 1)
 

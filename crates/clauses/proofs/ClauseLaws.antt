@@ -6,13 +6,13 @@ use native.Mathlib.Omega.{arith}
 use borrow.Author.Tests.{ne_eqb}
 use lib.IntN.{ℤ, pos}
 use lib.ListN.{length}
-use Rattle.words.specs.Kinds.{word_in_holds, word_var, word_lit, word_join, word_seq, word_for, word_new}
+use Rattle.words.specs.Kinds.{word_kind_in, word_var, word_lit, word_join, word_seq, word_for, word_new}
 use Rattle.meaning.specs.Types.{DataType, number, array, vector, cells, levels, array_length, element}
 use Rattle.meaning.specs.Expressions.{Expression, Acceptor}
 use Rattle.meaning.specs.Translation.{assign}
 use Rattle.meaning.specs.Rows.{command_rows}
 use Rattle.meaning.specs.Limits.{TypeWithin}
-use Rattle.meaning.specs.Laws.Bounds.{cells_within}
+use Rattle.meaning.proofs.Laws.Bounds.{cells_within}
 use Rattle.type_table.specs.Table.{type_at, Sound}
 use Rattle.type_table.specs.Laws.{sound_below}
 use Rattle.emission.specs.Nodes.{node_of}
@@ -60,10 +60,10 @@ module _ (T U : List ℕ) (k n t row : ℕ) (s : State) (r : Translated) where
   pub leaf_variable : k ≡ word_var → VariableUsed T U n s r → LeafUsed T U k n t row s r
   leaf_variable e h = record { input = λ x. absurd (omega (arith, e, x)); variable = λ x. h; literal = λ x. absurd (omega (arith, e, x)) }
 
-  pub leaf_input : k ≡ word_in_holds → Pushed T U s.len (node_of word_in_holds t n 0 0) → NodeUsed s r → LeafUsed T U k n t row s r
+  pub leaf_input : k ≡ word_kind_in → Pushed T U s.len (node_of word_kind_in t n 0 0) → NodeUsed s r → LeafUsed T U k n t row s r
   leaf_input e h u = record { input = λ x. (h, u); variable = λ x. absurd (omega (arith, e, x)); literal = λ x. absurd (omega (arith, e, x)) }
 
-  pub leaf_literal : (k ≡ word_var → ⊥) → (k ≡ word_in_holds → ⊥) → Pushed T U s.len (node_of word_lit 0 row 0 0) → NodeUsed s r → LeafUsed T U k n t row s r
+  pub leaf_literal : (k ≡ word_var → ⊥) → (k ≡ word_kind_in → ⊥) → Pushed T U s.len (node_of word_lit 0 row 0 0) → NodeUsed s r → LeafUsed T U k n t row s r
   leaf_literal e f h u = record { input = λ x. absurd (f x); variable = λ x. absurd (e x); literal = λ x. (h, u) }
 
 -- m is the kind of the node that k makes

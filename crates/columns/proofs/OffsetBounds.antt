@@ -18,7 +18,7 @@ use Rattle.columns.specs.Ends.{Ends}
 use Rattle.bounds.specs.Bounds.{every_row_bounded}
 use Rattle.bounds.specs.Laws.{row_bounded}
 use Rattle.words.specs.Groups.{one_of}
-use Rattle.columns.specs.Names.{counter_words, opens_by, in_force, numbers_of, Named}
+use Rattle.columns.specs.Names.{counter_words, in_force, numbers_of, Named}
 use Rattle.columns.specs.Figures.{capped_bound, scaled_by, bound_by, is_command, figure_by, Figures}
 use Rattle.columns.proofs.Tables as table
 use Rattle.columns.proofs.EndTrees.{inside}

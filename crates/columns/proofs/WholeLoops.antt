@@ -12,7 +12,7 @@ use lib.ListN.{length, get_or}
 use Rattle.refusals.specs.declared.Refusal.{Refusal}
 use Rattle.refusals.specs.declared.Refusal.TheVariants.{OffsetBound}
 use Rattle.words.specs.Kinds.{Row, rows_of, word_loops, word_cells}
-use Rattle.words.specs.Laws.{rows_length}
+use Rattle.words.proofs.Laws.{rows_length}
 use Rattle.meaning.specs.Loops.{Loops}
 use Rattle.meaning.specs.Rows.{command_rows, all_cells_rows, loops_rows}
 use Rattle.meaning.specs.Counts.{command_writes}

@@ -11,10 +11,10 @@ use lib.Seq.{sets, sets-eq}
 use Rattle.refusals.specs.declared.Refusal.TheVariants.{LentSize}
 use Rattle.refusals.specs.declared.Answer.TheVariants.{Told, Refused}
 use Rattle.words.specs.Kinds.{Row, rows_of}
-use Rattle.words.specs.Laws.{rows_length}
+use Rattle.words.proofs.Laws.{rows_length}
 use Rattle.lines.specs.Reading.{kinds_of, numbers_of}
 use Rattle.lines.specs.Lent.{TableInto}
-use Rattle.lines.specs.TableLaws.{short_kinds, short_numbers, room_for_holds}
+use Rattle.lines.proofs.TableLaws.{short_kinds, short_numbers, room_for_holds}
 
 -- what was put is in front, and the rest as lent
 front_filled : {A : Type 0} (held after put : List A) → length put ≤ length held → after ≡ sets held 0 put → after ≡ put ++ drop (length put) held

@@ -14,7 +14,7 @@ use Rattle.words.specs.Kinds.{Row}
 use Rattle.words.specs.declared.Found.{Found}
 use Rattle.words.specs.declared.Found.TheVariants.{At, NotListed}
 use Rattle.words.specs.Tables.{words_in}
-use Rattle.words.specs.Laws.{found_word, words_count, words_in_count}
+use Rattle.words.proofs.Laws.{found_word, words_count, words_in_count}
 use Rattle.refusals.specs.declared.Refusal.TheVariants.{LineForm}
 use Rattle.refusals.specs.declared.Answer.TheVariants.{Told, Refused}
 use Rattle.numerals.specs.Numerals.{numeral_of}

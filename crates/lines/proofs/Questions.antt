@@ -1,23 +1,23 @@
 -- What the readers know at each way out. Assumes nothing.
 use mathlib.Core.Path.{◌≡◌, refl, sym, ap, ◌∙◌}
-use mathlib.Core.Bool.{Bool, true, false, not, cond, ◌&&◌}
+use mathlib.Core.Bool.{Bool, true, false, cond, ◌&&◌}
 use mathlib.Core.List.{List, ◌++◌}
 use mathlib.Core.Logic.{◌≢◌}
 use Prim.Native.Nat.{ℕ, ◌-◌, ◌≤◌, ◌<◌}
 use native.Mathlib.Nat.{zero-add}
 use native.Mathlib.Omega.{arith}
-use borrow.Author.Tests.{le-leb, lt-leb, leb-true, not-true, not-false}
+use borrow.Author.Tests.{le-leb, lt-leb, leb-true}
 use lib.Dec.{eqb, leb}
 use lib.IntN.{ℤ}
 use lib.ListN.{length, get_or, drop, length-map}
-use lib.Seq.{sets, sets-eq}
+use lib.Seq.{sets-eq}
 use Rattle.words.specs.Kinds.{Row}
 use Rattle.words.specs.declared.Found.{Found}
 use Rattle.refusals.specs.declared.Refusal.{Refusal}
 use Rattle.refusals.specs.declared.Refusal.TheVariants.{TextForm, LineCount}
 use Rattle.texts.specs.Texts.{lines_of}
 use Rattle.lines.specs.Reading.{rows_in, closed, formed, limited, reading, room_for, kinds_of, numbers_of, filled, Put, ReadInto}
-use Rattle.lines.specs.Laws.{rows_count}
+use Rattle.lines.proofs.Laws.{rows_count}
 use Rattle.refusals.specs.declared.Answer.{Answer}
 use Rattle.refusals.specs.declared.Answer.TheVariants.{Told, Refused}
 use Rattle.lines.specs.declared.Limits.{Limits}
@@ -93,12 +93,12 @@ module _ (head : List ℕ → Found) (limits : Limits) (t : List ℕ) (kinds : L
   abbrev R : List Row
   R = rows_in head (lines_of t)
 
-  pub refused_read : {b : Bool} {kinds' : List ℕ} {numbers' : List ℤ} → b ≡ closed limits.bytes t → not b ≡ true
+  pub refused_read : {b : Bool} {kinds' : List ℕ} {numbers' : List ℤ} → b ≡ closed limits.bytes t → b ≡ false
       → ReadInto head limits t kinds numbers (Refused TextForm) kinds' numbers'
   refused_read {b} e h =
-      record { answer = not_closed head limits t (sym e ∙ not-true b h); kinds_left = λ f. no_room f; numbers_left = λ f. no_room f }
+      record { answer = not_closed head limits t (sym e ∙ h); kinds_left = λ f. no_room f; numbers_left = λ f. no_room f }
 
-  pub text_read : {b : Bool} {a r : Answer} {kinds' : List ℕ} {numbers' : List ℤ} → b ≡ closed limits.bytes t → not b ≡ false
+  pub text_read : {b : Bool} {a r : Answer} {kinds' : List ℕ} {numbers' : List ℤ} → b ≡ closed limits.bytes t → b ≡ true
       → a ≡ formed head 0 (lines_of t) → Put a kinds (kinds_of R) kinds' → Put a numbers (numbers_of R) numbers' → r ≡ limited limits.lines a
       → ReadInto head limits t kinds numbers r kinds' numbers'
   text_read {b} {a} {r} e h is p q f =
@@ -106,7 +106,7 @@ module _ (head : List ℕ → Found) (limits : Limits) (t : List ℕ) (kinds : L
       let room : room_for r (length kinds) (length numbers) ≡ true → room_for (limited limits.lines a) (length kinds) (length numbers) ≡ true =
       λ g. ap (λ (x : Answer). room_for x (length kinds) (length numbers)) (sym f) ∙ g in
       record {
-        answer = lines_asked head limits t (sym e ∙ not-false b h) is f;
+        answer = lines_asked head limits t (sym e ∙ h) is f;
         kinds_left = λ g. all_put kinds (kinds_of R) (length kinds) (length numbers) limits.lines a p (λ n x. length-map R (λ (y : Row). y.0) ∙ count n x)
             (λ n l m. l) (room g);
         numbers_left = λ g. all_put numbers (numbers_of R) (length kinds) (length numbers) limits.lines a q (λ n x. length-map R (λ (y : Row). y.1) ∙ count n x)

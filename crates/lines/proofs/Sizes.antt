@@ -16,7 +16,7 @@ use Rattle.refusals.specs.declared.Refusal.TheVariants.{LentSize}
 use Rattle.refusals.specs.declared.Answer.{Answer}
 use Rattle.refusals.specs.declared.Answer.TheVariants.{Told, Refused}
 use Rattle.words.specs.Kinds.{Row, rows_of}
-use Rattle.words.specs.Laws.{rows_at, rows_length}
+use Rattle.words.proofs.Laws.{rows_at, rows_length}
 use Rattle.words.specs.Words.{word_at}
 use Rattle.numerals.specs.Numerals.{decimal}
 use Rattle.lines.specs.Printing.{written, text_of, fitting, printing}

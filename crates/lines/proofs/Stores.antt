@@ -54,4 +54,4 @@ below_kind n is h = subst (Below n) is h
 
 -- a cell's number as the code holds it
 pub held : (z : ℤ) → mag z < 2147483648 → to_z w32 (of_z w32 z) ≡ z
-held z h = to_z-of_z (record { sfits = h })
+held z h = to_z-of_z {w = w32} (record { sfits = h })

@@ -13,7 +13,7 @@ use Rattle.refusals.specs.declared.Refusal.TheVariants.{LineCount}
 use Rattle.refusals.specs.declared.Answer.{Answer}
 use Rattle.refusals.specs.declared.Answer.TheVariants as answer
 use Rattle.words.specs.Kinds.{Row, rows_of}
-use Rattle.words.specs.Laws.{rows_length}
+use Rattle.words.proofs.Laws.{rows_length}
 use Rattle.syntax.specs.Walk.{listed_from}
 use Rattle.syntax.proofs.Tables.{rows_shorter, rows_take}
 use Rattle.loops.specs.declared.Checked.{Checked}

@@ -16,7 +16,7 @@ use Rattle.meaning.specs.Loops.{Loops}
 use Rattle.meaning.specs.Rows.{loops_rows}
 use Rattle.meaning.specs.Layout.{need}
 use Rattle.meaning.specs.Counts.{command_writes}
-use Rattle.meaning.specs.Theorems.{need_few}
+use Rattle.meaning.proofs.Theorems.{need_few}
 use Rattle.syntax.specs.InRange.{LoopsInRange}
 use Rattle.syntax.specs.Walk.{walk_table}
 use Rattle.syntax.specs.Reading.{loops_of}

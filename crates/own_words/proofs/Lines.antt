@@ -8,7 +8,7 @@ use native.Mathlib.Numerals.{add-one}
 use native.Mathlib.Omega.{arith}
 use lib.ListN.{length, take, drop, length-drop}
 use lib.Seq.{take_all}
-use Rattle.words.specs.Laws.{same_true, same_false, own_place, found_word, words_good}
+use Rattle.words.proofs.Laws.{same_true, same_false, own_place, found_word, words_good}
 use Rattle.words.specs.Words.{words, word_at, same_letters, look_up}
 use Rattle.words.specs.declared.Found.{Found}
 use Rattle.words.specs.declared.Found.TheVariants.{At}

@@ -11,7 +11,7 @@ use lib.Ieee.Fits.{and_i}
 use lib.ListN.{length, get_or, take, set}
 use lib.Seq.{length-take-le, get_or-take, get_or-set_same, get_or-set_other, ext_get_or}
 use Rattle.words.specs.Good.{absent, distinct}
-use Rattle.words.specs.Laws.{own_place, same_equal, same_refl, first_take}
+use Rattle.words.proofs.Laws.{own_place, same_equal, same_refl, first_take}
 use Rattle.words.specs.Tables.{first_of, letters_in, word_in, words_in}
 use Rattle.words.specs.Words.{words, word_at, same_letters, look_from, look_up}
 use Rattle.words.specs.declared.Found.{Found}

@@ -11,7 +11,7 @@ use lib.ListN.{length, get_or, take, drop, set, length-set, drop_of_length-le, g
 use lib.Seq.{drop-cons, get_or-set_same, get_or-set_other, ext_get_or}
 use Rattle.words.specs.Tables.{word_in, words_in}
 use Rattle.words.specs.Words.{words, word_at}
-use Rattle.words.specs.Laws.{words_in_count}
+use Rattle.words.proofs.Laws.{words_in_count}
 use Rattle.texts.specs.Texts.{lines_of, place_of, after_first, after_comma}
 use Rattle.texts.specs.Laws.{lines_from, lines_done}
 use Rattle.own_words.specs.OwnWords.{is_own_line, are_own_lines}

@@ -14,7 +14,7 @@ use Rattle.syntax.specs.Reading.{plan_of}
 use Rattle.syntax.specs.Theorems.{WalksWell, all_passed, plan_tree}
 use Rattle.typing.specs.Check.{Verdict, check_plan}
 use Rattle.typing.specs.Entry.{answered, check_plan_rows}
-use Rattle.typing.specs.Laws.Rows.{walked_rows, unwalked_rows}
+use Rattle.typing.proofs.Laws.Rows.{walked_rows, unwalked_rows}
 use Rattle.row_typing.specs.Typed.{PlanStands, PlanRoom, PlanAnswered}
 use Rattle.row_typing.specs.declared.TypedPlan.{TypedPlan}
 use Rattle.type_rules.specs.declared.Typing.TheVariants.{Typed, Refused}

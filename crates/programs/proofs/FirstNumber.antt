@@ -1,15 +1,15 @@
 -- Whether what stands behind a line's comma is `0`. Assumes nothing.
-use mathlib.Core.Bool.{Bool, true, false, not}
+use mathlib.Core.Bool.{true, false, not}
 use mathlib.Core.Path.{◌≡◌, sym, ap, ◌∙◌}
 use mathlib.Core.List.{List, [], ◌∷◌}
 use mathlib.Core.Logic.{◌≢◌}
-use Prim.Native.Nat.{ℕ, suc, ◌+◌, ◌-◌}
+use Prim.Native.Nat.{ℕ, suc, ◌+◌}
 use native.Mathlib.Numerals.{add-one}
 use native.Mathlib.Omega.{arith}
 use lib.ListN.{length, get_or, drop, length-drop, drop_of_length-le}
 use lib.Seq.{drop-cons}
 use Rattle.words.specs.Words.{bytes, same_letters}
-use Rattle.words.specs.Laws.{same_true, same_false}
+use Rattle.words.proofs.Laws.{same_true, same_false}
 use Rattle.texts.specs.Texts.{place_of, after_comma}
 
 module _ (l : List ℕ) (comma : ℕ) (is : comma ≡ place_of 44 l) where

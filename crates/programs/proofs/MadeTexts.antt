@@ -10,7 +10,7 @@ use Rattle.refusals.specs.declared.Answer.TheVariants.{Told, Refused}
 use Rattle.refusals.specs.Answers.{is_told}
 use Rattle.words.specs.Kinds.{rows_of}
 use Rattle.lines.specs.Printing.{text_of, PrintInto}
-use Rattle.lines.specs.TableLaws.{rows_in_front}
+use Rattle.lines.proofs.TableLaws.{rows_in_front}
 use Rattle.lines.specs.Lent.{TableInto}
 use Rattle.translate.specs.Entry.{rows_made, make_text}
 use Rattle.translate.specs.Laws.Answers.{text_count}

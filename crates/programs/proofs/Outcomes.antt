@@ -2,7 +2,7 @@
 use mathlib.Core.Bool.{Bool, true, false, cond}
 use mathlib.Core.Path.{◌≡◌, refl, sym, ap, ap₂, subst, ◌∙◌}
 use mathlib.Core.List.{List, ◌++◌}
-use Prim.Native.Nat.{ℕ, ◌+◌, ◌-◌, ◌≤◌, ◌<◌}
+use Prim.Native.Nat.{ℕ, ◌≤◌, ◌<◌}
 use native.Mathlib.Omega.{arith}
 use borrow.Author.Tests.{le-leb, lt-leb}
 use lib.Dec.{leb}
@@ -14,11 +14,11 @@ use Rattle.refusals.specs.declared.Refusal.TheVariants.{LentSize, StoreSize}
 use Rattle.refusals.specs.declared.Answer.{Answer}
 use Rattle.refusals.specs.declared.Answer.TheVariants.{Told, Refused}
 use Rattle.words.specs.Kinds.{Row, rows_of}
-use Rattle.words.specs.Laws.{rows_length}
+use Rattle.words.proofs.Laws.{rows_length}
 use Rattle.lines.specs.Reading.{head_of, reading, loops_limits, filled}
 use Rattle.lines.specs.Lent.{text_rows}
 use Rattle.lines.specs.Printing.{printing}
-use Rattle.lines.specs.Laws.{rows_read}
+use Rattle.lines.proofs.Laws.{rows_read}
 use Rattle.lines.specs.declared.Heads.TheVariants.{Words}
 use Rattle.meaning.specs.Loops.{Loops}
 use Rattle.meaning.specs.Layout.{all_cells}

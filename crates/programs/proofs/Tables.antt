@@ -22,7 +22,7 @@ use Rattle.meaning.specs.Rows.{loops_rows}
 use Rattle.meaning.specs.Numbers.{clamped32}
 use Rattle.meaning.specs.Runs.{RunOf}
 use Rattle.meaning.specs.Sequence.{up_from}
-use Rattle.meaning.specs.Laws.Orders.{up_from_length}
+use Rattle.meaning.proofs.Laws.Orders.{up_from_length}
 use Rattle.syntax.specs.Ranges.{as_natural, cell_numbers}
 use Rattle.syntax.specs.Reading.{loops_of}
 use Rattle.syntax.specs.Theorems.{loops_read}

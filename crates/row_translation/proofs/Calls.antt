@@ -6,7 +6,7 @@ use Prim.Native.Nat.{ℕ, ◌+◌, ◌-◌, ◌≤◌, ◌<◌}
 use native.Mathlib.Omega.{arith}
 use lib.IntN.{ℤ, pos}
 use lib.ListN.{length, get_or}
-use Rattle.words.specs.Kinds.{word_in_holds, word_var, word_redseq}
+use Rattle.words.specs.Kinds.{word_kind_in, word_var, word_redseq}
 use Rattle.meaning.specs.Types.{DataType}
 use Rattle.meaning.specs.Terms.{Term}
 use Rattle.meaning.specs.Expressions.{Expression, Acceptor}
@@ -64,7 +64,7 @@ module _ (ks : List ℕ) (ns : List ℤ) (C Y : List ℕ) (N : List ℤ) (T : Li
   module _ (m : ℕ) (R : Room m Y N T s) where
     pub leaf_asks : (k n p : ℕ) → k ≡ get_or ks 0 0 → n ≡ as_natural (get_or ns 0 (pos 0)) → p < 65536
         → (1 ≤ s.len) × (s.len < 1024) × (p < 65536) × (length N - length ns < 65536) × (length T ≡ 1024)
-        × (k ≡ word_in_holds → n < 65536) × (k ≡ word_var → n < s.count) × (s.count ≤ 16) × (length s.variables ≡ 16)
+        × (k ≡ word_kind_in → n < 65536) × (k ≡ word_var → n < s.count) × (s.count ≤ 16) × (length s.variables ≡ 16)
     leaf_asks k n p ek en hp = (
       R.some,
       omega (arith, R.nodes),

@@ -12,7 +12,7 @@ use Rattle.meaning.specs.Typing.{type_of}
 use Rattle.meaning.specs.Loops.{Offset}
 use Rattle.meaning.specs.Expressions.{Expression}
 use Rattle.meaning.specs.Rows.{term_rows}
-use Rattle.meaning.specs.Laws.UseRows.{expression_of}
+use Rattle.meaning.proofs.Laws.UseRows.{expression_of}
 use Rattle.syntax.specs.Ranges.{as_natural}
 use Rattle.syntax.specs.Standing.{TermStands, operand_count, first_operand, second_operand, third_operand}
 use Rattle.syntax.proofs.Standing.{first_stands, rows_of_three}
@@ -94,7 +94,8 @@ module _ (ks : List ℕ) (ns : List ℤ) (C Y : List ℕ) (N : List ℤ) (T : Li
         pub start_asks : Room (nodes_used e) Y N T s → ReadyToUse (part 1 ks) (part 1 ns) (part 1 C) Y N U s₁
         start_asks R =
             ready_use start_here
-            (room_on (nodes_used e) (nodes_used (first_operand e)) Y N T U s s₁ R array_used_holds.grown (omega (arith, G.len, array_used_holds.more)) (omega (arith, G.len, array_used_holds.few, all_rows))
+            (room_on (nodes_used e) (nodes_used (first_operand e)) Y N T U s s₁ R array_used_holds.grown (omega (arith, G.len, array_used_holds.more))
+            (omega (arith, G.len, array_used_holds.few, all_rows))
             (omega (arith, G.counters, all_rows)) (omega (arith, G.regions, array_used_holds.regions, regions_few_holds (second_operand e), all_rows)))
 
         module _ {W K₁ : List ℕ} {M₁ : List ℤ} {y : Translated}

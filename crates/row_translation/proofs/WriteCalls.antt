@@ -13,7 +13,7 @@ use Rattle.meaning.specs.Typing.{type_of}
 use Rattle.meaning.specs.Loops.{Offset}
 use Rattle.meaning.specs.Expressions.{Expression, Acceptor}
 use Rattle.meaning.specs.Rows.{term_rows}
-use Rattle.meaning.specs.Laws.UseRows.{expression_of}
+use Rattle.meaning.proofs.Laws.UseRows.{expression_of}
 use Rattle.syntax.specs.Ranges.{as_natural}
 use Rattle.syntax.specs.Standing.{term_kind, operand_count, first_operand, second_operand}
 use Rattle.syntax.proofs.Standing.{rows_of_two, no_leaf}
@@ -151,7 +151,8 @@ module _ (ks : List ℕ) (ns : List ℤ) (C Y : List ℕ) (N : List ℤ) (T : Li
             let g : Grown T W s.len = grown_more T U W s.len r.len array_used_holds.more array_used_holds.grown (both_grown U W r.len word_ctr s.counters r.value target E.nodes) in (
               omega (arith, E.len),
               ready_write body_here
-                  (room_on (nodes_written e) (nodes_written (second_operand e)) Y N T W s s' R g (omega (arith, E.len, array_used_holds.more)) (omega (arith, E.len, array_used_holds.few, map_rows, node))
+                  (room_on (nodes_written e) (nodes_written (second_operand e)) Y N T W s s' R g (omega (arith, E.len, array_used_holds.more))
+                  (omega (arith, E.len, array_used_holds.few, map_rows, node))
                   (omega (arith, E.counters, map_rows, node)) (omega (arith, E.regions, array_used_holds.regions, regions_few_holds (first_operand e), map_rows, node))),
             )
 

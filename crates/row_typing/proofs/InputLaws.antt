@@ -2,7 +2,7 @@
 use mathlib.Core.Path.{◌≡◌, refl, ap, sym, subst, ◌∙◌}
 use mathlib.Core.Bool.{Bool, true, false}
 use mathlib.Core.List.{List, [], ◌∷◌, ◌++◌, append_assoc, append-nil}
-use Prim.Native.Nat.{ℕ, zero, suc, ◌+◌, ◌-◌, ◌≤◌, ◌<◌}
+use Prim.Native.Nat.{ℕ, zero, suc, ◌+◌, ◌≤◌, ◌<◌}
 use native.Mathlib.Omega.{arith}
 use native.Mathlib.Nat.{zero-add}
 use borrow.Author.Tests.{eqb-true, eqb-false, ltb-true, ltb-false}
@@ -12,7 +12,7 @@ use lib.ListN.{length, get_or, set, take, drop, length-append, length-set}
 use lib.Seq.{get_or-set_same, get_or-set_other, drop-append-add}
 use Rattle.refusals.specs.declared.Refusal.{Refusal}
 use Rattle.words.specs.Kinds.{Row, rows_of, word_plan}
-use Rattle.words.specs.Laws.{rows_length}
+use Rattle.words.proofs.Laws.{rows_length}
 use Rattle.meaning.specs.Types.{DataType, number}
 use Rattle.meaning.specs.Terms.{Plan}
 use Rattle.meaning.specs.Rows.{type_rows, all_type_rows, term_rows, plan_rows}

@@ -13,7 +13,7 @@ use Rattle.syntax.specs.Standing.{term_kind, term_number, operand_count, first_o
 use Rattle.typing.specs.Check.{Verdict, typed, refused, after_operand, behind, check, is_array}
 use Rattle.type_rules.specs.Rules.{unary_rule, binary_rule, reduce_rule, opens_second, second_scope}
 use Rattle.typing.specs.TypeQuestions.{term_questions}
-use Rattle.typing.specs.Laws.TypeQuestions.{asked_typed, check_asks}
+use Rattle.typing.proofs.Laws.TypeQuestions.{asked_typed, check_asks}
 use Rattle.row_typing.proofs.Stages.{behind_one, first_checked, one_rest, behind_two, two_rest, second_closed, second_open, body_closed, body_open}
 
 -- what is accepted is the term's type

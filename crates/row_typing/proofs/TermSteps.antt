@@ -7,7 +7,7 @@ use native.Mathlib.Omega.{arith}
 use lib.IntN.{ℤ, pos}
 use lib.ListN.{length, get_or, set, drop}
 use Rattle.refusals.specs.declared.Refusal.{Refusal}
-use Rattle.words.specs.Kinds.{word_in_holds, word_var, word_split, word_asvec}
+use Rattle.words.specs.Kinds.{word_kind_in, word_var, word_split, word_asvec}
 use Rattle.words.specs.Groups.{is_leaf, has_one_operand}
 use Rattle.meaning.specs.Types.{DataType, Series, number}
 use Rattle.meaning.specs.Limits.{IsWidth, TypeWithin}
@@ -36,7 +36,7 @@ use Rattle.row_typing.proofs.TermAnswers.{at_line, force_on, place_on, operands_
 
 -- ---- numbers in range
 
-in-number : (K v : ℕ) {e : Term} → Leaf e → term_kind e ≡ word_in_holds → TermInRange K v e → term_number e < K
+in-number : (K v : ℕ) {e : Term} → Leaf e → term_kind e ≡ word_kind_in → TermInRange K v e → term_number e < K
 in-number K w (Leaf.input k) g r = r
 in-number K w (Leaf.variable d) g r = absurd (omega arith)
 in-number K w (Leaf.literal v) g r = absurd (omega arith)
@@ -103,9 +103,9 @@ module _ (ks : List ℕ) (ns : List ℤ) (T : List ℕ) (m : ℕ) (C : List ℕ)
     number_is : n ≡ term_number e
     number_is = read ∙ its_number ks ns (length I) (length Γ) e S.term
 
-    pub leaf_ready : (get_or ks 0 0 ≡ word_in_holds → n < 8) × (get_or ks 0 0 ≡ word_var → n < s.count) × (s.count ≤ 16)
+    pub leaf_ready : (get_or ks 0 0 ≡ word_kind_in → n < 8) × (get_or ks 0 0 ≡ word_var → n < s.count) × (s.count ≤ 16)
     leaf_ready = (
-      (λ h. let q : term_kind e ≡ word_in_holds = sym kind_is ∙ h in
+      (λ h. let q : term_kind e ≡ word_kind_in = sym kind_is ∙ h in
           omega (arith, number_is, in-number (length I) (length Γ) its_leaf q S.term.in_range, S.in_force.few)),
       (λ h. let q : term_kind e ≡ word_var = sym kind_is ∙ h in
           omega (arith, number_is, var_number (length I) (length Γ) its_leaf q S.term.in_range, S.in_force.count)),

@@ -13,10 +13,10 @@ use Rattle.refusals.specs.declared.Refusal.TheVariants.{UnknownOrder, StoreSize}
 use Rattle.refusals.specs.declared.Answer.{Answer}
 use Rattle.refusals.specs.declared.Answer.TheVariants.{Told, Refused}
 use Rattle.words.specs.Kinds.{Row, rows_of}
-use Rattle.words.specs.Laws.{rows_length}
+use Rattle.words.proofs.Laws.{rows_length}
 use Rattle.texts.specs.Texts.{lines_of}
 use Rattle.lines.specs.Reading.{rows_in, head_of, loops_limits, reading}
-use Rattle.lines.specs.Laws.{rows_read}
+use Rattle.lines.proofs.Laws.{rows_read}
 use Rattle.lines.specs.declared.Heads.TheVariants.{Words}
 use Rattle.meaning.specs.Loops.{Loops}
 use Rattle.meaning.specs.Rows.{loops_rows}

@@ -7,7 +7,7 @@ use lib.IntN.{ℤ, pos}
 use lib.ListN.{length, get_or, drop, take, length-append, length-map}
 use lib.Seq.{get_or-append-add, take_at}
 use Rattle.words.specs.Kinds.{Row, rows_of, word_loops, word_cells}
-use Rattle.words.specs.Laws.{rows_length}
+use Rattle.words.proofs.Laws.{rows_length}
 use Rattle.meaning.specs.Loops.{Loops}
 use Rattle.meaning.specs.Rows.{command_rows, all_cells_rows, loops_rows}
 use Rattle.syntax.specs.Ranges.{as_natural, cell_numbers}

@@ -16,7 +16,7 @@ use Rattle.words.specs.Words.{table, operands_of}
 use Rattle.words.specs.Groups.{counted, is_leaf, has_one_operand}
 use Rattle.words.specs.declared.Sort.TheVariants as sort
 use Rattle.words.specs.declared.Operands.TheVariants.{Count}
-use Rattle.words.specs.Laws.{rows_length}
+use Rattle.words.proofs.Laws.{rows_length}
 use Rattle.meaning.specs.Types.{Series}
 use Rattle.meaning.specs.Terms.{LoopKind, Term}
 use Rattle.meaning.specs.Rows.{operation_word, map_word, split_word, join_word, index_word, term_rows}

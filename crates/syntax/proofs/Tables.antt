@@ -15,7 +15,7 @@ use Rattle.words.specs.Kinds.{Row, rows_of}
 use Rattle.words.specs.Groups.{is_listed}
 use Rattle.refusals.specs.declared.Answer.{Answer}
 use Rattle.refusals.specs.declared.Answer.TheVariants.{Told, Refused}
-use Rattle.words.specs.Laws.{rows_length}
+use Rattle.words.proofs.Laws.{rows_length}
 use Rattle.words.specs.declared.Sort.{Sort}
 use Rattle.syntax.specs.declared.operands.Due.{Due}
 use Rattle.syntax.specs.Names.{no_names}

@@ -1,27 +1,19 @@
 -- What the tests of a word, its range and its names come to at each word. Assumes nothing.
-use mathlib.Core.Path.{◌≡◌, refl, sym, ◌∙◌, subst}
-use mathlib.Core.Bool.{Bool, true, false, cond, not}
+use mathlib.Core.Path.{◌≡◌, refl, sym, subst}
+use mathlib.Core.Bool.{Bool, true, false, cond}
 use mathlib.Core.List.{List, [], ◌∷◌}
 use mathlib.Core.Logic.{inl, inr}
 use Prim.Native.Nat.{ℕ, ◌+◌}
-use borrow.Author.Tests.{ne_eqb, not-true, not-false}
+use borrow.Author.Tests.{ne_eqb}
 use lib.Dec.{eqb}
 use types.Run.{OneOf}
-use Rattle.words.specs.Kinds.{word_plan, word_in_holds, word_var, word_lit, word_redseq, word_idx, word_loops, word_new, word_loc, word_ctr, word_at_holds}
+use Rattle.words.specs.Kinds.{word_plan, word_kind_in, word_var, word_lit, word_redseq, word_idx, word_loops, word_new, word_loc, word_ctr, word_kind_at}
 use Rattle.words.specs.declared.Sort.{Sort}
 use Rattle.syntax.specs.declared.names.Names.{Names}
 use Rattle.words.specs.Groups.{one_of, is_map, is_loop}
 use Rattle.syntax.specs.Ranges.{sizes, wide, in_range}
 use Rattle.syntax.specs.Names.{names, lanes_with, opened_by}
-use Rattle.words.specs.Laws.{All, not_one}
-
--- ---- tests that are the results of calls
-
-pub flag_not : (r t : Bool) → r ≡ t → not r ≡ true → t ≡ false
-flag_not r t e h = sym e ∙ not-true r h
-
-pub flag_yes : (r t : Bool) → r ≡ t → not r ≡ false → t ≡ true
-flag_yes r t e h = sym e ∙ not-false r h
+use Rattle.words.proofs.Laws.{All, not_one}
 
 -- ---- a word in a list of words
 
@@ -47,8 +39,8 @@ last_one k w = go (eqb k w)
 -- ---- `in_range`
 
 module _ (s : Sort) (names : Names) (k n : ℕ) where
-  pub range_rest : one_of k sizes ≡ false → one_of k wide ≡ false → (OneOf (word_plan ∷ word_loops ∷ []) k → ⊥) → (k ≡ word_idx → ⊥) → (k ≡ word_at_holds → ⊥)
-      → (k ≡ word_in_holds → ⊥) → (k ≡ word_var → ⊥) → (k ≡ word_ctr → ⊥) → (k ≡ word_loc → ⊥) → (k ≡ word_lit → ⊥)
+  pub range_rest : one_of k sizes ≡ false → one_of k wide ≡ false → (OneOf (word_plan ∷ word_loops ∷ []) k → ⊥) → (k ≡ word_idx → ⊥) → (k ≡ word_kind_at → ⊥)
+      → (k ≡ word_kind_in → ⊥) → (k ≡ word_var → ⊥) → (k ≡ word_ctr → ⊥) → (k ≡ word_loc → ⊥) → (k ≡ word_lit → ⊥)
       → eqb n 0 ≡ in_range s names k n
   unfolding in_range
   range_rest size width h idx at inp var ctr loc lit =
@@ -58,8 +50,8 @@ module _ (s : Sort) (names : Names) (k n : ℕ) where
         not_one k (word_plan ∷ word_loops ∷ []) ((λ e. h (inl e)), ((λ e. h (inr e)), tt)),
         ne_eqb k
             word_idx idx,
-        ne_eqb k word_at_holds at,
-        ne_eqb k word_in_holds inp,
+        ne_eqb k word_kind_at at,
+        ne_eqb k word_kind_in inp,
         ne_eqb k word_var var,
         ne_eqb k word_ctr ctr,
         ne_eqb k word_loc loc,

@@ -8,7 +8,7 @@ use lib.IntN.{ℤ, pos}
 use lib.ListN.{length, get_or, take, drop, length-append, length-map}
 use lib.Seq.{drop_at, length-take-le, get_or-take, get_or-drop}
 use Rattle.words.specs.Kinds.{Row, rows_of, word_plan, word_loops, word_cells, word_out}
-use Rattle.words.specs.Laws.{rows_length}
+use Rattle.words.proofs.Laws.{rows_length}
 use Rattle.meaning.specs.Types.{DataType, number, cells}
 use Rattle.meaning.specs.Terms.{Plan}
 use Rattle.meaning.specs.Expressions.{Acceptor}

@@ -14,7 +14,7 @@ use Rattle.refusals.specs.declared.Answer.TheVariants.{Told, Refused}
 use Rattle.refusals.specs.Answers.{unless_refused, is_told}
 use Rattle.words.specs.Kinds.{Row, rows_of}
 use Rattle.lines.specs.Reading.{filled}
-use Rattle.lines.specs.TableLaws.{rows_in_front}
+use Rattle.lines.proofs.TableLaws.{rows_in_front}
 use Rattle.lines.specs.Printing.{text_of, fitting, printing, PrintInto}
 use Rattle.lines.specs.Lent.{TableInto, ask_room}
 use Rattle.translate.specs.Entry.{rows_made, make_text, TextInto}

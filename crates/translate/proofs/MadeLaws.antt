@@ -18,10 +18,10 @@ use Rattle.refusals.specs.declared.Answer.{Answer}
 use Rattle.refusals.specs.declared.Answer.TheVariants.{Told, Refused}
 use Rattle.refusals.specs.Answers.{unless_refused}
 use Rattle.words.specs.Kinds.{Row, rows_of}
-use Rattle.words.specs.Laws.{rows_length}
+use Rattle.words.proofs.Laws.{rows_length}
 use Rattle.words.specs.declared.Sort.TheVariants as sort
 use Rattle.lines.specs.Reading.{kinds_of, numbers_of}
-use Rattle.lines.specs.TableLaws.{rows_again, refused_into}
+use Rattle.lines.proofs.TableLaws.{rows_again, refused_into}
 use Rattle.lines.specs.Lent.{TableInto}
 use Rattle.meaning.specs.Types.{DataType}
 use Rattle.meaning.specs.Terms.{Plan}
@@ -29,7 +29,7 @@ use Rattle.meaning.specs.Typing.{HasType}
 use Rattle.meaning.specs.Limits.{PlanWithin}
 use Rattle.meaning.specs.Rows.{plan_rows}
 use Rattle.meaning.specs.Translation.{plan_type}
-use Rattle.meaning.specs.Laws.Typing.{well_typed}
+use Rattle.meaning.proofs.Laws.Typing.{well_typed}
 use Rattle.syntax.specs.Walk.{walk_table}
 use Rattle.syntax.specs.Reading.{plan_of}
 use Rattle.syntax.specs.Theorems.{all_passed, plan_tree}
@@ -40,8 +40,8 @@ use Rattle.loops.specs.declared.Checked.TheVariants as check
 use Rattle.typing.specs.Check.{Verdict, typed, refused, check_plan}
 use Rattle.typing.specs.Entry.{answered, check_plan_rows}
 use Rattle.row_typing.specs.Typed.{PlanStands, PlanTyped, PlanAnswered}
-use Rattle.typing.specs.Laws.Plans.{plan_accepted}
-use Rattle.typing.specs.Laws.Rows.{walked_rows, unwalked_rows}
+use Rattle.typing.proofs.Laws.Plans.{plan_accepted}
+use Rattle.typing.proofs.Laws.Rows.{walked_rows, unwalked_rows}
 use Rattle.row_typing.specs.declared.TypedPlan.{TypedPlan}
 use Rattle.type_rules.specs.declared.Typing.TheVariants as typing
 use Rattle.translate.specs.Entry.{made_rows, make_plan}

@@ -1,7 +1,7 @@
 -- A plan's text that was read: the table that was lent to the reader holds its rows. Assumes nothing.
 use mathlib.Core.Path.{◌≡◌, sym, ap, ◌∙◌}
 use mathlib.Core.List.{List}
-use Prim.Native.Nat.{ℕ, ◌≤◌}
+use Prim.Native.Nat.{ℕ}
 use lib.IntN.{ℤ}
 use Rattle.refusals.specs.declared.Refusal.{Refusal}
 use Rattle.refusals.specs.declared.Answer.{Answer}
@@ -11,12 +11,12 @@ use Rattle.words.specs.Kinds.{Row}
 use Rattle.words.specs.Words.{look_up}
 use Rattle.texts.specs.Texts.{lines_of}
 use Rattle.lines.specs.Reading.{rows_in, reading, head_of, plan_limits}
-use Rattle.lines.specs.TableLaws.{refused_into}
+use Rattle.lines.proofs.TableLaws.{refused_into}
 use Rattle.lines.specs.declared.Heads.TheVariants.{Words}
 use Rattle.lines.specs.Lent.{TableInto}
 use Rattle.syntax.specs.Reading.{plan_of}
 use Rattle.typing.specs.Entry.{check_plan_rows}
-use Rattle.typing.specs.Laws.Texts.{read_text, unread_text}
+use Rattle.typing.proofs.Laws.Texts.{read_text, unread_text}
 use Rattle.translate.specs.Entry.{made_rows, make_plan, rows_made, make_text}
 use Rattle.translate.specs.Laws.Answers.{text_refused}
 use Rattle.translate.proofs.MadeLaws.{into_as}

@@ -11,7 +11,7 @@ use Rattle.refusals.specs.declared.Refusal.{Refusal}
 use Rattle.refusals.specs.declared.Refusal.TheVariants.{TypeSize}
 use Rattle.meaning.specs.Types.{DataType, number, array, vector, cells, levels}
 use Rattle.meaning.specs.Limits.{CellsWithin, TypeWithin}
-use Rattle.meaning.specs.Laws.Bounds.{width_is_count}
+use Rattle.meaning.proofs.Laws.Bounds.{width_is_count}
 use Rattle.type_table.specs.Table.{type_at, Sound, Put}
 use Rattle.type_table.specs.Laws.{sound_below, length_within}
 use Rattle.typing.specs.Check.{Verdict, typed, refused, sized}

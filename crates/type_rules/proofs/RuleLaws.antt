@@ -9,9 +9,9 @@ use lib.Dec.{eqb}
 use Rattle.refusals.specs.declared.Refusal.TheVariants.{TypeMisfit}
 use Rattle.meaning.specs.Types.{DataType, Series, number, array, vector, is_number}
 use Rattle.meaning.specs.Limits.{TypeWithin}
-use Rattle.meaning.specs.Laws.Typing.{number_told}
+use Rattle.meaning.proofs.Laws.Typing.{number_told}
 use Rattle.typing.specs.Check.{typed, refused, is_array, is_pair, is_vector, same_type, sized, fitted}
-use Rattle.words.specs.Kinds.{word_neg, word_split, word_join, word_fst, word_snd, word_asvec, word_asscal, word_at_holds, word_mapvec, word_zip, word_pair}
+use Rattle.words.specs.Kinds.{word_neg, word_split, word_join, word_fst, word_snd, word_asvec, word_asscal, word_kind_at, word_mapvec, word_zip, word_pair}
 use Rattle.words.specs.Groups.{one_of, is_map}
 use Rattle.type_rules.specs.Rules.{unary_rule, binary_rule, negate_rule, split_rule, join_rule, first_rule, second_rule, index_rule, zip_rule, map_rule, operation_rule, reduce_rule}
 use Rattle.type_rules.proofs.Found.{within_sized}
@@ -281,12 +281,12 @@ module _ (k n line : ℕ) (t : DataType) where
   unfolding unary_rule
   unary_asscal e = rw e
 
-  pub unary_lane : k ≡ word_at_holds → unary_rule k n line t ≡ index_rule Series.vectors n line t
+  pub unary_lane : k ≡ word_kind_at → unary_rule k n line t ≡ index_rule Series.vectors n line t
   unfolding unary_rule
   unary_lane e = rw e
 
   pub unary_index : (k ≡ word_neg → ⊥) → (k ≡ word_split → ⊥) → (k ≡ word_join → ⊥) → (k ≡ word_fst → ⊥) → (k ≡ word_snd → ⊥)
-      → (k ≡ word_asvec → ⊥) → (k ≡ word_asscal → ⊥) → (k ≡ word_at_holds → ⊥) → unary_rule k n line t ≡ index_rule Series.arrays n line t
+      → (k ≡ word_asvec → ⊥) → (k ≡ word_asscal → ⊥) → (k ≡ word_kind_at → ⊥) → unary_rule k n line t ≡ index_rule Series.arrays n line t
   unfolding unary_rule
   unary_index a b c d e f g h = rw (
     ne_eqb k word_neg a,
@@ -296,7 +296,7 @@ module _ (k n line : ℕ) (t : DataType) where
     ne_eqb k word_snd e,
     ne_eqb k word_asvec f,
     ne_eqb k word_asscal g,
-    ne_eqb k word_at_holds h,
+    ne_eqb k word_kind_at h,
   )
 
 module _ (k line : ℕ) (s t : DataType) where

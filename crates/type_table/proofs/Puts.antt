@@ -6,7 +6,7 @@ use native.Mathlib.Omega.{arith}
 use lib.ListN.{length, set}
 use Rattle.meaning.specs.Types.{DataType, number, array, vector, cells, levels}
 use Rattle.meaning.specs.Limits.{IsCount, IsWidth}
-use Rattle.meaning.specs.Laws.Bounds.{width_is_count}
+use Rattle.meaning.proofs.Laws.Bounds.{width_is_count}
 use Rattle.type_table.specs.Nodes.{node_of}
 use Rattle.type_table.specs.Table.{by_kind, node_type, types_of, type_at, Sound, Put}
 use Rattle.type_table.specs.Laws.{kind_node, levels_node, cells_node, left_node, right_node, length_within, node_put}

@@ -6,7 +6,7 @@ use native.Mathlib.Omega.{arith}
 use borrow.Author.Tests.{eqb-true, eqb-false}
 use lib.Dec.{eqb}
 use Rattle.meaning.specs.Types.{DataType, number, array, vector, is_number, array_length, element, first_type, second_type}
-use Rattle.meaning.specs.Laws.Typing.{number_told}
+use Rattle.meaning.proofs.Laws.Typing.{number_told}
 
 -- a flag that answers whether Q
 abbrev Answers : Bool → Type 0 → Type 0

@@ -16,8 +16,8 @@ use Rattle.refusals.specs.declared.Answer.TheVariants.{Told, Refused}
 use Rattle.refusals.specs.Answers.{after, is_told}
 use Rattle.words.specs.Kinds.{Row, rows_of}
 use Rattle.lines.specs.Reading.{cell_head, reading, values_limits, room_for, kinds_of, filled, ReadInto}
-use Rattle.lines.specs.Laws.{rows_read}
-use Rattle.lines.specs.TableLaws.{in_front, rows_in_front}
+use Rattle.lines.proofs.Laws.{rows_read}
+use Rattle.lines.proofs.TableLaws.{in_front, rows_in_front}
 use Rattle.meaning.specs.Sequence.{up_from}
 use Rattle.values.specs.Values.{one_line_each, asked, value_lines, filling, value_of, FillInto}
 use Rattle.values.specs.Stored.{stored}

@@ -2,7 +2,7 @@
 use mathlib.Core.Path.{◌≡◌, refl, sym, ap, subst}
 use mathlib.Core.Bool.{Bool, true, false, cond, ◌&&◌}
 use mathlib.Core.List.{List, [], ◌∷◌, ◌++◌}
-use Prim.Native.Nat.{ℕ, suc, ◌+◌, ◌-◌, ◌*◌, ◌≤◌, ◌<◌}
+use Prim.Native.Nat.{ℕ, suc, ◌-◌, ◌*◌, ◌≤◌, ◌<◌}
 use native.Mathlib.Nat.{mul-suc}
 use native.Mathlib.Omega.{arith}
 use lib.Dec.{T, eqb, leb, leb→le}
@@ -20,7 +20,7 @@ use Rattle.numerals.specs.declared.Numeral.TheVariants.{Is, Malformed}
 use Rattle.texts.specs.Texts.{begin, lines_of, before_comma, after_comma}
 use Rattle.lines.specs.Reading.{cell_head, cell_named, line_of, add_row, rows_in, closed, formed, limited, reading, values_limits}
 use Rattle.texts.specs.Laws.{place_split, together}
-use Rattle.lines.specs.Laws.{paired_row, rows_read}
+use Rattle.lines.proofs.Laws.{paired_row, rows_read}
 use Rattle.lines.specs.declared.Limits.{Limits}
 use Rattle.lines.specs.declared.Line.{Line}
 use Rattle.lines.specs.declared.Line.TheVariants.{IsRow, NoRow}

@@ -14,7 +14,7 @@ use lib.Seq.{drop-cons, ext_get_or, get_or-append-add, get_or-drop, get_or-set_s
 use Rattle.words.specs.Kinds.{Row, rows_of}
 use Rattle.lines.specs.Reading.{kinds_of}
 use Rattle.meaning.specs.Sequence.{up_from}
-use Rattle.meaning.specs.Laws.Orders.{up_from_length}
+use Rattle.meaning.proofs.Laws.Orders.{up_from_length}
 use Rattle.values.specs.Values.{lines_for, value_of}
 use Rattle.values.specs.Stored.{stored}
 use Rattle.values.specs.Laws.{OneLineEach, cell_cases, lines_here, lines_other}

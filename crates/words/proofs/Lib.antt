@@ -1,3 +1,4 @@
 pub mod Lists
 pub mod Packed
 pub mod Rows
+pub mod Laws

@@ -9,9 +9,9 @@ use borrow.Author.Tests.{eq-eqb, ne_eqb}
 use lib.Dec.{eqb}
 use lib.ListN.{get_or}
 use Rattle.words.specs.Groups.{one_of, counted, is_leaf, has_one_operand, operations}
-use Rattle.words.specs.Kinds.{word_in_holds, word_var, word_lit, word_neg, word_split, word_join, word_fst, word_snd, word_idx}
-use Rattle.words.specs.Kinds.{word_asvec, word_asscal, word_at_holds}
-use Rattle.words.specs.Laws.{All, not_one, is_one}
+use Rattle.words.specs.Kinds.{word_kind_in, word_var, word_lit, word_neg, word_split, word_join, word_fst, word_snd, word_idx}
+use Rattle.words.specs.Kinds.{word_asvec, word_asscal, word_kind_at}
+use Rattle.words.proofs.Laws.{All, not_one, is_one}
 use Rattle.words.specs.Words.{Entry, entry, table, operands_as, operands_of}
 use Rattle.words.specs.declared.Sort.TheVariants.{Term}
 
@@ -55,10 +55,10 @@ counted_in n k = ap (λ (m : ℕ). one_of m (kinds_with n 0 table)) (sym (zero-a
 
 -- [2.2] the leaves, and the words of one operand
 abbrev leaves : List ℕ
-leaves = word_in_holds ∷ word_var ∷ word_lit ∷ []
+leaves = word_kind_in ∷ word_var ∷ word_lit ∷ []
 
 abbrev ones : List ℕ
-ones = word_neg ∷ word_split ∷ word_join ∷ word_fst ∷ word_snd ∷ word_idx ∷ word_asvec ∷ word_asscal ∷ word_at_holds ∷ []
+ones = word_neg ∷ word_split ∷ word_join ∷ word_fst ∷ word_snd ∷ word_idx ∷ word_asvec ∷ word_asscal ∷ word_kind_at ∷ []
 
 pub no_leaf : (k : ℕ) → All leaves (λ w. k ≡ w → ⊥) → false ≡ is_leaf k
 unfolding kinds_with table

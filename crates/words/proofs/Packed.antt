@@ -9,7 +9,7 @@ use borrow.Author.Tests.{ltb-true, ltb-false}
 use lib.Dec.{ltb}
 use lib.ListN.{length, get_or, take, length-append, get_or-eq_default}
 use lib.Seq.{get_or-append-add, length-take-le}
-use Rattle.words.specs.Laws.{table_length}
+use Rattle.words.proofs.Laws.{table_length}
 use Rattle.words.specs.Packed.{packed, packed_table, column_for, sorts}
 use Rattle.words.specs.Tables.{no_word, row_in}
 use Rattle.words.specs.Words.{Entry, entry, table, words, entry_at, bytes, column_of, operands_as, operands_of}

@@ -7,7 +7,7 @@ use native.Mathlib.Omega.{arith}
 use borrow.Author.Tests.{ltb-true, ltb-false}
 use lib.Dec.{ltb}
 use lib.ListN.{length, get_or, get_or-map, get_or-eq_default}
-use Rattle.words.specs.Laws.{words_in_count, first_count, first_at}
+use Rattle.words.proofs.Laws.{words_in_count, first_count, first_at}
 use Rattle.words.specs.Tables.{first_of, letters_in, word_in, words_in, no_word, row_in}
 use Rattle.words.specs.Words.{words, word_at}
 

@@ -1,0 +1,14 @@
+-- `run::run_text_in` meets its contract: the words text is refused, or read into the table.
+use mathlib.Core.Path.{refl}
+use Rattle.own_words.specs.Laws.{under_read, under_refused}
+use Rattle.run.proofs.run_text_in.Goals as goal
+
+pub returns-in_default : goal.returns-in_default
+returns-in_default c = record { frame = refl; result = under_refused c.read-read.ensures.answer c.in_default.is (c.in_default.is, refl, refl) }
+
+pub returns : goal.returns
+returns c = record {
+  frame = c.run_with.ensures.frame;
+  result = under_read c.read-read.ensures c.in-Told.is
+      c.run_with.ensures.result;
+}
