@@ -1,4 +1,4 @@
-/* Vazhdumir for firmware: plans, the loops made from them, and their run. Link with libvazhdumir.a (`rt staticlib vazhdumir`).
+/* Vazhdumir for firmware: plans, the loops made from them, and their run. Link with libvazhdumir.a (`bash tools/build library`).
  * Numbers in brackets are rules of docs/REQUIREMENTS.md.
  *
  * Answers. Every entry answers every input with one 64-bit number [12.2]. If its highest byte is 0, the call did its work, and the rest is the
@@ -28,12 +28,12 @@
  * Lanes. `lanes,w` is a loop of 2, 4, 8 or 16 rounds for cores that work on so many numbers at once [18.9]. In the order of its rounds, their
  * cells and their overlapping it is as a `par` [18.10]. None stands inside another [18.15].
  *
- * Machine. The library is for x86-64, where size_t has 64 bits; of the C library it uses memset alone. Nothing is allocated.
+ * Machine. The library is for x86-64, where size_t has 64 bits; of the C library it uses memcpy and memset alone. Nothing is allocated.
  *
  * Stack. An entry uses the caller's. On x86-64 a check of loops takes 104 KiB and a run 280, however many lines there are, and more only where rows
- * nest in an operand that is not its row's last: the walk of questions 4 to 6 calls itself for such operands, some 288 bytes a level. So chains of
- * `neg`, of `times` and of `seq` to the right take no more; 817 `seq` to the left, the deepest commands, run on 512 KiB, and some 2,045 `add` or `plus` to
- * the left, the deepest of all loops within the limits, on 864 KiB. The deepest plan, a chain of `neg`, is checked and translated on 512 KiB.
+ * nest in an operand that is not its row's last: the walk of questions 4 to 6 calls itself for such operands, some 304 bytes a level. So chains of
+ * `neg`, of `times` and of `seq` to the right take no more; 817 `seq` to the left, the deepest commands, run on 528 KiB, and some 2,045 `add` or `plus` to
+ * the left, the deepest of all loops within the limits, on 896 KiB. The deepest plan, a chain of `neg`, is checked and translated on 512 KiB.
  *
  * Threads and interrupts. Nothing is kept between calls [12.5] and there is no memory but the stack and what is lent, so entries may be called from
  * several threads at once, and from an interrupt while a call is under way, on slices that do not overlap. An interrupt has to save the SSE

@@ -1,6 +1,7 @@
 // What a reader has to believe, computed. From the statements in the files named on the command line every definition is reached that they
-// speak of, through the imports of crates/*/specs. A name of a file Contracts.antt is not followed: it has to stand in the `ensures` of a
-// public function, and the demands are drawn from it. Prints the table of docs/PROOFS.md; `--names` prints every definition instead.
+// speak of, through the imports of crates/*/specs. A name of a file Promises.antt is a contract and not followed: it has to stand in the
+// `ensures` of a public function, a contract for C in that of an exported one, and the demands are drawn from it. Prints the table of
+// docs/PROOFS.md; `--names` prints every definition instead.
 // Fails where an import is not found, a line is not understood, or a definition stands among laws, theorems or proofs.
 use std::collections::{BTreeMap, BTreeSet, HashMap};
 use std::path::{Path, PathBuf};
@@ -64,10 +65,15 @@ struct Item {
     clauses: Vec<Line>,
 }
 
+// the parts of a name around the places for its operands, `◌`; a name without places is one part
+fn parts_of(name: &str) -> Vec<&str> {
+    name.split('◌').filter(|part| !part.is_empty()).collect()
+}
+
 impl Item {
     // a name with places for its operands is used by its other parts
     fn parts(&self) -> Vec<&str> {
-        if self.name.contains('_') { self.name.split('_').filter(|part| !part.is_empty()).collect() } else { vec![&self.name] }
+        parts_of(&self.name)
     }
 }
 
@@ -227,6 +233,7 @@ enum Module {
 }
 
 struct World {
+    packages: Vec<String>,
     sources: Vec<Source>,
     items: Vec<Item>,
     errors: Vec<String>,
@@ -255,7 +262,7 @@ fn text_of(path: &Path) -> String {
 
 impl World {
     fn read(packages: &[String]) -> World {
-        let mut world = World { sources: Vec::new(), items: Vec::new(), errors: Vec::new() };
+        let mut world = World { packages: packages.to_vec(), sources: Vec::new(), items: Vec::new(), errors: Vec::new() };
         for package in packages {
             let specs = PathBuf::from(format!("crates/{package}/specs"));
             for path in files_under(&specs, "antt") {
@@ -277,13 +284,15 @@ impl World {
         self.items.iter().enumerate().filter(move |(_, item)| item.source == source)
     }
 
-    // `Rattle·NAME.specs.A.B`, or `Rattle·NAME·specs.specs.A.B` inside the crate; the last part may be a data's or a record's name
+    // `Rattle.NAME.specs.A.B`, in the crate itself too; the last part may be a data's or a record's name
     fn module(&self, path: &str) -> Option<Module> {
-        let Some(path) = path.strip_prefix("Rattle·") else { return Some(Module::Library) };
-        let (head, tail) = path.split_once('.')?;
-        let package = head.split('·').next()?;
+        let Some(path) = path.strip_prefix("Rattle.") else { return Some(Module::Library) };
+        let (package, tail) = path.split_once('.')?;
+        if !self.packages.iter().any(|own| own == package) {
+            return Some(Module::Library);
+        }
         if let Some(declared) = tail.strip_prefix("specs.declared.") {
-            let declared = declared.trim_end_matches(".the-variants");
+            let declared = declared.trim_end_matches(".TheVariants");
             let (file, name) = declared.rsplit_once('.').unwrap_or(("lib", declared));
             return Some(Module::Code(package.into(), file.replace('.', "/"), name.into()));
         }
@@ -358,7 +367,7 @@ impl Scope {
                 if targets.is_empty() && !matches!(module, Module::Library) {
                     errors.push(format!("{place}: {name} is not found in {}", import.path));
                 }
-                for part in if here.contains('_') { here.split('_').collect() } else { vec![here.as_str()] } {
+                for part in parts_of(here) {
                     scope.names.entry(part.into()).or_default().extend(targets.clone());
                 }
             }
@@ -375,7 +384,7 @@ impl Scope {
         if let Some(module) = self.aliases.get(head) {
             found.extend(world.targets(module, rest.split('.').next().unwrap_or("")));
         }
-        if let Some((path, last)) = name.rsplit_once('.').filter(|_| name.starts_with("Rattle·")) {
+        if let Some((path, last)) = name.rsplit_once('.').filter(|_| name.starts_with("Rattle.")) {
             found.extend(world.module(path).map_or(Vec::new(), |module| world.targets(&module, last)));
         }
         found
@@ -384,22 +393,26 @@ impl Scope {
 
 // ---- contracts
 
-// the names in the `ensures` of public functions without `requires`
-fn promised_names(packages: &[String]) -> BTreeSet<String> {
-    let mut names = BTreeSet::new();
+// the names in the `ensures` of public functions without `requires`: of all of them, and of those that are exported to C
+fn promised_names(packages: &[String]) -> (BTreeSet<String>, BTreeSet<String>) {
+    let (mut names, mut exported) = (BTreeSet::new(), BTreeSet::new());
     for path in packages.iter().flat_map(|package| files_under(Path::new(&format!("crates/{package}/src")), "rt")) {
         let text = text_of(&path);
         let code: String = text.lines().map(|line| line.split("//").next().unwrap_or("").to_string() + "\n").collect();
         for part in code.split("\npub ").skip(1) {
-            // up to the body, whose brace stands alone
-            let head = part.split("\n{").next().unwrap_or("");
+            // up to the body, whose brace stands alone where there is a contract
+            let head = part.split("\n{").next().unwrap_or("").split("\n}").next().unwrap_or("");
             if head.split_whitespace().any(|word| word == "fn") && !head.contains("requires") {
                 let promises = head.split_once("ensures").map_or("", |(_, promises)| promises);
-                names.extend(names_in(promises).into_iter().map(String::from));
+                let found = names_in(promises).into_iter().map(String::from);
+                if head.starts_with("extern \"C\" fn ") {
+                    exported.extend(found.clone());
+                }
+                names.extend(found);
             }
         }
     }
-    names
+    (names, exported)
 }
 
 // ---- what is reached
@@ -419,7 +432,7 @@ impl Reached {
         let mut open = roots;
         while let Some((at, whole)) = open.pop() {
             let item = &world.items[at];
-            if world.sources[item.source].path.ends_with("Contracts.antt") {
+            if world.sources[item.source].path.ends_with("Promises.antt") {
                 reached.contracts.insert(at);
                 continue;
             }
@@ -504,11 +517,15 @@ fn misplaced(world: &World, packages: &[String], reached: &Reached) -> Vec<Strin
         }
     }
     errors.extend(reached.proofs.iter().map(|place| format!("{place} is to be believed, but stands among proofs")));
-    let promised = promised_names(packages);
-    for item in world.items.iter().filter(|item| world.sources[item.source].path.ends_with("Contracts.antt")) {
-        if !promised.contains(&item.name) {
-            let path = world.sources[item.source].path.display();
-            errors.push(format!("{path}: {} stands in the `ensures` of no public function without `requires`", item.name));
+    let (promised, exported) = promised_names(packages);
+    for item in world.items.iter().filter(|item| world.sources[item.source].path.ends_with("Promises.antt")) {
+        let source = &world.sources[item.source];
+        let (path, name) = (source.path.display(), &item.name);
+        if !promised.contains(name) {
+            errors.push(format!("{path}: {name} stands in the `ensures` of no public function without `requires`"));
+        }
+        if source.package == "vazhdumir" && !exported.contains(name) {
+            errors.push(format!("{path}: {name} stands in the `ensures` of no exported function"));
         }
     }
     errors
@@ -518,7 +535,7 @@ fn main() {
     let (options, files): (Vec<String>, Vec<String>) = env::args().skip(1).partition(|word| word.starts_with("--"));
     let crates = text_of(Path::new("crates.txt"));
     let crates = crates.lines().filter(|line| !line.starts_with('#'));
-    let packages: Vec<String> = crates.filter_map(|line| Some(line.split_once(':')?.0.to_string())).collect();
+    let packages: Vec<String> = crates.filter_map(|line| Some(line.split_once(':')?.0.split_whitespace().next()?.to_string())).collect();
     let world = World::read(&packages);
     let mut errors = world.errors.clone();
     let scopes: Vec<Scope> = (0..world.sources.len()).map(|source| Scope::of(&world, source, &mut errors)).collect();

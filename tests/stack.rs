@@ -13,11 +13,11 @@ const DEPTH: usize = 4_084;
 // Each with the KiB that the header promises to be enough.
 const SHAPES: [(&str, usize); 6] = [
     ("seq to the right", 512),
-    ("seq to the left", 512),
-    ("seq to the left in lanes", 512),
+    ("seq to the left", 528),
+    ("seq to the left in lanes", 528),
     ("neg", 512),
     ("times", 512),
-    (LEVELS, 864),
+    (LEVELS, 896),
 ];
 
 const ENTRIES: [&str; 3] = ["check", "need", "run"];
@@ -87,7 +87,7 @@ fn least(entry: &str, shape: &str, most: usize) -> usize {
 
 // The bytes that a level takes: the frames of calls are multiples of 16 bytes.
 fn level() -> usize {
-    let more = least("check", LEVELS, 864) - least("check", HALF, 864);
+    let more = least("check", LEVELS, 896) - least("check", HALF, 896);
     let bytes = (more << 10) as f64 / (DEPTH / 2 - DEPTH / 4) as f64;
     (bytes / 16.0).round() as usize * 16
 }
