@@ -31,7 +31,7 @@
  * Machine. The library is for x86-64, where size_t has 64 bits; of the C library it uses memcpy and memset alone. Nothing is allocated.
  *
  * Stack. An entry uses the caller's. On x86-64 a check of loops takes 104 KiB and a run 280, however many lines there are, and more only where rows
- * nest in an operand that is not its row's last: the walk of questions 4 to 6 calls itself for such operands, some 304 bytes a level. So chains of
+ * nest in an operand that is not its row's last: the walk of questions 4 to 6 calls itself for such operands, some 240 bytes a level. So chains of
  * `neg`, of `times` and of `seq` to the right take no more; 817 `seq` to the left, the deepest commands, run on 528 KiB, and some 2,045 `add` or `plus` to
  * the left, the deepest of all loops within the limits, on 896 KiB. The deepest plan, a chain of `neg`, is checked and translated on 512 KiB.
  *

@@ -1,4 +1,4 @@
-// Arithmetic on cells, [4.1] to [4.5]: the exact result, made in 64 bits, clamped to 32. Every public function answers every input.
+// Arithmetic on cells, [4.1] to [4.5]: the exact result, clamped to 32 bits. Every public function answers every input.
 #![tactic(auto)]
 
 ghost use Rattle.std.specs.Prelude.{◌≡◌, true, ◌≤◌, ◌^◌, pos, nat_abs};
@@ -8,37 +8,31 @@ ghost use Rattle.arithmetic.specs.Arithmetic.{clamp, sum, difference, product, n
 pub fn clamp(z: i64) -> i32
     ensures { result ≡ clamp z }
 {
-    if z < -2147483648 {
-        return -2147483648;
-    }
-    if 2147483647 < z {
-        return 2147483647;
-    }
-    z as i32
+    z.clamp(-2147483648, 2147483647) as i32
 }
 
 pub fn add(x: i32, y: i32) -> i32
     ensures { result ≡ sum x y }
 {
-    clamp(x as i64 + y as i64)
+    x.saturating_add(y)
 }
 
 pub fn sub(x: i32, y: i32) -> i32
     ensures { result ≡ difference x y }
 {
-    clamp(x as i64 - y as i64)
+    x.saturating_sub(y)
 }
 
 pub fn mul(x: i32, y: i32) -> i32
     ensures { result ≡ product x y }
 {
-    clamp(x as i64 * y as i64)
+    x.saturating_mul(y)
 }
 
 pub fn neg(x: i32) -> i32
     ensures { result ≡ negation x }
 {
-    clamp(-(x as i64))
+    x.saturating_neg()
 }
 
 // [4.3] The number nearest to x by y, of two as near the even one. What is left of x has the sign of x; doubled, it lies beyond y on either
@@ -74,17 +68,11 @@ pub fn div(x: i32, y: i32) -> i32
 pub fn min(x: i32, y: i32) -> i32
     ensures { result ≡ lesser x y }
 {
-    if x < y {
-        return x;
-    }
-    y
+    x.min(y)
 }
 
 pub fn max(x: i32, y: i32) -> i32
     ensures { result ≡ greater x y }
 {
-    if x < y {
-        return y;
-    }
-    x
+    x.max(y)
 }

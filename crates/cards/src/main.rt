@@ -4,9 +4,7 @@
 
 ghost use Rattle.std.specs.Prelude.{◌≡◌, ◌≤◌, length, take};
 
-use files::File;
-use loops::Checked;
-use refusals::{Answer, Refusal};
+use refusals::Refusal;
 use std::io;
 use std::rt::Files;
 
@@ -74,11 +72,7 @@ fn run_only<R: Files + Print>(rt: &R) -> io::Result<()> {
 fn read_plan<R: Files>(rt: &R, path: &str, text: &mut [u8; 4097]) -> usize
     ensures { (result ≤ length text.new) × (result ≡ length (take result text.new)) }
 {
-    let file = files::read(rt, path, text);
-    match file {
-        File::Read(bytes) => bytes,
-        File::NotOpened => 0,
-    }
+    files::read(rt, path, text).unwrap_or(0)
 }
 
 // The check of a plan.
@@ -88,8 +82,8 @@ fn check_card<R: Files + Print>(rt: &R, name: &str, path: &str) -> io::Result<()
     let checked = plans::check_text(&plan[..size]);
     print!(rt; "{name}")?;
     match checked {
-        Answer::Told(_) => println!(rt; ": passes"),
-        Answer::Refused(refusal) => refuse(rt, refusal),
+        Ok(_) => println!(rt; ": passes"),
+        Err(refusal) => refuse(rt, refusal),
     }
 }
 
@@ -100,20 +94,14 @@ fn make_loops<R: Files>(rt: &R, path: &str, text: &mut [u8; 65536]) -> usize
     let mut plan = [0u8; 4097];
     let size = read_plan(rt, path, &mut plan);
     let made = translate::translate_text(&plan[..size], text);
-    match made {
-        Answer::Told(bytes) => front(text, bytes),
-        Answer::Refused(_) => 0,
-    }
+    front(text, made.unwrap_or(0))
 }
 
 // So many bytes of a text, or as many as there are.
 fn front(text: &[u8], bytes: usize) -> usize
     ensures { (result ≤ length text.now) × (result ≡ length (take result text.now)) }
 {
-    if bytes < text.len() {
-        return bytes;
-    }
-    text.len()
+    bytes.min(text.len())
 }
 
 // The loops made from a plan: their lines, writes and need.
@@ -128,15 +116,13 @@ fn translate_card<R: Files + Print>(rt: &R, name: &str, path: &str) -> io::Resul
 fn show_loops<P: Print>(rt: &P, text: &[u8]) -> io::Result<()> {
     let mut kinds = [0u8; 4096];
     let mut numbers = [0i32; 4096];
-    let read = loops::read_text(text, &mut kinds, &mut numbers);
-    match read {
-        Answer::Told(rows) => print!(rt; ": lines,{rows}")?,
-        Answer::Refused(refusal) => refuse(rt, refusal)?,
+    match loops::read_text(text, &mut kinds, &mut numbers) {
+        Ok(rows) => print!(rt; ": lines,{rows}")?,
+        Err(refusal) => refuse(rt, refusal)?,
     }
-    let checked = loops::check_text(text);
-    match checked {
-        Checked::Passes { writes, need } => println!(rt; " writes,{writes} need,{need}"),
-        Checked::Refused(refusal) => refuse(rt, refusal),
+    match loops::check_text(text) {
+        Ok(counted) => println!(rt; " writes,{} need,{}", counted.writes, counted.need),
+        Err(refusal) => refuse(rt, refusal),
     }
 }
 
@@ -158,6 +144,7 @@ fn run_card<R: Files + Print>(
 }
 
 // The run in one order.
+// Seven parameters: a struct of some would be made for two calls alone.
 fn run_order<P: Print>(
     rt: &P,
     name: &str,
@@ -167,12 +154,11 @@ fn run_order<P: Print>(
     first: usize,
     count: usize,
 ) -> io::Result<()> {
-    let mut none = [0u8; 0];
-    let ran = run::run_text(text, order, store, &mut none);
+    let ran = run::run_text(text, order, store, &mut []);
     print!(rt; "{name}, order {order}")?;
     match ran {
-        Answer::Told(writes) => show_run(rt, store, first, count, writes),
-        Answer::Refused(refusal) => refuse(rt, refusal),
+        Ok(writes) => show_run(rt, store, first, count, writes),
+        Err(refusal) => refuse(rt, refusal),
     }
 }
 
@@ -193,7 +179,5 @@ fn show_run<P: Print>(
 
 // The rest of a refused card's line.
 fn refuse<P: Print>(rt: &P, refusal: Refusal) -> io::Result<()> {
-    let number = refusals::number(refusal);
-    let line = refusals::line(refusal);
-    println!(rt; ": no,{number},{line}")
+    println!(rt; ": {refusal}")
 }

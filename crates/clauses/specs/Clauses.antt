@@ -99,7 +99,6 @@ pub record NodeUsed (s : State) (r : Translated) : Type 0 where
   pub value : r.value ≡ s.len
   pub regions : r.regions ≡ s.regions
   pub len : r.len ≡ s.len + 1
-  pub to : r.to ≡ s.to
 
 -- the node of variable n
 pub record VariableUsed (T U : List ℕ) (n : ℕ) (s : State) (r : Translated) : Type 0 where
@@ -107,7 +106,6 @@ pub record VariableUsed (T U : List ℕ) (n : ℕ) (s : State) (r : Translated) 
   pub value : r.value ≡ get_or s.variables (s.count - (n + 1)) 0
   pub regions : r.regions ≡ s.regions
   pub len : r.len ≡ s.len
-  pub to : r.to ≡ s.to
   pub same : U ≡ T
 
 -- [6.12] An input of the type at place t, a variable or a literal, which stands in a row of the plan.
@@ -123,7 +121,6 @@ pub record OverOne (T U : List ℕ) (k n : ℕ) (one r : Translated) : Type 0 wh
   pub value : r.value ≡ one.len
   pub regions : r.regions ≡ one.regions
   pub len : r.len ≡ one.len + 1
-  pub to : r.to ≡ one.to
 
 pub record OverTwo (T U : List ℕ) (k : ℕ) (one two r : Translated) : Type 0 where
   pub node : Pushed T U two.len (node_of k 0 0 one.value two.value)
@@ -131,7 +128,6 @@ pub record OverTwo (T U : List ℕ) (k : ℕ) (one two r : Translated) : Type 0 
   pub value : r.value ≡ two.len
   pub regions : r.regions ≡ two.regions
   pub len : r.len ≡ two.len + 1
-  pub to : r.to ≡ two.to
 
 -- ---- states
 
@@ -154,14 +150,12 @@ pub record RegionUsed (s : State) (written r : Translated) : Type 0 where
   pub value : r.value ≡ s.len
   pub regions : r.regions ≡ s.regions + 1
   pub len : r.len ≡ written.len
-  pub to : r.to ≡ written.to
 
 pub record AfterUse (s : State) (used : Translated) (r : State) : Type 0 where
   pub counters : r.counters ≡ s.counters
   pub regions : r.regions ≡ used.regions
   pub variables : SameVariables s r
   pub len : r.len ≡ used.len
-  pub to : r.to ≡ used.to
 
 -- m rows later
 pub record Later (m : ℕ) (translated r : Translated) : Type 0 where
@@ -169,7 +163,6 @@ pub record Later (m : ℕ) (translated r : Translated) : Type 0 where
   pub value : r.value ≡ translated.value
   pub regions : r.regions ≡ translated.regions
   pub len : r.len ≡ translated.len
-  pub to : r.to ≡ translated.to
 
 -- node m is a part of the place P
 pub record IntoPart (T U : List ℕ) (k n P m : ℕ) (s r : State) : Type 0 where
@@ -205,17 +198,16 @@ pub record ReductionBegun (T U : List ℕ) (t a c r g len : ℕ) : Type 0 where
   pub grown : Grown between U (len + 3)
 
 -- [3.10] In the round of a reduction: the body's variables are the total, innermost, and the element; the innermost region is g.
-pub record InRound (s : State) (start : Translated) (g to : ℕ) (r : State) : Type 0 where
+pub record InRound (s : State) (start : Translated) (g : ℕ) (r : State) : Type 0 where
   pub counters : r.counters ≡ s.counters + 1
   pub regions : r.regions ≡ g + 1
   pub variables : r.variables ≡ set (set s.variables s.count (start.len + 1)) (s.count + 1) start.len
   pub count : r.count ≡ s.count + 2
   pub len : r.len ≡ start.len + 3
-  pub end : r.to ≡ to
 
 pub record ReductionEntered (T U : List ℕ) (t a g : ℕ) (s : State) (start : Translated) (r : State) : Type 0 where
   pub begun : ReductionBegun T U t a s.counters start.regions g start.len
-  pub round : InRound s start g r.to r
+  pub round : InRound s start g r
 
 -- [6.14] What is used of it is the total, region n; m rows stand before its body.
 pub record ReductionLeft (T U : List ℕ) (total n m : ℕ) (body r : Translated) : Type 0 where

@@ -6,20 +6,17 @@ use mathlib.Core.Logic.{◌⊎◌, inl, inr}
 use mathlib.Core.Option.{Option, none, some}
 use Prim.Native.Nat.{ℕ, zero, suc, ◌+◌, ◌-◌, ◌≤◌, ◌<◌}
 use native.Mathlib.Omega.{arith}
-use borrow.Author.Tests.{ne_eqb}
 use lib.IntN.{ℤ, pos}
 use lib.ListN.{length, get_or, set}
 use Rattle.refusals.specs.declared.Refusal.{Refusal}
 use Rattle.refusals.specs.declared.Refusal.TheVariants.{OffsetBound}
 use Rattle.syntax.specs.Ranges.{as_natural}
 use Rattle.columns.specs.Figures.{Column}
-use Rattle.columns.specs.Asking.{no_by, no_at, first_from, no_on}
+use Rattle.std.specs.Prelude.{Result, Ok, Err}
+use Rattle.columns.specs.Asking.{no_by, no_at, first_from, told}
 use Rattle.columns.proofs.Puts.{put_here, put_there, put_other, here_or_later}
 
 -- ---- a column
-
-pub column_begin : (n : ℕ) (es cs : List ℕ) (R : ℕ → ℕ → ℕ → ℕ) (q : ℕ) → n ≡ q → Column n es cs R q
-column_begin n es cs R q e p a b = absurd (omega (arith, a, b, e))
 
 -- row t is put in
 pub column_again : (n : ℕ) (es cs : List ℕ) (R : ℕ → ℕ → ℕ → ℕ) (q t x : ℕ)
@@ -60,28 +57,27 @@ first_same bad worse q (suc n) h =
     ap₂ (λ (b : Bool) (o : Option Refusal). cond b (some (OffsetBound (q + 1))) o) (h q (omega arith))
     (first_same bad worse (q + 1) n (λ p l. h p (omega (arith, l))))
 
-on_line : (t line : ℕ) (b : Bool) → cond b (some (OffsetBound (t + 1))) (no_on line) ≡ no_on (cond b (t + 1) line)
-unfolding no_on
-on_line t line true = ap (λ (b : Bool). cond b none (some (OffsetBound (t + 1)))) (sym (ne_eqb (t + 1) 0 (λ e. absurd (omega (arith, e)))))
-on_line t line false = refl
+told_first : (t : ℕ) (o : Option Refusal) (b : Bool) → told (tt {0}) (cond b (some (OffsetBound (t + 1))) o) ≡ cond b (Err (OffsetBound (t + 1))) (told (tt {0}) o)
+told_first t o true = refl
+told_first t o false = refl
 
 module _ (ks : List ℕ) (ns : List ℤ) (ms ins : List ℕ) (out : ℕ) where
-  -- the first "no" of the rows from q on, whose line is known
-  abbrev pub NoFrom : List ℕ → ℕ → ℕ → Type 0
-  NoFrom cs q line = first_from (no_at ks ns ms cs ins out) q (length ks - q) ≡ no_on line
+  -- the first "no" of the rows from q on has been told
+  abbrev pub NoFrom : List ℕ → ℕ → Result Unit Refusal → Type 0
+  NoFrom cs q r = r ≡ told (tt {0}) (first_from (no_at ks ns ms cs ins out) q (length ks - q))
 
-  pub no_begin : (cs : List ℕ) (q : ℕ) → length ks ≡ q → NoFrom cs q 0
-  unfolding no_on
+  pub no_begin : (cs : List ℕ) (q : ℕ) → length ks ≡ q → NoFrom cs q (Ok (tt {0}))
   no_begin cs q e =
-      ap (first_from (no_at ks ns ms cs ins out) q) (let s : length ks - q ≡ 0 = omega (arith, e) in s) ∙ none_left (no_at ks ns ms cs ins out) q
+      ap (told (tt {0}))
+      (sym (ap (first_from (no_at ks ns ms cs ins out) q) (let s : length ks - q ≡ 0 = omega (arith, e) in s) ∙ none_left (no_at ks ns ms cs ins out) q))
 
-  pub no_again : (cs : List ℕ) (q t x line r : ℕ) (b : Bool) → suc t ≡ q → q ≤ length ks → Before ms cs q → NoFrom cs q line
-      → b ≡ no_at ks ns cs cs ins out t → r ≡ cond b (t + 1) line → NoFrom (set cs t x) t r
+  pub no_again : (cs : List ℕ) (q t x : ℕ) (r s : Result Unit Refusal) (b : Bool) → suc t ≡ q → q ≤ length ks → Before ms cs q → NoFrom cs q r
+      → b ≡ no_at ks ns cs cs ins out t → s ≡ cond b (Err (OffsetBound (t + 1))) r → NoFrom (set cs t x) t s
   unfolding first_from
-  no_again cs q t x line r b e l w i g f =
-      ap (first_from (no_at ks ns ms (set cs t x) ins out) t) (let s : length ks - t ≡ suc (length ks - q) = omega (arith, e, l) in s)
-      ∙ ap₂ (λ (y : Bool) (o : Option Refusal). cond y (some (OffsetBound (t + 1))) o) here later
-      ∙ on_line t line b ∙ ap no_on (sym f)
+  no_again cs q t x r s b e l w i g f =
+      f ∙ ap (cond b (Err (OffsetBound (t + 1)))) i ∙ sym (told_first t (first_from (no_at ks ns ms cs ins out) q (length ks - q)) b)
+      ∙ sym (ap (told (tt {0})) (ap (first_from (no_at ks ns ms (set cs t x) ins out) t) (let s : length ks - t ≡ suc (length ks - q) = omega (arith, e, l) in s)
+      ∙ ap₂ (λ (y : Bool) (o : Option Refusal). cond y (some (OffsetBound (t + 1))) o) here later))
     where
       unmoved : (p : ℕ) → t ≤ p → no_at ks ns ms (set cs t x) ins out p ≡ no_at ks ns ms cs ins out p
       unmoved p h =
@@ -93,11 +89,7 @@ module _ (ks : List ℕ) (ns : List ℤ) (ms ins : List ℕ) (out : ℕ) where
           ∙ ap (λ (m : ℕ). no_by (get_or ks t 0) (as_natural (get_or ns t (pos 0))) m (get_or cs (t + 1) 0) ins out) (sym (w t (omega (arith, e))))
           ∙ sym g
 
-      later : first_from (no_at ks ns ms (set cs t x) ins out) (t + 1) (length ks - q) ≡ no_on line
+      later : first_from (no_at ks ns ms (set cs t x) ins out) (t + 1) (length ks - q) ≡ first_from (no_at ks ns ms cs ins out) q (length ks - q)
       later =
           ap (λ (j : ℕ). first_from (no_at ks ns ms (set cs t x) ins out) j (length ks - q)) (let s : t + 1 ≡ q = omega (arith, e) in s)
-          ∙ first_same (no_at ks ns ms (set cs t x) ins out) (no_at ks ns ms cs ins out) q (length ks - q) (λ p h. unmoved p (omega (arith, h, e))) ∙ i
-
-  pub no_finish : (cs : List ℕ) (q line : ℕ) → q ≡ 0 → NoFrom cs q line → first_from (no_at ks ns ms cs ins out) 0 (length ks) ≡ no_on line
-  no_finish cs q line e i =
-      ap₂ (first_from (no_at ks ns ms cs ins out)) (sym e) (let s : length ks ≡ length ks - q = omega (arith, e) in s) ∙ i
+          ∙ first_same (no_at ks ns ms (set cs t x) ins out) (no_at ks ns ms cs ins out) q (length ks - q) (λ p h. unmoved p (omega (arith, h, e)))

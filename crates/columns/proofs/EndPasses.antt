@@ -14,21 +14,6 @@ Within n es q = (p : ℕ) → q ≤ p → p ≤ n → (p ≤ get_or es p 0) × (
 abbrev pub Rule : List ℕ → List ℕ → ℕ → Type 0
 Rule ks es q = (p : ℕ) → q ≤ p → p < length ks → get_or es p 0 ≡ end_by (operands_of (get_or ks p 0)) (λ (i : ℕ). get_or es i 0) p
 
--- the row behind no operand, one, and two
-pub end_none : (a n : ℕ) (E : ℕ → ℕ) (q : ℕ) → n ≡ a → n ≡ 0 → q + 1 ≡ end_by a E q
-unfolding end_by
-end_none a n E q e z = ap (λ (j : ℕ). end_by j E q) (sym z ∙ e)
-
-pub end_one : (a n : ℕ) (E : ℕ → ℕ) (q r : ℕ) → n ≡ a → n ≡ 1 → r ≡ E (q + 1) → r ≡ end_by a E q
-unfolding end_by
-end_one a n E q r e z h = h ∙ ap (λ (j : ℕ). end_by j E q) (sym z ∙ e)
-
-pub end_two : (a n : ℕ) (E : ℕ → ℕ) (q r s : ℕ) → n ≡ a → ¬ (n ≡ 0) → ¬ (n ≡ 1) → r ≡ E (q + 1) → s ≡ E r → s ≡ end_by a E q
-unfolding end_by
-end_two zero n E q r s e d f h g = absurd (d e)
-end_two (suc zero) n E q r s e d f h g = absurd (f e)
-end_two (suc (suc a)) n E q r s e d f h g = g ∙ ap E h
-
 -- what holds when the rows from q on are passed
 pub record EndsFrom (ks es : List ℕ) (q : ℕ) : Type 0 where
   pub within : Within (length ks) es q
@@ -54,18 +39,9 @@ unmoved (suc (suc a)) es x q p n h l w =
     sym (ap (λ (i : ℕ). get_or (set es q x) i 0) (put_there es q (p + 1) x (omega arith))
     ∙ put_there es q (get_or es (p + 1) 0) x (omega (arith, f.0)))
 
-pub ends_begin : (ks es : List ℕ) (q : ℕ) → q ≡ length ks → suc (length ks) ≤ length es → EndsFrom ks (set es q q) q
-ends_begin ks es q e h = record {
-  within = λ p a b.
-      let s : p ≡ q = omega (arith, a, b, e) in
-      let g : get_or (set es q q) p 0 ≡ q = ap (λ (i : ℕ). get_or (set es q q) i 0) s ∙ put_here es q q (omega (arith, e, h)) in
-      (omega (arith, g, b, e, s), omega (arith, g, e));
-  rule = λ p a b. absurd (omega (arith, a, b, e));
-}
-
-pub ends_again : (ks es : List ℕ) (q t x : ℕ) → suc t ≡ q → q ≤ length ks → t < length es → EndsFrom ks es q
+pub ends_again : (ks es : List ℕ) (q t x : ℕ) → EndsFrom ks es q → suc t ≡ q → q ≤ length ks → t < length es
     → x ≡ end_by (operands_of (get_or ks t 0)) (λ (i : ℕ). get_or es i 0) t → EndsFrom ks (set es t x) t
-ends_again ks es q t x e h l i v = record { within = within; rule = rule }
+ends_again ks es q t x i e h l v = record { within = within; rule = rule }
   where
     w : Within (length ks) es (suc t)
     w = subst (λ (j : ℕ). Within (length ks) es j) (sym e) i.within

@@ -13,7 +13,7 @@ use Rattle.words.specs.Kinds.{word_ctr, word_loc}
 use Rattle.meaning.specs.Runs.{entry}
 use Rattle.syntax.specs.Ranges.{as_natural}
 use Rattle.words.specs.Groups.{one_of}
-use Rattle.columns.specs.Names.{counter_words, region_words, closing, opens_by, push_if, framed, in_force, numbers_of, Passed, Noted, NamedAt, Named}
+use Rattle.columns.specs.Names.{counter_words, region_words, closing, opens_by, push_if, framed, in_force, numbers_of, Passed, Noted, NamedAt}
 use Rattle.columns.proofs.Puts.{here_or_later}
 
 -- ---- the stack: what is in force is left when the ended rows on top are closed
@@ -50,12 +50,6 @@ pub record NamedTo (ks : List ℕ) (ns : List ℤ) (es ms : List ℕ) (q : ℕ) 
 
 pub naming_begin : (ks : List ℕ) (ns : List ℤ) (es ms : List ℕ) → NamedTo ks ns es ms 0
 naming_begin ks ns es ms = record { counter = λ p h e. absurd (omega (arith, h)); region = λ p h e. absurd (omega (arith, h)) }
-
-pub naming_end : (ks : List ℕ) (ns : List ℤ) (es ms : List ℕ) (q : ℕ) → length ks ≤ q → NamedTo ks ns es ms q → Named ks ns es ms
-naming_end ks ns es ms q h i = record {
-  counter = λ p l e. i.counter p (omega (arith, l, h)) e;
-  region = λ p l e. i.region p (omega (arith, l, h)) e;
-}
 
 -- one row more: the counters' part leaves ms, and then the regions' part vs
 module _ (ks : List ℕ) (ns : List ℤ) (es : List ℕ) (q : ℕ) where

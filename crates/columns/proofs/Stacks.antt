@@ -1,45 +1,53 @@
 -- Stacks of rows in an array, from its top on: what has ended is closed, a row is put on top, a name is looked up. Assumes nothing.
-use mathlib.Core.Bool.{Bool, true, false, cond}
-use mathlib.Core.Path.{◌≡◌, refl, sym, ap, subst, ◌∙◌}
+use mathlib.Core.Bool.{Bool, true, false, cond, not}
+use mathlib.Core.Path.{◌≡◌, refl, sym, ap, ◌∙◌}
 use mathlib.Core.List.{List, [], ◌∷◌}
-use Prim.Native.Nat.{ℕ, zero, suc, ◌+◌, ◌-◌, ◌≤◌, ◌<◌}
+use Prim.Native.Nat.{ℕ, zero, suc, ◌+◌, ◌≤◌, ◌<◌}
 use native.Mathlib.Nat.{not-suc-le-zero, le_of_suc-le-suc}
 use native.Mathlib.Omega.{arith}
-use borrow.Author.Tests.{ltb-false, lt-ltb, le-ltb}
+use borrow.Author.Tests.{ltb-true, ltb-false, le-ltb}
 use lib.Dec.{ltb}
 use lib.IntN.{ℤ, pos}
-use lib.ListN.{length, get_or, drop, set, drop_of_length-le}
-use lib.Seq.{drop-cons, get_or-drop}
+use lib.ListN.{length, get_or, drop, drop_of_length-le}
+use Rattle.std.specs.Prelude.{Some, None, position}
+use Rattle.std.specs.List.{position_or_len}
 use Rattle.meaning.specs.Runs.{entry}
 use Rattle.syntax.specs.Ranges.{as_natural}
 use Rattle.columns.specs.Names.{closing, push_if, numbers_of, Passed}
 
--- no test has both answers
-pub clash : {A : Type 0} (b : Bool) → b ≡ true → b ≡ false → A
-clash true e f = absurd (let z : ◌≡◌ {A = Bool} true false = f in let y : ◌≡◌ {A = ℕ} 0 1 = cc in omega arith)
-clash false e f = absurd (let z : ◌≡◌ {A = Bool} false true = e in let y : ◌≡◌ {A = ℕ} 0 1 = cc in omega arith)
-
 -- ---- closing
 
--- the row on top stays, or goes
-pub close_stops : (es l : List ℕ) (q t row end : ℕ) → t < length l → row ≡ get_or l t 0 → end ≡ get_or es row 0 → q < end
-    → drop t l ≡ closing es q (drop t l)
-close_stops es l q t row end h e f g =
-    let s : q < get_or es (get_or l t 0) 0 = subst (λ (i : ℕ). q < get_or es i 0) e (subst (λ (i : ℕ). q < i) f g) in
-    drop-cons l t 0 h
-    ∙ sym (ap (λ (b : Bool). cond b (get_or l t 0 ∷ drop (suc t) l) (closing es q (drop (suc t) l))) (lt-ltb q (get_or es (get_or l t 0) 0) s))
-    ∙ ap (closing es q) (sym (drop-cons l t 0 h))
+-- what stands on the stack down to the first row that ends behind row q goes
+abbrev pub open_at : List ℕ → ℕ → ℕ → Bool
+open_at es q j = ltb q (get_or es j 0)
 
-pub close_on : (es l : List ℕ) (q t i row end : ℕ) → t < length l → row ≡ get_or l t 0 → end ≡ get_or es row 0 → end ≤ q → i ≡ suc t
-    → closing es q (drop i l) ≡ closing es q (drop t l)
-close_on es l q t i row end h e f g j =
-    let s : get_or es (get_or l t 0) 0 ≤ q = subst (λ (k : ℕ). get_or es k 0 ≤ q) e (subst (λ (k : ℕ). k ≤ q) f g) in
-    ap (λ (k : ℕ). closing es q (drop k l)) j
-    ∙ sym (ap (λ (b : Bool). cond b (get_or l t 0 ∷ drop (suc t) l) (closing es q (drop (suc t) l))) (le-ltb q (get_or es (get_or l t 0) 0) s))
-    ∙ ap (closing es q) (sym (drop-cons l t 0 h))
+closing_drops : (es l : List ℕ) (q : ℕ) → drop (position_or_len (open_at es q) l) l ≡ closing es q l
+closing_drops es [] q = refl
+closing_drops es (j ∷ l) q = go (open_at es q j) (closing_drops es l q)
+  where
+    go : (b : Bool) → drop (position_or_len (open_at es q) l) l ≡ closing es q l
+        → drop (cond (not b) (1 + position_or_len (open_at es q) l) 0) (j ∷ l) ≡ cond b (j ∷ l) (closing es q l)
+    go true e = refl
+    go false e =
+        let n : 1 + position_or_len (open_at es q) l ≡ suc (position_or_len (open_at es q) l) = omega arith in
+        ap (λ (k : ℕ). drop k (j ∷ l)) n ∙ e
 
-pub close_empty : (es l : List ℕ) (q t : ℕ) → length l ≤ t → drop t l ≡ closing es q (drop t l)
-close_empty es l q t h = drop_of_length-le l {i = t} h ∙ ap (closing es q) (sym (drop_of_length-le l {i = t} h))
+pub close_some : (es l : List ℕ) (q i : ℕ) → Some i ≡ position (open_at es q) l → (i ≤ length l) × (drop i l ≡ closing es q l)
+close_some es l q i e = go (position_or_len (open_at es q) l) (ltb (position_or_len (open_at es q) l) (length l)) refl e (closing_drops es l q)
+  where
+    go : (n : ℕ) (b : Bool) → ltb n (length l) ≡ b → Some i ≡ cond b (Some n) None → drop n l ≡ closing es q l
+        → (i ≤ length l) × (drop i l ≡ closing es q l)
+    go n true f g h =
+        let s : i ≡ n = cc in
+        (omega (arith, s, ltb-true n (length l) f), ap (λ (k : ℕ). drop k l) s ∙ h)
+    go n false f g h = absurd (let z : ◌≡◌ {A = ℕ} 0 1 = cc in omega arith)
+
+pub close_none : (es l : List ℕ) (q : ℕ) → None ≡ position (open_at es q) l → [] ≡ closing es q l
+close_none es l q e = go (position_or_len (open_at es q) l) (ltb (position_or_len (open_at es q) l) (length l)) refl e (closing_drops es l q)
+  where
+    go : (n : ℕ) (b : Bool) → ltb n (length l) ≡ b → None ≡ cond b (Some n) None → drop n l ≡ closing es q l → [] ≡ closing es q l
+    go n true f g h = absurd (let z : ◌≡◌ {A = ℕ} 0 1 = cc in omega arith)
+    go n false f g h = sym (drop_of_length-le l {i = n} (ltb-false n (length l) f)) ∙ h
 
 -- what was closed at an earlier row is closed at a later one
 pub close_later : (es l : List ℕ) (q j : ℕ) → q ≤ j → closing es j l ≡ closing es j (closing es q l)
@@ -52,17 +60,6 @@ close_later es (i ∷ l) q j h = go (close_later es l q j h) (ltb q (get_or es i
     go ih false e =
         let s = ltb-false q (get_or es i 0) e in
         ap (λ (b : Bool). cond b (i ∷ l) (closing es j l)) (le-ltb j (get_or es i 0) (omega (arith, s, h))) ∙ ih
-
--- ---- a row put on top
-
-pushed : (l : List ℕ) (t x : ℕ) → t < length l → drop t (set l t x) ≡ x ∷ drop (suc t) l
-pushed [] t x h = absurd (not-suc-le-zero h)
-pushed (y ∷ l) zero x h = refl
-pushed (y ∷ l) (suc t) x h = pushed l t x (le_of_suc-le-suc h)
-
-pub push_there : (l : List ℕ) (top x : ℕ) → 1 ≤ top → top ≤ length l → drop (top - 1) (set l (top - 1) x) ≡ x ∷ drop top l
-push_there l top x a b =
-    pushed l (top - 1) x (omega arith) ∙ ap (λ (i : ℕ). x ∷ drop i l) (let s : suc (top - 1) ≡ top = omega arith in s)
 
 -- ---- a row of the table: it opens a name, has one, or neither
 
@@ -82,27 +79,13 @@ module _ (es : List ℕ) (q : ℕ) (l : List ℕ) (o : Bool) where
 
 -- ---- the number of a name's row
 
-named_there : (ns : List ℤ) (l : List ℕ) (d : ℕ) → d < length l → entry (numbers_of ns l) d ≡ as_natural (get_or ns (get_or l d 0) (pos 0))
+pub named_there : (ns : List ℤ) (l : List ℕ) (d : ℕ) → d < length l → entry (numbers_of ns l) d ≡ as_natural (get_or ns (get_or l d 0) (pos 0))
 named_there ns [] d h = absurd (not-suc-le-zero h)
 named_there ns (j ∷ l) zero h = refl
 named_there ns (j ∷ l) (suc d) h = named_there ns l d (le_of_suc-le-suc h)
 
-named_past : (ns : List ℤ) (l : List ℕ) (d : ℕ) → length l ≤ d → entry (numbers_of ns l) d ≡ 0
+pub named_past : (ns : List ℤ) (l : List ℕ) (d : ℕ) → length l ≤ d → entry (numbers_of ns l) d ≡ 0
 named_past ns [] zero h = refl
 named_past ns [] (suc d) h = refl
 named_past ns (j ∷ l) zero h = absurd (not-suc-le-zero h)
 named_past ns (j ∷ l) (suc d) h = named_past ns l d (le_of_suc-le-suc h)
-
-dropped : (l : List ℕ) (t : ℕ) → length (drop t l) ≡ length l - t
-dropped l zero = omega arith
-dropped [] (suc t) = omega arith
-dropped (x ∷ l) (suc t) = dropped l t ∙ (let s : length l - t ≡ suc (length l) - suc t = omega arith in s)
-
-pub called_there : (ns : List ℤ) (l : List ℕ) (top d row n : ℕ) → d < length l - top → row ≡ get_or l (top + d) 0
-    → n ≡ as_natural (get_or ns row (pos 0)) → n ≡ entry (numbers_of ns (drop top l)) d
-called_there ns l top d row n h e f =
-    f ∙ ap (λ (i : ℕ). as_natural (get_or ns i (pos 0))) (e ∙ sym (get_or-drop top l d 0))
-    ∙ sym (named_there ns (drop top l) d (omega (arith, h, dropped l top)))
-
-pub called_past : (ns : List ℤ) (l : List ℕ) (top d : ℕ) → length l - top ≤ d → 0 ≡ entry (numbers_of ns (drop top l)) d
-called_past ns l top d h = sym (named_past ns (drop top l) d (omega (arith, h, dropped l top)))

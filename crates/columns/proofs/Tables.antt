@@ -1,7 +1,7 @@
 -- Rows in the middle of a table: the first, and its operands. Assumes nothing.
 use mathlib.Core.Path.{◌≡◌, refl, sym, ap, subst, ◌∙◌}
 use mathlib.Core.List.{List, ◌∷◌, ◌++◌}
-use Prim.Native.Nat.{ℕ, ◌+◌, ◌≤◌, ◌<◌}
+use Prim.Native.Nat.{ℕ, ◌+◌, ◌≤◌}
 use native.Mathlib.Nat.{add-zero}
 use native.Mathlib.Omega.{arith}
 use lib.IntN.{ℤ, pos}
@@ -21,10 +21,6 @@ part_there : {A : Type 0} (at m : ℕ) (l : List A) → part m (drop at l) ≡ d
 part_there at m l = part_all m (drop at l) ∙ drop-drop m at l
 
 module _ {ks : List ℕ} {ns : List ℤ} {at : ℕ} where
-  -- past the table's end nothing stands
-  pub stand_none : (r : Row) (rs : List Row) → 4095 < at → Stand ks ns at (r ∷ rs) → ⊥
-  stand_none r rs h b = omega (arith, h, b.within)
-
   pub kind : {k : ℕ} {z : ℤ} {rs : List Row} → Stand ks ns at ((k, z) ∷ rs) → get_or ks at 0 ≡ k
   kind b = sym (first_there at ks 0) ∙ table.kind b.begins
 

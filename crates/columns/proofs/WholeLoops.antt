@@ -1,16 +1,14 @@
 -- Whole loops: the command stands behind the first row and the `cells` rows ([3.12]), nothing is in force there, and those rows are asked
 -- nothing. Assumes nothing.
-use mathlib.Core.Bool.{Bool, true, false, cond}
+use mathlib.Core.Bool.{Bool, false}
 use mathlib.Core.Path.{◌≡◌, refl, sym, ap, ap₂, subst, ◌∙◌}
 use mathlib.Core.List.{List, [], ◌∷◌, ◌++◌, append-nil}
 use mathlib.Core.Option.{Option, none, some}
-use Prim.Native.Nat.{ℕ, suc, ◌+◌, ◌≤◌}
+use Prim.Native.Nat.{ℕ, suc, ◌+◌, ◌-◌, ◌≤◌}
 use native.Mathlib.Omega.{arith}
-use lib.Dec.{eqb}
 use lib.IntN.{ℤ, pos}
-use lib.ListN.{length, get_or}
+use lib.ListN.{length, get_or, take, drop}
 use Rattle.refusals.specs.declared.Refusal.{Refusal}
-use Rattle.refusals.specs.declared.Refusal.TheVariants.{OffsetBound}
 use Rattle.words.specs.Kinds.{Row, rows_of, word_loops, word_cells}
 use Rattle.words.proofs.Laws.{rows_length}
 use Rattle.meaning.specs.Loops.{Loops}
@@ -18,15 +16,17 @@ use Rattle.meaning.specs.Rows.{command_rows, all_cells_rows, loops_rows}
 use Rattle.meaning.specs.Counts.{command_writes}
 use Rattle.meaning.specs.Layout.{all_cells, need}
 use Rattle.bounds.specs.Bounds.{ask_command, ask_bounds}
-use Rattle.columns.specs.declared.Asked.{Asked}
-use Rattle.columns.specs.declared.Asked.TheVariants.{Passed, Refused}
+use Rattle.columns.specs.declared.Counted.{Counted}
+use Rattle.std.specs.Prelude.{Ok, Err}
 use Rattle.columns.specs.Table.{Stand}
 use Rattle.columns.specs.Ends.{Ends}
 use Rattle.words.specs.Groups.{one_of}
 use Rattle.columns.specs.Names.{counter_words, region_words, closing, opens_by, push_if, framed, in_force, numbers_of, Named}
 use Rattle.columns.specs.Figures.{capped_writes, capped_room, Figures, Rooms}
-use Rattle.columns.specs.Asking.{is_access, no_at, first_from, no_on}
-use Rattle.columns.specs.Whole.{asked_on, asking}
+use Rattle.columns.specs.Asking.{is_access, no_at, first_from, told}
+use Rattle.columns.specs.Whole.{asking}
+use Rattle.syntax.specs.Ranges.{as_natural, cell_numbers}
+use Rattle.syntax.proofs.LoopsTable as loops_table
 use Rattle.columns.proofs.Tables as table
 use Rattle.columns.proofs.CommandColumns.{writes_there, room_there}
 use Rattle.columns.proofs.AskedTrees as asked
@@ -63,34 +63,29 @@ framed_zero ws ks es = refl
 
 -- ---- the answer
 
--- from the line of the first "no"
-abbrev told : ℕ → ℕ → Option Refusal → Asked
-told w c none = Passed w c
-told w c (some q) = Refused q
+-- whatever is told where there is no "no", a "no" is told alike
+told_no : {A B : Type 0} (x : A) (y : B) (o : Option Refusal) (q : Refusal) → Err q ≡ told x o → Err q ≡ told y o
+told_no x y none q e = absurd (let z : ◌≡◌ {A = ℕ} 0 1 = cc in omega arith)
+told_no x y (some p) q e = let i : q ≡ p = cc in ap Err i
 
-told_on : (line w c : ℕ) → asked_on line w c ≡ told w c (no_on line)
-unfolding no_on
-told_on line w c = go (eqb line 0)
-  where
-    go : (b : Bool) → cond b (Passed w c) (Refused (OffsetBound line)) ≡ told w c (cond b none (some (OffsetBound line)))
-    go true = refl
-    go false = refl
-
-told_asking : (w c : ℕ) (o : Option Refusal) → told (capped_writes w) (capped_room c) o ≡ asking w c o
-told_asking w c none = refl
-told_asking w c (some q) = refl
+told_none : {A B : Type 0} (x : A) (y : B) (o : Option Refusal) → Ok x ≡ told x o → Ok y ≡ told y o
+told_none x y none e = refl
+told_none x y (some p) e = absurd (let z : ◌≡◌ {A = ℕ} 0 1 = cc in omega arith)
 
 -- what an answer says
-pub asking_refused : (w c : ℕ) (o : Option Refusal) (q : Refusal) → Refused q ≡ asking w c o → o ≡ some q
+pub asking_refused : (w c : ℕ) (o : Option Refusal) (q : Refusal) → Err q ≡ asking w c o → o ≡ some q
 asking_refused w c none q e = absurd (let z : ◌≡◌ {A = ℕ} 0 1 = cc in omega arith)
 asking_refused w c (some p) q e = let x : p ≡ q = cc in ap some x
 
-pub asking_passed : (v n w c : ℕ) (o : Option Refusal) → Passed v n ≡ asking w c o → (o ≡ none) × (v ≡ capped_writes w) × (n ≡ capped_room c)
-asking_passed v n w c none e = let x : v ≡ capped_writes w = cc in let y : n ≡ capped_room c = cc in (refl, x, y)
-asking_passed v n w c (some p) e = absurd (let z : ◌≡◌ {A = ℕ} 0 1 = cc in omega arith)
+pub asking_passed : (a : Counted) (w c : ℕ) (o : Option Refusal) → Ok a ≡ asking w c o
+    → (o ≡ none) × (a.writes ≡ capped_writes w) × (a.need ≡ capped_room c)
+asking_passed a w c none e =
+    let x : a ≡ record { writes = capped_writes w; need = capped_room c } = cc in
+    (refl, ap (λ (b : Counted). b.writes) x, ap (λ (b : Counted). b.need) x)
+asking_passed a w c (some p) e = absurd (let z : ◌≡◌ {A = ℕ} 0 1 = cc in omega arith)
 
-module _ (ks : List ℕ) (ns : List ℤ) (es ms fs rs : List ℕ) (E : Ends ks es) (N : Named ks ns es ms) (F : Figures ks ns es ms fs)
-    (R : Rooms ks ns es rs) (same : length ks ≡ length ns) (short : length ks ≤ 4096) (L : Loops) (e : rows_of ks ns ≡ loops_rows L) where
+module _ (ks : List ℕ) (ns : List ℤ) (es ms fs : List ℕ) (E : Ends ks es) (N : Named ks ns es ms) (F : Figures ks ns es ms fs)
+    (same : length ks ≡ length ns) (short : length ks ≤ 4096) (L : Loops) (e : rows_of ks ns ≡ loops_rows L) where
   all_stand : Stand ks ns 0 (loops_rows L)
   all_stand = record {
     begins = record { behind = []; front = e ∙ sym (append-nil (loops_rows L)) };
@@ -155,19 +150,45 @@ module _ (ks : List ℕ) (ns : List ℤ) (es ms fs rs : List ℕ) (E : Ends ks e
       at_q : q ≡ 0 + 1 + (length L.inputs + 1)
       at_q = omega (arith, i)
 
-  -- ---- the need
+  -- ---- the answer from what the table's numbers say: n inputs, and the output behind them
 
-  need_here : (q c v : ℕ) → q ≡ 2 + length L.inputs → c ≡ all_cells L.inputs + L.output → v ≡ capped_room (c + get_or rs q 0) → v ≡ capped_room (need L)
-  unfolding need
-  need_here q c v i f g = let t = room_there ks ns es E rs R q L.command (command_here q i) in omega (arith, t, g, f)
+  module _ (n out : ℕ) (f : n ≡ as_natural (get_or ns 0 (pos 0))) (g : out ≡ as_natural (get_or ns (1 + n) (pos 0))) where
+    abbrev pub inputs_read : List ℕ
+    inputs_read = cell_numbers (take (1 + n - 1) (drop 1 ns))
 
-  pub answered : (ins : List ℕ) (out q line w c v : ℕ) → ins ≡ L.inputs → out ≡ L.output → q ≡ 2 + length L.inputs
-      → first_from (no_at ks ns ms fs ins out) 0 (length ks) ≡ no_on line → w ≡ get_or fs q 0 → c ≡ all_cells ins + out → v ≡ capped_room (c + get_or rs q 0)
-      → asked_on line w v ≡ asking (command_writes L.command) (need L) (ask_bounds L)
-  answered ins out q line w c v a b i f x y z =
-      told_on line w v
-      ∙ ap₂ (λ (m n : ℕ). told m n (no_on line)) (x ∙ writes_there ks ns es E ms fs F q L.command (command_here q i))
-      (need_here q c v i (y ∙ ap₂ (λ (l : List ℕ) (o : ℕ). all_cells l + o) a b) z)
-      ∙ ap (told (capped_writes (command_writes L.command)) (capped_room (need L)))
-      (sym f ∙ ap₂ (λ (l : List ℕ) (o : ℕ). first_from (no_at ks ns ms fs l o) 0 (length ks)) a b ∙ asked_whole q i)
-      ∙ told_asking (command_writes L.command) (need L) (ask_bounds L)
+    counted : n ≡ length L.inputs
+    counted = loops_table.inputs_counted_holds ks ns same L e f
+
+    inputs_here : inputs_read ≡ L.inputs
+    inputs_here = loops_table.inputs_there ks ns same L e (1 + n - 1) (omega (arith, counted))
+
+    output_here : out ≡ L.output
+    output_here = loops_table.output_there ks ns same L e out (1 + n) (omega (arith, counted)) g
+
+    command_row : 1 + n + 1 ≡ 2 + length L.inputs
+    command_row = omega (arith, counted)
+
+    abbrev first_no : Option Refusal
+    first_no = first_from (no_at ks ns ms fs inputs_read out) 0 (length ks)
+
+    first_here : first_no ≡ ask_bounds L
+    first_here =
+        ap₂ (λ (l : List ℕ) (o : ℕ). first_from (no_at ks ns ms fs l o) 0 (length ks)) inputs_here output_here ∙ asked_whole (1 + n + 1) command_row
+
+    pub refused : (r : Refusal) → Err r ≡ told (tt {0}) first_no → Err r ≡ asking (command_writes L.command) (need L) (ask_bounds L)
+    refused r h = told_no (tt {0}) _ (ask_bounds L) r (h ∙ ap (told (tt {0})) first_here)
+
+    need_here : (rs : List ℕ) → Rooms ks ns es rs → (i c v : ℕ) → i ≡ all_cells inputs_read → c ≡ capped_room (i + out)
+        → v ≡ capped_room (c + get_or rs (1 + n + 1) 0) → v ≡ capped_room (need L)
+    unfolding need
+    need_here rs R i c v h j k =
+        let t = room_there ks ns es E rs R (1 + n + 1) L.command (command_here (1 + n + 1) command_row) in
+        omega (arith, t, k, j, h ∙ ap all_cells inputs_here, output_here)
+
+    pub passed : (rs : List ℕ) → Rooms ks ns es rs → (w i c r v : ℕ) → Ok (tt {0}) ≡ told (tt {0}) first_no → w ≡ get_or fs (1 + n + 1) 0
+        → i ≡ all_cells inputs_read → c ≡ capped_room (i + out) → r ≡ get_or rs (1 + n + 1) 0 → v ≡ capped_room (c + r)
+        → Ok (record { writes = w; need = v }) ≡ asking (command_writes L.command) (need L) (ask_bounds L)
+    passed rs R w i c r v h x j k y z =
+        ap₂ (λ (l m : ℕ). Ok (record { writes = l; need = m })) (x ∙ writes_there ks ns es E ms fs F (1 + n + 1) L.command (command_here (1 + n + 1) command_row))
+        (need_here rs R i c v j k (z ∙ ap (λ (m : ℕ). capped_room (c + m)) y))
+        ∙ told_none (tt {0}) _ (ask_bounds L) (h ∙ ap (told (tt {0})) first_here)

@@ -1,5 +1,5 @@
 -- Question 9 over rows ([10.9]): the first place or reading whose answer is "no". Definitions only; assumes nothing.
-use Rattle.std.specs.Prelude.{Bool, true, false, cond, ◌||◌, List, ℕ, zero, suc, ◌+◌, eqb, ltb, leb, ℤ, pos, get_or}
+use Rattle.std.specs.Prelude.{Bool, true, false, cond, ◌||◌, List, ℕ, zero, suc, ◌+◌, eqb, ltb, leb, ℤ, pos, get_or, Result, Ok, Err}
 use Rattle.std.proofs.Math.Option.{Option, none, some}
 use Rattle.refusals.specs.declared.Refusal.{Refusal}
 use Rattle.refusals.specs.declared.Refusal.TheVariants.{OffsetBound}
@@ -28,6 +28,7 @@ unfoldable pub first_from : (ℕ → Bool) → ℕ → ℕ → Option Refusal
 first_from bad q zero = none
 first_from bad q (suc n) = cond (bad q) (some (OffsetBound (q + 1))) (first_from bad (q + 1) n)
 
--- the "no" on a line; 0 is none
-unfoldable pub no_on : ℕ → Option Refusal
-no_on line = cond (eqb line 0) none (some (OffsetBound line))
+-- the answer x, or else the first "no"
+abbrev pub told : {A : Type 0} → A → Option Refusal → Result A Refusal
+told x none = Ok x
+told x (some q) = Err q

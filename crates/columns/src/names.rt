@@ -1,6 +1,6 @@
 // [3.16] What `ctr` and `loc` rows name: one pass from the first row to the last, with a stack of the loops around a row and one of the
 // regions in force.
-ghost use Rattle.std.specs.Prelude.{◌≡◌, ◌∷◌, ◌+◌, ◌≤◌, ◌<◌, pos, length, get_or, drop};
+ghost use Rattle.std.specs.Prelude.{◌≡◌, ◌∷◌, ◌+◌, ◌≤◌, ◌<◌, pos, length, get_or, drop, nat_lt, position, ℕ};
 ghost use Rattle.meaning.specs.Runs.{entry as entry_of};
 ghost use Rattle.syntax.specs.Ranges.{as_natural};
 ghost use Rattle.columns.specs.Names.{closing, opens_by, region_words, numbers_of, Passed, Noted, Named};
@@ -9,21 +9,26 @@ use crate::entries::{number_at, row_at};
 use words::groups::is_loop;
 use words::kinds::*;
 
+// The first of these rows that ends behind row q.
+fn first_open(ends: &[u16], rows: &[u16], q: usize) -> Option<usize>
+    ensures { result ≡ position (λ (j : ℕ). nat_lt q (get_or ends.now j 0)) rows.now }
+{
+    rows.iter()
+        .position(|row| q < row_at(ends, usize::from(*row)))
+}
+
+// A stack stays a lent column and its top, with no struct around them: `decoding` too calls `closed` and `push`, with columns of its own.
+
 // The rows that opened what is in force are stack[top..], innermost first: the new top without those that end at row q or before it.
 pub fn closed(ends: &[u16], stack: &[u16], top: usize, q: usize) -> usize
     requires { top ≤ length stack.now }
     ensures bound { (top ≤ result) × (result ≤ length stack.now) }
     ensures result { drop result stack.now ≡ closing ends.now q (drop top stack.now) }
 {
-    let mut t = top;
-    while t < stack.len() {
-        let row = row_at(stack, t);
-        if q < row_at(ends, row) {
-            return t;
-        }
-        t += 1;
+    match first_open(ends, &stack[top..], q) {
+        Some(place) => top + place,
+        None => stack.len(),
     }
-    t
 }
 
 // Row q is put on top: the new top.
@@ -38,17 +43,19 @@ pub fn push(stack: &mut [u16], top: usize, q: usize) -> usize
 }
 
 // The number of the row that name d stands for, innermost first.
+#[tactic(auto, using(crate::proofs::Stacks::named_there, crate::proofs::Stacks::named_past))]
 fn called(numbers: &[i32], stack: &[u16], top: usize, d: usize) -> usize
     requires { top ≤ length stack.now }
     ensures { (result ≡ entry_of (numbers_of numbers.now (drop top stack.now)) d) × (result ≤ 2147483648) }
 {
-    if d < stack.len() - top {
-        return number_at(numbers, row_at(stack, top + d));
+    match stack[top..].get(d) {
+        Some(row) => number_at(numbers, usize::from(*row)),
+        None => 0,
     }
-    0
 }
 
 // Whether a row opens a region.
+#[tactic(auto, unfolding(words::specs::Groups::one_of))]
 fn opens_region(kind: u8) -> bool
     ensures { result ≡ opens_by region_words kind }
 {
@@ -57,6 +64,8 @@ fn opens_region(kind: u8) -> bool
 
 // Row q opens a name, or has one, whose number is put into `named`, or neither; the new top. What has ended is closed where the stack is
 // used, and not before.
+// Eight parameters: counters and regions are two passes, each with a stack and a column of its own; a struct would be used nowhere else.
+#[tactic(auto, using(crate::proofs::Stacks::row_opens, crate::proofs::Stacks::row_names, crate::proofs::Stacks::row_neither))]
 fn follow(
     numbers: &[i32],
     ends: &[u16],
@@ -76,18 +85,18 @@ fn follow(
 {
     if opens {
         let open = closed(ends, stack, top, q);
-        return push(stack, open, q);
-    }
-    if names {
+        push(stack, open, q)
+    } else if names {
         let open = closed(ends, stack, top, q);
-        let d = number_at(numbers, q);
-        named[q] = called(numbers, stack, open, d) as u32;
-        return open;
+        named[q] = called(numbers, stack, open, number_at(numbers, q)) as u32;
+        open
+    } else {
+        top
     }
-    top
 }
 
 // Puts at every `ctr` row the rounds of the loop that it names, at every `loc` row the cells of the region.
+#[tactic(auto, using(crate::proofs::Naming::stack_begin, crate::proofs::Naming::naming_begin, crate::proofs::Naming::stack_again, crate::proofs::Naming::naming_again))]
 pub fn fill(
     kinds: &[u8],
     numbers: &[i32],
@@ -103,8 +112,7 @@ pub fn fill(
 {
     let mut counter = counters.len();
     let mut region = regions.len();
-    let mut q = 0;
-    while q < kinds.len() {
+    for q in 0..kinds.len() {
         let kind = kinds[q];
         counter = follow(
             numbers,
@@ -126,6 +134,5 @@ pub fn fill(
             q,
             named,
         );
-        q += 1;
     }
 }

@@ -5,168 +5,108 @@ ghost use Rattle.meaning.specs.Types.{number as numberType, levels as levelsOf};
 ghost use Rattle.meaning.specs.Translation.{assign};
 ghost use Rattle.meaning.specs.Rows.{command_rows};
 ghost use Rattle.type_table.specs.Table.{type_at, Sound};
-ghost use Rattle.emission.specs.Table.{table, put_rows};
+ghost use Rattle.emission.specs.Table.{put_rows};
 ghost use Rattle.emission.specs.References.{expression_at, acceptor_at};
 ghost use Rattle.emission.specs.Growth.{Grown, BothPushed};
 
-use crate::elements::{ElementsShape, as_elements};
+use crate::elements::as_elements;
 use crate::places::put_place;
 use crate::references::push;
-use crate::rows::{MOST_ROWS, put_count};
+use crate::rows::Rows;
+use crate::sources::{InForce, Made, Source};
 use crate::values::put_value;
-use type_table::PairShape;
 use words::kinds::*;
 
-// [6.17] One `set`: the number that node `value` reads goes where node `target` writes.
+// The node that is read, and the one that is written.
+#[derive(Clone, Copy)]
+pub struct Ends {
+    pub value: usize,
+    pub target: usize,
+}
+
+// [6.17] One `set`: the number that node `ends.value` reads goes where node `ends.target` writes.
 fn put_set(
-    types: &[u64],
-    plan: &[i32],
+    source: Source<'_>,
     references: &[u64; 1024],
-    kinds: &mut [u8; 4096],
-    numbers: &mut [i32; 4096],
-    value: usize,
-    target: usize,
-    counters: u16,
-    regions: u16,
-    to: usize,
-) -> usize
-    requires { Sound types.now (length types.now) × (value < 1024) × (target < 1024) }
-    ensures { table kinds.new numbers.new result
-        ≡ put_rows (command_rows (assign numberType (expression_at types.now plan.now
-        references.now value) (acceptor_at types.now references.now
-        target) counters regions)) (table kinds.old numbers.old to) }
+    rows: &mut Rows,
+    ends: Ends,
+    in_force: InForce,
+)
+    requires { Sound source.types.now (length source.types.now) × (ends.value < 1024) × (ends.target < 1024) }
+    ensures { rows.new ≡ put_rows (command_rows (assign numberType (expression_at source.entry.types.now source.entry.plan.now references.now ends.value)
+        (acceptor_at source.entry.types.now references.now ends.target) in_force.counters in_force.regions)) rows.old }
 {
     let mut changes = [0u64; 1024];
-    let place = put_count(kinds, numbers, to, WORD_SET, 0);
-    let next = put_place(
-        types,
+    rows.put_count(WORD_SET, 0);
+    put_place(
+        source.types,
         references,
         &mut changes,
-        kinds,
-        numbers,
-        target,
+        rows,
+        ends.target,
         0,
-        counters,
-        regions,
-        place,
+        in_force,
     );
     put_value(
-        types,
-        plan,
+        source,
         references,
         &mut changes,
-        kinds,
-        numbers,
-        value,
+        rows,
+        ends.value,
         0,
-        counters,
-        regions,
-        next,
-    )
+        in_force,
+    );
 }
 
 // The same step from what is read and from where it is written, as nodes `len` and `len + 1`.
-fn push_both(
-    references: &mut [u64; 1024],
-    len: usize,
-    kind: u8,
-    number: u16,
-    value: usize,
-    target: usize,
-)
-    requires { (len + 1 < 1024) × (value < len) × (target < len) × (length references.old ≡ 1024) }
-    ensures { BothPushed references.old references.new len kind number value target }
+fn push_both(references: &mut [u64; 1024], len: usize, kind: u8, number: u16, ends: Ends)
+    requires { (len + 1 < 1024) × (ends.value < len) × (ends.target < len) }
+    ensures { BothPushed references.old references.new len kind number ends.value ends.target }
 {
-    push(references, len, kind, number, value, 0);
-    push(references, len + 1, kind, number, target, 0);
+    push(references, len, kind, number, ends.value, 0);
+    push(references, len + 1, kind, number, ends.target, 0);
 }
 
-// [6.3] What node `value` reads, of the type at a place, goes where node `target` writes. Nodes from `len` on are free.
+// [6.3] What node `ends.value` reads, of the type at a place, goes where node `ends.target` writes. Nodes from `len` on are free.
 pub fn put_assign(
-    types: &[u64],
-    plan: &[i32],
-    references: &mut [u64; 1024],
-    kinds: &mut [u8; 4096],
-    numbers: &mut [i32; 4096],
+    source: Source<'_>,
+    made: &mut Made,
     place: usize,
-    value: usize,
-    target: usize,
-    counters: u16,
-    regions: u16,
+    ends: Ends,
+    in_force: InForce,
     len: usize,
-    to: usize,
-) -> usize
-    requires { Sound types.now (length types.now) × (place < length types.now) × (value < len) × (target < len)
-        × (len + 2 * levelsOf (type_at types.now place) ≤ 1024) × (counters + levelsOf (type_at types.now place) < 65536) × (length references.old ≡ 1024) }
-    ensures rows { table kinds.new numbers.new result
-        ≡ put_rows (command_rows (assign (type_at types.now place) (expression_at types.now
-        plan.now references.old value) (acceptor_at types.now
-        references.old target) counters regions))
-        (table kinds.old numbers.old to) }
-    ensures grown { Grown references.old references.new len }
+)
+    requires { Sound source.types.now (length source.types.now) × (place < length source.types.now) × (ends.value < len) × (ends.target < len)
+        × (len + 2 * levelsOf (type_at source.types.now place) ≤ 1024) × (in_force.counters + levelsOf (type_at source.types.now place) < 65536) }
+    ensures rows { made.new.rows ≡ put_rows (command_rows (assign (type_at source.entry.types.now place)
+        (expression_at source.entry.types.now source.entry.plan.now made.old.references ends.value) (acceptor_at source.entry.types.now made.old.references ends.target)
+        in_force.counters in_force.regions)) made.old.rows }
+    ensures grown { Grown made.old.references made.new.references len }
 {
-    if MOST_ROWS < to {
-        return to;
+    if made.rows.has_too_many() {
+        return;
     }
-    let elements = as_elements(types, place);
-    if let ElementsShape::Elements {
-        length,
-        element,
-        word,
-    } = elements
-    {
-        let round = put_count(kinds, numbers, to, word, length as u16);
-        push_both(references, len, WORD_CTR, counters, value, target);
-        return put_assign(
-            types,
-            plan,
-            references,
-            kinds,
-            numbers,
-            element,
-            len,
-            len + 1,
-            counters + 1,
-            regions,
-            len + 2,
-            round,
-        );
-    }
-    let pair = type_table::as_pair(types, place);
-    let PairShape::Pair { first, second } = pair else {
-        return put_set(
-            types, plan, references, kinds, numbers, value, target, counters, regions, to,
-        );
+    let next = Ends {
+        value: len,
+        target: len + 1,
     };
-    let begun = put_count(kinds, numbers, to, WORD_SEQ, 0);
-    push_both(references, len, WORD_FST, 0, value, target);
-    let next = put_assign(
-        types,
-        plan,
-        references,
-        kinds,
-        numbers,
-        first,
-        len,
-        len + 1,
-        counters,
-        regions,
-        len + 2,
-        begun,
-    );
-    push_both(references, len, WORD_SND, 0, value, target);
-    put_assign(
-        types,
-        plan,
-        references,
-        kinds,
-        numbers,
-        second,
-        len,
-        len + 1,
-        counters,
-        regions,
-        len + 2,
-        next,
-    )
+    if let Some(elements) = as_elements(source.types, place) {
+        made.rows.put_count(elements.word, elements.length as u16);
+        push_both(&mut made.references, len, WORD_CTR, in_force.counters, ends);
+        let inside = InForce {
+            counters: in_force.counters + 1,
+            ..in_force
+        };
+        put_assign(source, made, elements.element, next, inside, len + 2);
+        return;
+    }
+    let Some(pair) = type_table::as_pair(source.types, place) else {
+        put_set(source, &made.references, &mut made.rows, ends, in_force);
+        return;
+    };
+    made.rows.put_count(WORD_SEQ, 0);
+    push_both(&mut made.references, len, WORD_FST, 0, ends);
+    put_assign(source, made, pair.first, next, in_force, len + 2);
+    push_both(&mut made.references, len, WORD_SND, 0, ends);
+    put_assign(source, made, pair.second, next, in_force, len + 2);
 }

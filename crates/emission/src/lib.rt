@@ -8,4 +8,5 @@ mod paths;
 mod places;
 pub mod references;
 pub mod rows;
+pub mod sources;
 mod values;

@@ -4,13 +4,20 @@ ghost use Rattle.std.specs.Prelude.{◌≡◌, true, false, suc, ◌+◌, ◌-�
 ghost use Rattle.meaning.specs.Paths.{by_part};
 ghost use Rattle.meaning.specs.Offsets.{leading_index, offset_from_innermost};
 ghost use Rattle.meaning.specs.Rows.{offset_rows};
-ghost use Rattle.emission.specs.Table.{table, put_rows};
+ghost use Rattle.emission.specs.Table.{put_rows};
 ghost use Rattle.emission.specs.Changes.{change_of, path_of};
 ghost use Rattle.emission.specs.Laws.PathSteps.{made_by, gone_by, own_found, found_at};
 
 use crate::references::{ZIP_FIRST, ZIP_SECOND, kind_in, number_in};
-use crate::rows::{MOST_ROWS, put_count};
+use crate::rows::Rows;
 use words::kinds::*;
+
+// The path of the first `depth` changes.
+#[derive(Clone, Copy)]
+pub struct Path<'a> {
+    pub changes: &'a [u64; 1024],
+    pub depth: usize,
+}
 
 #[derive(Clone, Copy)]
 pub enum Change {
@@ -30,7 +37,6 @@ pub enum Change {
 // What stands at a step of a path: a part, or an index. An index made of others names the depth of their path.
 #[derive(Clone, Copy)]
 pub enum Found {
-    Nothing,
     FirstPart,
     SecondPart,
     CounterAt(u16),
@@ -41,146 +47,102 @@ pub enum Found {
     Remainder(u16, usize),
 }
 
+// A `From<u8>` would say no more, and its contract would not name the definition.
 pub fn change_of(kind: u8) -> Change
     ensures { result ≡ change_of kind }
 {
-    if kind == WORD_ZIP {
-        return Change::Zip;
-    }
-    if kind == WORD_PAIR {
-        return Change::Pair;
-    }
-    if kind == WORD_SPLIT {
-        return Change::Ungrouped;
-    }
-    if kind == WORD_JOIN {
-        return Change::Grouped;
-    }
-    if kind == WORD_FST {
-        return Change::First;
-    }
-    if kind == WORD_SND {
-        return Change::Second;
-    }
-    if kind == WORD_IDX {
-        return Change::AtLiteral;
-    }
-    if kind == WORD_CTR {
-        return Change::AtCounter;
-    }
-    if kind == ZIP_FIRST {
-        return Change::ZipFirst;
-    }
-    if kind == ZIP_SECOND {
-        return Change::ZipSecond;
-    }
-    Change::Unchanged
-}
-
-// How many steps a change puts in front.
-fn made(change: Change) -> usize
-    ensures { result ≡ made_by change }
-{
-    match change {
-        Change::Zip => 1,
-        Change::Pair => 0,
-        Change::Ungrouped => 1,
-        Change::Grouped => 2,
-        Change::First => 1,
-        Change::Second => 1,
-        Change::AtLiteral => 1,
-        Change::AtCounter => 1,
-        Change::ZipFirst => 2,
-        Change::ZipSecond => 2,
-        Change::Unchanged => 0,
+    match kind {
+        WORD_ZIP => Change::Zip,
+        WORD_PAIR => Change::Pair,
+        WORD_SPLIT => Change::Ungrouped,
+        WORD_JOIN => Change::Grouped,
+        WORD_FST => Change::First,
+        WORD_SND => Change::Second,
+        WORD_IDX => Change::AtLiteral,
+        WORD_CTR => Change::AtCounter,
+        ZIP_FIRST => Change::ZipFirst,
+        ZIP_SECOND => Change::ZipSecond,
+        _ => Change::Unchanged,
     }
 }
 
-// How many of the steps behind it are gone.
-fn gone(change: Change) -> usize
-    ensures { result ≡ gone_by change }
-{
-    match change {
-        Change::Zip => 2,
-        Change::Pair => 1,
-        Change::Ungrouped => 2,
-        Change::Grouped => 1,
-        Change::First => 0,
-        Change::Second => 0,
-        Change::AtLiteral => 0,
-        Change::AtCounter => 0,
-        Change::ZipFirst => 1,
-        Change::ZipSecond => 1,
-        Change::Unchanged => 0,
+impl Change {
+    // How many steps a change puts in front.
+    fn made(self) -> usize
+        ensures { result ≡ made_by self }
+    {
+        match self {
+            Change::Pair | Change::Unchanged => 0,
+            Change::Grouped | Change::ZipFirst | Change::ZipSecond => 2,
+            Change::Zip
+            | Change::Ungrouped
+            | Change::First
+            | Change::Second
+            | Change::AtLiteral
+            | Change::AtCounter => 1,
+        }
+    }
+
+    // How many of the steps behind it are gone.
+    fn gone(self) -> usize
+        ensures { result ≡ gone_by self }
+    {
+        match self {
+            Change::Zip | Change::Ungrouped => 2,
+            Change::Pair | Change::Grouped | Change::ZipFirst | Change::ZipSecond => 1,
+            Change::First
+            | Change::Second
+            | Change::AtLiteral
+            | Change::AtCounter
+            | Change::Unchanged => 0,
+        }
     }
 }
 
 // [6.22], [6.23] Step j of those that a change puts in front of the path at depth `behind`.
-fn own_step(change: Change, number: u16, j: usize, behind: usize) -> Found
+fn own_step(change: Change, number: u16, j: usize, behind: usize) -> Option<Found>
     ensures { result ≡ own_found change number j behind }
 {
     match change {
-        Change::Zip => Found::Same(behind),
-        Change::Pair => Found::Nothing,
-        Change::Ungrouped => Found::OfGroup(number, behind),
-        Change::Grouped => if j == 0 {
-            Found::Quotient(number, behind)
-        } else {
-            Found::Remainder(number, behind)
-        },
-        Change::First => Found::FirstPart,
-        Change::Second => Found::SecondPart,
-        Change::AtLiteral => Found::LiteralAt(number),
-        Change::AtCounter => Found::CounterAt(number),
-        Change::ZipFirst => if j == 0 {
-            Found::Same(behind)
-        } else {
-            Found::FirstPart
-        },
-        Change::ZipSecond => if j == 0 {
-            Found::Same(behind)
-        } else {
-            Found::SecondPart
-        },
-        Change::Unchanged => Found::Nothing,
+        Change::Pair | Change::Unchanged => None,
+        Change::Zip => Some(Found::Same(behind)),
+        Change::Ungrouped => Some(Found::OfGroup(number, behind)),
+        Change::Grouped if j == 0 => Some(Found::Quotient(number, behind)),
+        Change::Grouped => Some(Found::Remainder(number, behind)),
+        Change::ZipFirst | Change::ZipSecond if j == 0 => Some(Found::Same(behind)),
+        Change::First | Change::ZipFirst => Some(Found::FirstPart),
+        Change::Second | Change::ZipSecond => Some(Found::SecondPart),
+        Change::AtLiteral => Some(Found::LiteralAt(number)),
+        Change::AtCounter => Some(Found::CounterAt(number)),
     }
 }
 
-// What stands at step j of the path that the first `depth` changes make.
-fn step_at(changes: &[u64; 1024], depth: usize, j: usize) -> Found
-    requires { (depth ≤ 1024) × (j + depth ≤ 1048576) }
-    ensures { result ≡ found_at changes.now depth j }
+// What stands at step j of a path.
+fn step_at(path: Path<'_>, j: usize) -> Option<Found>
+    requires { (path.depth ≤ 1024) × (j + path.depth ≤ 1048576) }
+    ensures { result ≡ found_at path.entry.changes.now path.entry.depth j }
 {
-    if depth == 0 {
-        return Found::Nothing;
+    if path.depth == 0 {
+        return None;
     }
-    let behind = depth - 1;
-    let node = changes[behind];
+    let depth = path.depth - 1;
+    let node = path.changes[depth];
     let change = change_of(kind_in(node));
-    let own = made(change);
-    if j < own {
-        return own_step(change, number_in(node), j, behind);
+    if j < change.made() {
+        return own_step(change, number_in(node), j, depth);
     }
-    step_at(changes, behind, j - own + gone(change))
+    step_at(Path { depth, ..path }, j - change.made() + change.gone())
 }
 
 // Whether step j leads to a second part.
-pub fn is_second(changes: &[u64; 1024], depth: usize, j: usize) -> bool
-    requires { (depth ≤ 1024) × (j + depth ≤ 1048576) }
-    ensures { result ≡ by_part (drop j (path_of changes.now depth)) false true }
+pub fn is_second(path: Path<'_>, j: usize) -> bool
+    requires { (path.depth ≤ 1024) × (j + path.depth ≤ 1048576) }
+    ensures { result ≡ by_part (drop j (path_of path.entry.changes.now path.entry.depth)) false true }
 {
-    let found = step_at(changes, depth, j);
-    match found {
-        Found::SecondPart => true,
-        Found::Nothing => false,
-        Found::FirstPart => false,
-        Found::CounterAt(_) => false,
-        Found::LiteralAt(_) => false,
-        Found::Same(_) => false,
-        Found::OfGroup(_, _) => false,
-        Found::Quotient(_, _) => false,
-        Found::Remainder(_, _) => false,
-    }
+    let Some(found) = step_at(path, j) else {
+        return false;
+    };
+    matches!(found, Found::SecondPart)
 }
 
 // [3.16], [6.17] The counter or region of a level, counted from 0 innermost, where so many are in force.
@@ -191,49 +153,36 @@ pub fn from_innermost(many: u16, level: u16) -> u16
 }
 
 // [6.21], [6.22] The rows of the index at step j.
-pub fn put_index(
-    changes: &[u64; 1024],
-    kinds: &mut [u8; 4096],
-    numbers: &mut [i32; 4096],
-    depth: usize,
-    j: usize,
-    counters: u16,
-    to: usize,
-) -> usize
-    requires { (depth ≤ 1024) × (j + depth ≤ 1048576) }
-    ensures { table kinds.new numbers.new result
-        ≡ put_rows (offset_rows (offset_from_innermost counters (leading_index (drop j (path_of changes.now depth))))) (table kinds.old numbers.old to) }
+pub fn put_index(path: Path<'_>, rows: &mut Rows, j: usize, counters: u16)
+    requires { (path.depth ≤ 1024) × (j + path.depth ≤ 1048576) }
+    ensures { rows.new ≡ put_rows
+        (offset_rows (offset_from_innermost counters (leading_index (drop j (path_of path.entry.changes.now path.entry.depth))))) rows.old }
 {
-    if MOST_ROWS < to {
-        return to;
+    if rows.has_too_many() {
+        return;
     }
-    let found = step_at(changes, depth, j);
+    let Some(found) = step_at(path, j) else {
+        rows.put_count(WORD_LIT, 0);
+        return;
+    };
     match found {
-        Found::CounterAt(level) => put_count(
-            kinds,
-            numbers,
-            to,
-            WORD_CTR,
-            from_innermost(counters, level),
-        ),
-        Found::LiteralAt(value) => put_count(kinds, numbers, to, WORD_LIT, value),
-        Found::Same(behind) => put_index(changes, kinds, numbers, behind, 0, counters, to),
-        Found::OfGroup(length, behind) => {
-            let sum = put_count(kinds, numbers, to, WORD_PLUS, 0);
-            let group = put_count(kinds, numbers, sum, WORD_TIMES, length);
-            let within = put_index(changes, kinds, numbers, behind, 0, counters, group);
-            put_index(changes, kinds, numbers, behind, 1, counters, within)
+        Found::CounterAt(level) => rows.put_count(WORD_CTR, from_innermost(counters, level)),
+        Found::LiteralAt(value) => rows.put_count(WORD_LIT, value),
+        Found::Same(depth) => put_index(Path { depth, ..path }, rows, 0, counters),
+        Found::OfGroup(length, depth) => {
+            rows.put_count(WORD_PLUS, 0);
+            rows.put_count(WORD_TIMES, length);
+            put_index(Path { depth, ..path }, rows, 0, counters);
+            put_index(Path { depth, ..path }, rows, 1, counters);
         }
-        Found::Quotient(length, behind) => {
-            let of = put_count(kinds, numbers, to, WORD_OVER, length);
-            put_index(changes, kinds, numbers, behind, 0, counters, of)
+        Found::Quotient(length, depth) => {
+            rows.put_count(WORD_OVER, length);
+            put_index(Path { depth, ..path }, rows, 0, counters);
         }
-        Found::Remainder(length, behind) => {
-            let of = put_count(kinds, numbers, to, WORD_REST, length);
-            put_index(changes, kinds, numbers, behind, 0, counters, of)
+        Found::Remainder(length, depth) => {
+            rows.put_count(WORD_REST, length);
+            put_index(Path { depth, ..path }, rows, 0, counters);
         }
-        Found::Nothing => put_count(kinds, numbers, to, WORD_LIT, 0),
-        Found::FirstPart => put_count(kinds, numbers, to, WORD_LIT, 0),
-        Found::SecondPart => put_count(kinds, numbers, to, WORD_LIT, 0),
+        Found::FirstPart | Found::SecondPart => rows.put_count(WORD_LIT, 0),
     }
 }

@@ -30,28 +30,22 @@ pub enum Class {
     Rearranged,
 }
 
+// As `change_of`: a `From<u8>` would say no more.
 pub fn class_of(kind: u8) -> Class
     ensures { result ≡ class_of kind }
 {
-    if kind == WORD_LIT {
-        return Class::Literal;
+    match kind {
+        WORD_LIT => Class::Literal,
+        WORD_IN => Class::Input,
+        WORD_LOC => Class::Region,
+        WORD_OUT => Class::Output,
+        WORD_NEG => Class::Negation,
+        _ => if is_operation(kind) {
+            Class::Operation
+        } else {
+            Class::Rearranged
+        },
     }
-    if kind == WORD_IN {
-        return Class::Input;
-    }
-    if kind == WORD_LOC {
-        return Class::Region;
-    }
-    if kind == WORD_OUT {
-        return Class::Output;
-    }
-    if kind == WORD_NEG {
-        return Class::Negation;
-    }
-    if is_operation(kind) {
-        return Class::Operation;
-    }
-    Class::Rearranged
 }
 
 fn node(kind: u8, place: usize, number: u16, left: usize, right: usize) -> u64
@@ -105,7 +99,7 @@ pub fn push(
     left: usize,
     right: usize,
 )
-    requires { (len < 1024) × (left < len) × (right < len) × (length references.old ≡ 1024) }
+    requires { (len < 1024) × (left < len) × (right < len) }
     ensures { Pushed references.old references.new len (node_of kind 0 number left right) }
 {
     references[len] = node(kind, 0, number, left, right);
@@ -113,7 +107,7 @@ pub fn push(
 
 // Puts what lies in the store in the type at a place: an input, a region or the output.
 pub fn push_stored(references: &mut [u64; 1024], len: usize, kind: u8, number: u16, place: usize)
-    requires { (0 < len) × (len < 1024) × (place < 65536) × (length references.old ≡ 1024) }
+    requires { (0 < len) × (len < 1024) × (place < 65536) }
     ensures { Pushed references.old references.new len (node_of kind place number 0 0) }
 {
     references[len] = node(kind, place, number, 0, 0);

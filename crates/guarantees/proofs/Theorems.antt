@@ -1,7 +1,7 @@
 -- The three demands, the twins, and the mixings and lanes of any loops, proved. The proofs stand in Laws.
-use Rattle.std.specs.Prelude.{◌≡◌, refl, List, ℕ, ℤ, length}
+use Rattle.std.specs.Prelude.{◌≡◌, refl, List, ℕ, ℤ, length, Ok, Err}
+use Rattle.loops.specs.Checked.{Checked, passing}
 use Rattle.std.proofs.Common.{sym, ap, ◌∙◌, subst, arith}
-use Rattle.refusals.specs.declared.Answer.TheVariants.{Told, Refused}
 use Rattle.words.specs.Kinds.{Row, rows_of}
 use Rattle.words.specs.Words.{words, look_up}
 use Rattle.own_words.specs.OwnWords.{own_words}
@@ -31,8 +31,6 @@ use Rattle.typing.specs.Questions.{ask, AllYes}
 use Rattle.typing.specs.EntryQuestions.{read_questions}
 use Rattle.typing.proofs.Laws.Questions.{all_asked, end_asked}
 use Rattle.typing.proofs.Laws.EntryQuestions.{reading_asks}
-use Rattle.loops.specs.declared.Checked.{Checked}
-use Rattle.loops.specs.declared.Checked.TheVariants as loops
 use Rattle.loops.specs.Check.{check_table, check_loops_text}
 use Rattle.loops.specs.TextTheorems as texts
 use Rattle.loops.specs.TableTheorems as tables
@@ -90,26 +88,26 @@ module _ (ws : List (List ℕ)) (good : Good ws) where
 
   -- ---- demand 2
 
-  tells : (P Q : Plan) (r : Checked) → P ≡ Q → r ≡ loops.Passes (plan_writes P) (need (translation P)) → TellsOf Q r
+  tells : (P Q : Plan) (r : Checked) → P ≡ Q → r ≡ passing (plan_writes P) (need (translation P)) → TellsOf Q r
   tells P Q r same e =
       subst (λ (X : Plan). TellsOf X r) same (ap told_writes e, ap told_need e)
 
   safe : (R : List Row) (r : Checked)
-      → ((w n : ℕ) → r ≡ loops.Passes w n → (L : Loops) × (R ≡ loops_rows L) × TouchesBelow n L.command (start_of L) (regions_from L))
+      → ((w n : ℕ) → r ≡ passing w n → (L : Loops) × (R ≡ loops_rows L) × TouchesBelow n L.command (start_of L) (regions_from L))
       → Safe R r
-  safe R (loops.Passes w m) h n e L is =
-      let same : m ≡ n = cc in
-      let s = h w m refl in
+  safe R (Ok p) h n e L is =
+      let same : p.need ≡ n = cc in
+      let s = h p.writes p.need refl in
       let one : s.0 ≡ L = loops_unique s.0 L (sym s.1 ∙ is) in
       subst (λ (x : ℕ). TouchesBelow x L.command (start_of L) (regions_from L)) same
-      (subst (λ (M : Loops). TouchesBelow m M.command (start_of M) (regions_from M)) one s.2)
-  safe R (loops.Refused q) h n e L is = no_value (sym e)
+      (subst (λ (M : Loops). TouchesBelow p.need M.command (start_of M) (regions_from M)) one s.2)
+  safe R (Err q) h n e L is = no_value (sym e)
 
   read_yes : (limits : Limits) (t : List ℕ) (n : ℕ)
-      → ask Refused (read_questions (head_of ws Words) limits t) (Told (length (lines_of t))) ≡ Told n
+      → ask Err (read_questions (head_of ws Words) limits t) (Ok (length (lines_of t))) ≡ Ok n
       → AllYes (read_questions (head_of ws Words) limits t)
   read_yes limits t n e =
-      (end_asked Refused (read_questions (head_of ws Words) limits t) (Told (length (lines_of t))) (Told n)
+      (end_asked Err (read_questions (head_of ws Words) limits t) (Ok (length (lines_of t))) (Ok n)
       (λ q f. let clash : ◌≡◌ {A = ℕ} 0 1 = cc in omega arith) e).0
 
   pub demand_2 : Demand2 ws
@@ -129,7 +127,7 @@ module _ (ws : List (List ℕ)) (good : Good ws) where
     );
     print_back = λ limits t h.
         prints_back ws limits t (length (lines_of t))
-        (reading_asks (look_up ws) limits t ∙ all_asked Refused (read_questions (look_up ws) limits t) (Told (length (lines_of t))) h);
+        (reading_asks (look_up ws) limits t ∙ all_asked Err (read_questions (look_up ws) limits t) (Ok (length (lines_of t))) h);
     loops_fit = λ R p h few. let short = text_short ws good sort.Loops R p h in omega (arith, short, few);
     plan_fits = λ R p h few. let short = text_short ws good sort.Plan R p h in omega (arith, short, few);
     text_safe = λ t r e. safe (text_rows ws t) r (λ w n f. texts.text_safe ws t w n (sym e ∙ f));

@@ -8,12 +8,12 @@
 --   refusals    refusal_number, refusal_line: the number and the line of a refusal
 -- Where arrays differ in length only, the fact is shown for every length: `split_any_length` (P3), `index_any_length` (P4) and
 -- `cells_any_length` (P9) of `typing`, Theorems.
-use Rattle.std.specs.Prelude.{◌≡◌, refl, cond, List, [], ◌∷◌, ◌++◌, map, ℕ, eqb, ℤ, pos, negsuc, take, drop}
+use Rattle.std.specs.Prelude.{◌≡◌, refl, cond, List, [], ◌∷◌, ◌++◌, map, ℕ, eqb, ℤ, pos, negsuc, take, drop, Ok, Err}
+use Rattle.loops.specs.Checked.{Checked, passing}
+use Rattle.refusals.specs.Answers.{Answer}
 use Prim.Native.String.{String, ◌++◌ as append}
 use Rattle.arithmetic.specs.Arithmetic.{clamp, sum, difference, product, negation, nearest, quotient, lesser, greater, operate}
 use Rattle.refusals.specs.Refusals.{refusal_number, refusal_line}
-use Rattle.refusals.specs.declared.Answer.{Answer}
-use Rattle.refusals.specs.declared.Answer.TheVariants.{Told, Refused}
 use Rattle.words.specs.Words.{bytes, table, words, same_letters, look_from, operands_of}
 use Rattle.numerals.specs.Numerals.{all_digits, value, leading_zero, unsigned, not_below_zero, below_zero, numeral_of as numeral_of, last_digits, digits, decimal}
 use Rattle.texts.specs.Texts.{lines_of, place_of}
@@ -34,8 +34,6 @@ use Rattle.syntax.specs.Walk.{ask_row, walk_from, listed_from, walk_table}
 use Rattle.syntax.specs.Reading.{operands_among, read_rows, choose, plan_of, loops_of}
 use Rattle.typing.specs.Check.{check, check_type, check_types, check_plan}
 use Rattle.typing.specs.Entry.{check_plan_rows, check_plan_text}
-use Rattle.loops.specs.declared.Checked.{Checked}
-use Rattle.loops.specs.declared.Checked.TheVariants as loops
 use Rattle.bounds.specs.Bounds.{every_row_bounded, ask_offset, ask_value, ask_place, ask_set, ask_command, ask_bounds}
 use Rattle.loops.specs.Check.{check_loops, check_loops_rows as check_loops_rows, check_loops_text as check_loops_text}
 use Rattle.translate.specs.Entry.{make_plan, make_text, rows_made}
@@ -77,24 +75,24 @@ abbrev made_from : String → List ℕ
 made_from s = text_of words (rows_made words (text s))
 
 abbrev of_plan : Answer → Answered
-of_plan (Told n) = passes
-of_plan (Refused q) = refused (refusal_number q) (refusal_line q)
+of_plan (Ok n) = passes
+of_plan (Err q) = refused (refusal_number q) (refusal_line q)
 
 abbrev of_loops : List ℕ → ℕ → Checked → Answered
-of_loops u lines (loops.Passes w n) = made u lines w n
-of_loops u lines (loops.Refused q) = refused (refusal_number q) (refusal_line q)
+of_loops u lines (Ok p) = made u lines p.writes p.need
+of_loops u lines (Err q) = refused (refusal_number q) (refusal_line q)
 
 abbrev of_translation : List ℕ → Answer → Answered
-of_translation u (Told n) = of_loops u n (check_loops_text words u)
-of_translation u (Refused q) = refused (refusal_number q) (refusal_line q)
+of_translation u (Ok n) = of_loops u n (check_loops_text words u)
+of_translation u (Err q) = refused (refusal_number q) (refusal_line q)
 
 -- [7.5] the output cells, which lie behind the inputs
 abbrev output_cells : Loops → List ℤ → List ℤ
 output_cells L s = take L.output (drop (all_cells L.inputs) s)
 
 abbrev of_run : Loops → Answer → List ℤ → Answered
-of_run L (Told w) s = finished w (output_cells L s)
-of_run L (Refused q) s = refused (refusal_number q) (refusal_line q)
+of_run L (Ok w) s = finished w (output_cells L s)
+of_run L (Err q) s = refused (refusal_number q) (refusal_line q)
 
 abbrev after_run : Loops → Ran → Answered
 after_run L o = of_run L o.answer o.store

@@ -8,14 +8,13 @@
 --   Runs       the run in which every `par` and every `lanes` [18.10] takes the order named
 --   words      word_at: the word of a row; Search: what a search answers
 --   meaning    Plan, Loops and their rows; translation, command_writes, need; store: cells and bytes as a store; values: value_of
-use Rattle.std.specs.Prelude.{false, ◌≡◌, List, [], ◌++◌, map, ℕ, ◌+◌, ◌/◌, ◌%◌, ◌<◌, ℤ, length, drop}
+use Rattle.std.specs.Prelude.{false, ◌≡◌, List, [], ◌++◌, map, ℕ, ◌+◌, ◌/◌, ◌%◌, ◌<◌, ℤ, length, drop, Option, Some, None}
+use Rattle.loops.specs.Checked.{Checked}
+use Rattle.refusals.specs.Answers.{Answer}
 use Rattle.refusals.specs.declared.Refusal.{Refusal}
-use Rattle.refusals.specs.declared.Answer.{Answer}
 use Rattle.words.specs.Promises.{LooksUp}
 use Rattle.words.specs.Kinds.{Row, rows_of}
 use Rattle.words.specs.Words.{word_at}
-use Rattle.words.specs.declared.Found.{Found}
-use Rattle.words.specs.declared.Found.TheVariants.{At, NotListed}
 use Rattle.words.specs.declared.Search.{Search}
 use Rattle.lines.specs.Lent.{text_rows}
 use Rattle.lines.specs.Printing.{text_of}
@@ -30,7 +29,6 @@ use Rattle.meaning.specs.Sequence.{up_from}
 use Rattle.typing.specs.Questions.{Question, AllYes}
 use Rattle.typing.specs.TypeQuestions.{plan_questions}
 use Rattle.plans.specs.Promises.{ChecksPlan, ReadsPlan}
-use Rattle.loops.specs.declared.Checked.{Checked}
 use Rattle.loops.specs.Promises.{ChecksLoops, ChecksTable, TellsNeed, ReadsLoops}
 use Rattle.translate.specs.Entry.{made_rows}
 use Rattle.translate.specs.Questions.{made_questions}
@@ -105,13 +103,13 @@ ShowsRun v s s' text L =
 -- [17.1], [17.2] Where the table has the word in row k: that row, and k + 1 rows compared. Where no row has it: that it is not listed, and all
 -- rows compared. One or the other is the case for every word.
 pub record SearchTells (ws : List (List ℕ)) (l : List ℕ) (s : Search) : Type 0 where
-  pub listed : (k : ℕ) → k < length ws → word_at ws k ≡ l → (s.found ≡ At k) × (s.compared ≡ k + 1)
-  pub not_listed : ((k : ℕ) → k < length ws → word_at ws k ≡ l → ⊥) → (s.found ≡ NotListed) × (s.compared ≡ length ws)
+  pub listed : (k : ℕ) → k < length ws → word_at ws k ≡ l → (s.found ≡ Some k) × (s.compared ≡ k + 1)
+  pub not_listed : ((k : ℕ) → k < length ws → word_at ws k ≡ l → ⊥) → (s.found ≡ None) × (s.compared ≡ length ws)
 
 -- [17.4] to C: the lower 16 bits are the rows compared, the others 1 where the word is listed, and else 0
-abbrev pub listed_bit : Found → ℕ
-listed_bit (At k) = 1
-listed_bit NotListed = 0
+abbrev pub listed_bit : Option ℕ → ℕ
+listed_bit (Some k) = 1
+listed_bit None = 0
 
 abbrev pub HalvesOf : Search → ℕ → Type 0
 HalvesOf s r = (r % 65536 ≡ s.compared) × (r / 65536 ≡ listed_bit s.found)

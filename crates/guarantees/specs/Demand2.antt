@@ -9,7 +9,8 @@
 --   Ways       how loops are had from a plan's text; Told: what an entry tells
 --   lines      text_rows: the rows of a text's lines; text_of: rows as a text
 use Rattle.std.specs.Prelude.{◌≡◌, List, [], ◌↔◌, ℕ, ◌≤◌, ◌<◌, ℤ, length}
-use Rattle.refusals.specs.declared.Answer.{Answer}
+use Rattle.loops.specs.Checked.{Checked}
+use Rattle.refusals.specs.Answers.{Answer}
 use Rattle.words.specs.Kinds.{Row, rows_of}
 use Rattle.words.specs.declared.Sort.TheVariants as sort
 use Rattle.lines.specs.Lent.{text_rows}
@@ -31,7 +32,6 @@ use Rattle.typing.specs.Questions.{AllYes, AllYesTo}
 use Rattle.typing.specs.TypeQuestions.{plan_questions}
 use Rattle.typing.specs.EntryQuestions.{read_questions}
 use Rattle.plans.specs.Promises.{ChecksPlan}
-use Rattle.loops.specs.declared.Checked.{Checked}
 use Rattle.loops.specs.Promises.{ChecksLoops, ChecksTable}
 use Rattle.guarantees.specs.Told.{Told, told_answer, told_writes, told_need}
 use Rattle.guarantees.specs.Questions.{plan_door, rows_door}

@@ -10,7 +10,7 @@
 --   mixing     MixingOf: the mixings of the steps of loops; after_mixing: what the steps of one come to
 --   Told       what an entry tells; store: cells and bytes as a store; programs: the lines that the runner prints
 use Rattle.std.specs.Prelude.{◌≡◌, List, [], map, ℕ, ◌≤◌, ℤ, length, take}
-use Rattle.refusals.specs.declared.Answer.{Answer}
+use Rattle.refusals.specs.Answers.{Answer}
 use Rattle.meaning.specs.Types.{cells}
 use Rattle.meaning.specs.Terms.{Plan}
 use Rattle.meaning.specs.Numbers.{clamped32}

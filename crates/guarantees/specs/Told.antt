@@ -1,13 +1,11 @@
 -- What an entry tells its caller, a refusal's number and line or a value: [10.17], and to C [12.2], [12.3]. Definitions only;
 -- assumes nothing.
-use Rattle.std.specs.Prelude.{cond, ◌≡◌, ℕ, ◌/◌, ◌%◌, min, ltb}
+use Rattle.std.specs.Prelude.{cond, ◌≡◌, ℕ, ◌/◌, ◌%◌, min, ltb, Result, Ok, Err}
+use Rattle.loops.specs.Checked.{Checked}
+use Rattle.words.specs.declared.Search.{Search}
+use Rattle.refusals.specs.Answers.{Answer}
 use Rattle.refusals.specs.declared.Refusal.{Refusal}
 use Rattle.refusals.specs.Refusals.{refusal_number, refusal_line}
-use Rattle.refusals.specs.declared.Answer.{Answer}
-use Rattle.refusals.specs.declared.Answer.TheVariants as answer
-use Rattle.own_words.specs.declared.Searched.{Searched}
-use Rattle.own_words.specs.declared.Searched.TheVariants as searched
-use Rattle.loops.specs.declared.Checked.{Checked}
 use Rattle.loops.specs.Check.{writes_of, need_of}
 
 -- [10.17] a refusal's number and line, or a value
@@ -20,8 +18,8 @@ refusal q = Told.refused (refusal_number q) (refusal_line q)
 
 -- a number, or the first "no"
 abbrev pub told_answer : Answer → Told
-told_answer (answer.Told n) = Told.value n
-told_answer (answer.Refused q) = refusal q
+told_answer (Ok n) = Told.value n
+told_answer (Err q) = refusal q
 
 -- the check of loops tells two values: their writes and their need
 abbrev pub told_writes : Checked → Told
@@ -31,14 +29,14 @@ abbrev pub told_need : Checked → Told
 told_need c = told_answer (need_of c)
 
 -- a search tells how many rows were compared; where the word stands is told besides
-abbrev pub told_compared : Searched → Told
-told_compared (searched.Told s) = Told.value s.compared
-told_compared (searched.Refused q) = refusal q
+abbrev pub told_compared : Result Search Refusal → Told
+told_compared (Ok s) = Told.value s.compared
+told_compared (Err q) = refusal q
 
 -- [12.3] to C of a plan that is accepted: 0
 abbrev pub told_accepted : Answer → Told
-told_accepted (answer.Told n) = Told.value 0
-told_accepted (answer.Refused q) = refusal q
+told_accepted (Ok n) = Told.value 0
+told_accepted (Err q) = refusal q
 
 -- [12.2] To C: one number of 64 bits. Below 2^56, so that its highest byte is 0, it is the value; else the highest byte is the number, the
 -- rest the line.

@@ -10,20 +10,18 @@
 --   words      Good: which tables of words the demands hold for
 --   Told       number and line of a refusal, as told by an entry, and to C; Answers: the form of the programs' answers
 --   Demand1    what is lent, as it was, or as left; and what the contract of each entry promises
-use Rattle.std.specs.Prelude.{◌≡◌, List, ℕ, ◌<◌, ℤ, length}
+use Rattle.std.specs.Prelude.{◌≡◌, List, ℕ, ◌<◌, ℤ, length, Result, Ok}
+use Rattle.loops.specs.Checked.{Checked}
+use Rattle.refusals.specs.Answers.{Answer}
 use Rattle.refusals.specs.declared.Refusal.{Refusal}
 use Rattle.refusals.specs.declared.Refusal.TheVariants.{WordsForm}
-use Rattle.refusals.specs.declared.Answer.{Answer}
 use Rattle.words.specs.Good.{Good}
 use Rattle.words.specs.Promises.{LooksUp}
 use Rattle.words.specs.declared.Search.{Search}
 use Rattle.own_words.specs.OwnWords.{own_words}
 use Rattle.own_words.specs.Promises.{LooksUpIn}
-use Rattle.own_words.specs.declared.Searched.{Searched}
-use Rattle.own_words.specs.declared.Searched.TheVariants as searched
 use Rattle.typing.specs.Questions.{AllYes, FirstNo}
 use Rattle.plans.specs.Promises.{ChecksPlan, ChecksPlanIn, ReadsPlan, ReadsPlanIn}
-use Rattle.loops.specs.declared.Checked.{Checked}
 use Rattle.loops.specs.Promises.{ChecksLoops, ChecksLoopsIn, TellsNeed, TellsNeedIn, ReadsLoops, ReadsLoopsIn}
 use Rattle.translate.specs.Promises.{TranslatesRows, TranslatesRowsIn, TranslatesText, TranslatesTextIn}
 use Rattle.run.specs.Promises.{KeepsFrame, RunsText, RunsTextIn}
@@ -89,8 +87,8 @@ pub record Twins (w : List ℕ) : Type 0 where
   pub print_run : (t v : List ℕ) (s s' : List ℤ) (u u' : List ℕ) (r : Answer) → PrintsRunIn w t v s u r s' u'
       → Twin w (ShowsLine s s' u u' (told_answer r)) (λ ws. PrintsRun ws t v s u r s' u')
   -- [17.3] `own_words::look_up_in`
-  pub look_up_holds : (l : List ℕ) (r : Searched) → LooksUpIn w l r
-      → Twin w (Tells (told_compared r) (Unit {0})) (λ ws. (s : Search) × (r ≡ searched.Told s) × LooksUp ws l s)
+  pub look_up_holds : (l : List ℕ) (r : Result Search Refusal) → LooksUpIn w l r
+      → Twin w (Tells (told_compared r) (Unit {0})) (λ ws. (s : Search) × (r ≡ Ok s) × LooksUp ws l s)
   -- [12.1], [12.2] those for C
   pub check_plan_c : (t : List ℕ) (r : ℕ) → ChecksPlanForCIn w t r → Twin w (Tells (told_code r) (Unit {0})) (λ ws. ChecksPlanForC ws t r)
   pub translate_c : (t u u' : List ℕ) (r : ℕ) → TranslatesForCIn w t u r u'

@@ -1,7 +1,7 @@
 -- The ways from a plan's text to loops, through the public entries: a text of loops, or a table of them, in memory that was lent. Each
 -- begins with an entry's contract and goes on where the entry told a value. Definitions only; assumes nothing.
 use Rattle.std.specs.Prelude.{◌≡◌, List, ℕ, ℤ, take}
-use Rattle.refusals.specs.declared.Answer.{Answer}
+use Rattle.refusals.specs.Answers.{Answer}
 use Rattle.loops.specs.Promises.{ReadsLoops}
 use Rattle.translate.specs.Promises.{TranslatesRows, TranslatesText}
 use Rattle.vazhdumir.specs.Promises.{TranslatesForC, ReadsLoopsForC}

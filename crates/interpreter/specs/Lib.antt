@@ -8,3 +8,4 @@ pub mod Control
 pub mod Shifts
 pub mod Frames
 pub mod Interpreter
+pub mod OpenLoops

@@ -2,21 +2,17 @@
 ghost use Rattle.std.specs.Prelude.{◌≡◌, ◌<◌, get_or};
 ghost use Rattle.interpreter.specs.Orders.{turns};
 
-// The counter of the turn k of n, from 0.
+// The counter of the turn k of n, from 0. The order is a number, as the entry is given it and its promise says it.
 pub fn counter(order: u32, n: u32, k: u32) -> u32
     requires { k < n }
     ensures below { result < n }
     ensures result { result ≡ get_or (turns order n) k 0 }
 {
-    if order == 0 {
-        return k;
-    }
-    if order == 1 {
-        return n - 1 - k;
-    }
     let evens = n / 2 + n % 2;
-    if k < evens {
-        return 2 * k;
+    match order {
+        0 => k,
+        1 => n - 1 - k,
+        _ if k < evens => 2 * k,
+        _ => 2 * (k - evens) + 1,
     }
-    2 * (k - evens) + 1
 }

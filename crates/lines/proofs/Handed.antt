@@ -1,25 +1,18 @@
 -- Rows handed over to a lent table: what each way out of `hand_over` knows. Assumes nothing.
+use Rattle.std.specs.Prelude.{Ok, Err}
 use mathlib.Core.Bool.{Bool, cond}
 use mathlib.Core.Path.{◌≡◌, refl, sym, ap, ◌∙◌}
 use mathlib.Core.List.{List, [], ◌∷◌, ◌++◌}
 use Prim.Native.Nat.{ℕ, ◌≤◌, ◌<◌}
-use native.Mathlib.Nat.{zero-add}
 use native.Mathlib.Omega.{arith}
 use lib.IntN.{ℤ}
 use lib.ListN.{length, drop}
-use lib.Seq.{sets, sets-eq}
 use Rattle.refusals.specs.declared.Refusal.TheVariants.{LentSize}
-use Rattle.refusals.specs.declared.Answer.TheVariants.{Told, Refused}
 use Rattle.words.specs.Kinds.{Row, rows_of}
 use Rattle.words.proofs.Laws.{rows_length}
 use Rattle.lines.specs.Reading.{kinds_of, numbers_of}
 use Rattle.lines.specs.Lent.{TableInto}
-use Rattle.lines.proofs.TableLaws.{short_kinds, short_numbers, room_for_holds}
-
--- what was put is in front, and the rest as lent
-front_filled : {A : Type 0} (held after put : List A) → length put ≤ length held → after ≡ sets held 0 put → after ≡ put ++ drop (length put) held
-front_filled held after put h e =
-    e ∙ sets-eq put held 0 (omega arith) ∙ ap (λ (i : ℕ). put ++ drop i held) (zero-add (length put))
+use Rattle.lines.proofs.TableLaws.{no_room, room_for_holds}
 
 -- the columns of a table's rows
 kinds_again : (ks : List ℕ) (ns : List ℤ) → length ks ≡ length ns → kinds_of (rows_of ks ns) ≡ ks
@@ -42,29 +35,21 @@ module _ (ks : List ℕ) (ns : List ℤ) (sizes : length ks ≡ length ns) (lk :
   count : length R ≡ length ks
   count = omega (arith, rows_length ks ns, sizes)
 
-  pub few_kinds : length lk < length ks → TableInto (Told (length ks)) R lk ln (Refused LentSize) lk ln
-  few_kinds h = record {
-    answer = ap (λ (b : Bool). cond b (Told (length R)) (Refused LentSize)) (sym (short_kinds (length R) (length lk) (length ln) (omega (arith, count))));
+  pub few_rows : {room : ℕ} → room ≡ length (rows_of lk ln) → room < length ks → TableInto (Ok (length ks)) R lk ln (Err LentSize) lk ln
+  few_rows e h = record {
+    answer = ap (λ (b : Bool). cond b (Ok (length R)) (Err LentSize))
+        (sym (no_room (length R) (length lk) (length ln) (omega (arith, count, rows_length lk ln))));
     kinds_left = refl;
     numbers_left = refl;
   }
 
-  pub few_numbers : length ln < length ks → TableInto (Told (length ks)) R lk ln (Refused LentSize) lk ln
-  few_numbers h = record {
-    answer = ap (λ (b : Bool). cond b (Told (length R)) (Refused LentSize)) (sym (short_numbers (length R) (length lk) (length ln) (omega (arith, count))));
-    kinds_left = refl;
-    numbers_left = refl;
+  pub handed : {ks' : List ℕ} {ns' : List ℤ} → length ks ≤ length lk → length ks ≤ length ln → ks' ≡ ks → ns' ≡ ns
+      → TableInto (Ok (length ks)) R lk ln (Ok (length ks)) (ks' ++ drop (length ks) lk) (ns' ++ drop (length ks) ln)
+  handed h g p q = record {
+    answer = ap Ok (sym count)
+        ∙ ap (λ (b : Bool). cond b (Ok (length R)) (Err LentSize))
+        (sym (room_for_holds (length R) (length lk) (length ln) (omega (arith, count)) (omega (arith, count))));
+    kinds_left = ap (λ (l : List ℕ). l ++ drop (length ks) lk) p ∙ ap (λ (l : List ℕ). l ++ drop (length l) lk) (sym (kinds_again ks ns sizes));
+    numbers_left = ap (λ (l : List ℤ). l ++ drop (length ks) ln) q ∙ ap (λ (i : ℕ). ns ++ drop i ln) sizes
+        ∙ ap (λ (l : List ℤ). l ++ drop (length l) ln) (sym (numbers_again ks ns sizes));
   }
-
-  pub handed : {lk' : List ℕ} {ln' : List ℤ} → length ks ≤ length lk → length ks ≤ length ln → lk' ≡ sets lk 0 ks → ln' ≡ sets ln 0 ns
-      → TableInto (Told (length ks)) R lk ln (Told (length ks)) lk' ln'
-  handed {lk'} {ln'} h g p q =
-      let x = kinds_again ks ns sizes in
-      let y = numbers_again ks ns sizes in
-      record {
-        answer = ap Told (sym count)
-            ∙ ap (λ (b : Bool). cond b (Told (length R)) (Refused LentSize))
-            (sym (room_for_holds (length R) (length lk) (length ln) (omega (arith, count)) (omega (arith, count))));
-        kinds_left = front_filled lk lk' (kinds_of R) (omega (arith, ap length x)) (p ∙ ap (sets lk 0) (sym x));
-        numbers_left = front_filled ln ln' (numbers_of R) (omega (arith, ap length y, sizes)) (q ∙ ap (sets ln 0) (sym y));
-      }

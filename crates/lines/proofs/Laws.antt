@@ -1,6 +1,7 @@
 -- Texts and rows, both ways: what is printed reads back, what is read prints back, and how long a printed text is. The
 -- first two hold for every table of distinct lower-case words. Assumes nothing.
-use Rattle.std.specs.Prelude.{◌≡◌, Bool, ◌&&◌, ◌⊎◌, T, eqb, leb, ℤ, pos, get_or}
+use Rattle.std.specs.Prelude.{◌≡◌, Bool, ◌&&◌, ◌⊎◌, T, eqb, leb, ℤ, pos, get_or, Option, Some, None, Ok, Err}
+use Rattle.refusals.specs.Answers.{Answer}
 use Rattle.std.proofs.Math.Path.{refl, sym, ap, ap₂}
 use Rattle.std.proofs.Common.{◌∙◌, subst, ⊎_elim, zero-add, add-zero, add-suc, le-leb, eq-eqb, leb→le, eqb→eq, SFits}
 use Rattle.std.proofs.Math.Bool.{true, false, cond}
@@ -16,22 +17,14 @@ use Rattle.words.specs.Kinds.{Row, word_lit}
 use Rattle.words.specs.Words.{word_at, look_up}
 use Rattle.words.specs.Good.{lower_case, Good}
 use Rattle.words.proofs.Laws.{found_word, own_place, word_formed}
-use Rattle.words.specs.declared.Found.{Found}
-use Rattle.words.specs.declared.Found.TheVariants.{At, NotListed}
 use Rattle.numerals.specs.Numerals.{numeral_of, decimal}
 use Rattle.texts.specs.Laws.{Free, free_append, before_cut, after_cut, lines_within, place_split, lines_line, together, Closed, lines_together, last_closed, closed_last}
 use Rattle.numerals.specs.Laws.{read_back, one_way, no_line_end, decimal_length, decimal_short, decimal_nonempty}
-use Rattle.numerals.specs.declared.Numeral.{Numeral}
-use Rattle.numerals.specs.declared.Numeral.TheVariants.{Is, Malformed}
 use Rattle.refusals.specs.declared.Refusal.{Refusal}
 use Rattle.refusals.specs.declared.Refusal.TheVariants.{TextForm, LineForm, LineCount}
 use Rattle.texts.specs.Texts.{lines_of, before_comma, after_comma}
 use Rattle.lines.specs.Reading.{paired, line_of, add_row, rows_in, closed, whether, formed, limited, reading}
-use Rattle.refusals.specs.declared.Answer.{Answer}
-use Rattle.refusals.specs.declared.Answer.TheVariants.{Told, Refused}
 use Rattle.lines.specs.Printing.{written, text_of, Printable, Each}
-use Rattle.lines.specs.declared.Line.{Line}
-use Rattle.lines.specs.declared.Line.TheVariants.{IsRow, NoRow}
 use Rattle.lines.specs.declared.Limits.{Limits}
 
 -- ---- a row's line, without its byte 10
@@ -47,7 +40,7 @@ lower_free b (c ∷ cs) h t =
     ((λ e. omega arith), lower_free b cs h (and_r (leb 97 c && leb c 122) (lower_case cs) t))
 
 -- what stands before the first comma and behind it
-line_parts : (head : List ℕ → Found) (w d : List ℕ) → Free 44 w → line_of head (w ++ (44 ∷ d)) ≡ paired (head w) (numeral_of d)
+line_parts : (head : List ℕ → Option ℕ) (w d : List ℕ) → Free 44 w → line_of head (w ++ (44 ∷ d)) ≡ paired (head w) (numeral_of d)
 unfolding line_of
 line_parts head w d f =
     ap₂ (λ (x y : List ℕ). paired (head x) (numeral_of y)) (before_cut w d f) (after_cut w d f)
@@ -58,7 +51,7 @@ module _ (ws : List (List ℕ)) (good : Good ws) where
   word_free : (b k : ℕ) → b < 97 → Free b (word_at ws k)
   word_free b k h = lower_free b (word_at ws k) h (word_formed ws k good.formed).0
 
-  row_line : (r : Row) → Printable ws r → line_of (look_up ws) (inside ws r) ≡ IsRow r.0 r.1
+  row_line : (r : Row) → Printable ws r → line_of (look_up ws) (inside ws r) ≡ Some (r.0, r.1)
   row_line r p =
       line_parts (look_up ws) (word_at ws r.0) (decimal r.1) (word_free 44 r.0 (omega arith))
       ∙ ap₂ paired (own_place ws r.0 good.apart p.listed) (read_back r.1 p.number)
@@ -80,14 +73,14 @@ module _ (ws : List (List ℕ)) (good : Good ws) where
       ap (rows_in (look_up ws)) (text_lines r rs)
       ∙ ap₂ add_row (row_line r p.0) (rows_back rs p.1)
 
-  pub formed_back : (n : ℕ) (rs : List Row) → Each (Printable ws) rs → formed (look_up ws) n (lines_of (text_of ws rs)) ≡ Told (n + length rs)
+  pub formed_back : (n : ℕ) (rs : List Row) → Each (Printable ws) rs → formed (look_up ws) n (lines_of (text_of ws rs)) ≡ Ok (n + length rs)
   unfolding formed lines_of text_of Each
-  formed_back n [] p = ap Told (sym (add-zero n))
+  formed_back n [] p = ap Ok (sym (add-zero n))
   formed_back n (r ∷ rs) p =
       ap (formed (look_up ws) n) (text_lines r rs)
-      ∙ ap (λ (l : Line). whether l (formed (look_up ws) (suc n) (lines_of (text_of ws rs))) (Refused (LineForm (suc n)))) (row_line r p.0)
+      ∙ ap (λ (l : Option Row). whether l (formed (look_up ws) (suc n) (lines_of (text_of ws rs))) (Err (LineForm (suc n)))) (row_line r p.0)
       ∙ formed_back (suc n) rs p.1
-      ∙ ap Told (suc-add n (length rs) ∙ sym (add-suc n (length rs)))
+      ∙ ap Ok (suc-add n (length rs) ∙ sym (add-suc n (length rs)))
 
   -- a text of at least one row ends with byte 10
   text_ends : (rs : List Row) → 0 < length rs → (l : List ℕ) × (text_of ws rs ≡ l ++ (10 ∷ []))
@@ -108,16 +101,16 @@ module _ (ws : List (List ℕ)) (good : Good ws) where
   -- The rows of a text that was printed are the rows that it was printed from.
   pub reads_back : (limits : Limits) (rs : List Row) → Each (Printable ws) rs → 0 < length rs
       → length (text_of ws rs) ≤ limits.bytes → length rs ≤ limits.lines
-      → reading (look_up ws) limits (text_of ws rs) ≡ Told (length rs)
+      → reading (look_up ws) limits (text_of ws rs) ≡ Ok (length rs)
   unfolding reading
   reads_back limits rs p some bytes lines =
-      ap (λ (b : Bool). cond b (limited limits.lines (formed (look_up ws) 0 (lines_of (text_of ws rs)))) (Refused TextForm)) (text_closed limits.bytes rs some bytes)
-      ∙ ap (limited limits.lines) (formed_back 0 rs p ∙ ap Told (zero-add (length rs)))
-      ∙ ap (λ (b : Bool). cond b (Told (length rs)) (Refused LineCount)) (le-leb (length rs) limits.lines lines)
+      ap (λ (b : Bool). cond b (limited limits.lines (formed (look_up ws) 0 (lines_of (text_of ws rs)))) (Err TextForm)) (text_closed limits.bytes rs some bytes)
+      ∙ ap (limited limits.lines) (formed_back 0 rs p ∙ ap Ok (zero-add (length rs)))
+      ∙ ap (λ (b : Bool). cond b (Ok (length rs)) (Err LineCount)) (le-leb (length rs) limits.lines lines)
 
 -- ---- a text that passes questions 1 to 3
 
-refused_rows : {r : Refusal} {n : ℕ} → Refused r ≡ Told n → ⊥
+refused_rows : {r : Refusal} {n : ℕ} → Err r ≡ Ok n → ⊥
 refused_rows e = let clash : ◌≡◌ {A = ℕ} 0 1 = cc in omega arith
 
 closed_text : (limit : ℕ) (t : List ℕ) → closed limit t ≡ true → Closed t
@@ -129,32 +122,32 @@ closed_text limit t c =
     (leb→le 1 (length t) (and_l (leb 1 (length t)) (leb (length t) limit) (and_l sized last all)))
     (eqb→eq (get_or t (length t - 1) 0) 10 (and_r sized last all))
 
-module _ (head : List ℕ → Found) where
+module _ (head : List ℕ → Option ℕ) where
   -- every line is a row
-  pub rows_count : (n m : ℕ) (ls : List (List ℕ)) → formed head n ls ≡ Told m → m ≡ n + length (rows_in head ls)
+  pub rows_count : (n m : ℕ) (ls : List (List ℕ)) → formed head n ls ≡ Ok m → m ≡ n + length (rows_in head ls)
   unfolding formed rows_in
   rows_count n m [] e = let q : n ≡ m = cc in omega arith
   rows_count n m (l ∷ ls) e = go (line_of head l) refl e (rows_count (suc n) m ls)
     where
-      go : (x : Line) → line_of head l ≡ x → whether x (formed head (suc n) ls) (Refused (LineForm (suc n))) ≡ Told m
-          → (formed head (suc n) ls ≡ Told m → m ≡ suc n + length (rows_in head ls)) → m ≡ n + length (add_row (line_of head l) (rows_in head ls))
-      go (IsRow k z) is f rest = rest f ∙ suc-add n _ ∙ sym (add-suc n _) ∙ ap (λ (x : Line). n + length (add_row x (rows_in head ls))) (sym is)
-      go NoRow is f rest = absurd (refused_rows f)
+      go : (x : Option Row) → line_of head l ≡ x → whether x (formed head (suc n) ls) (Err (LineForm (suc n))) ≡ Ok m
+          → (formed head (suc n) ls ≡ Ok m → m ≡ suc n + length (rows_in head ls)) → m ≡ n + length (add_row (line_of head l) (rows_in head ls))
+      go (Some (k, z)) is f rest = rest f ∙ suc-add n _ ∙ sym (add-suc n _) ∙ ap (λ (x : Option Row). n + length (add_row x (rows_in head ls))) (sym is)
+      go None is f rest = absurd (refused_rows f)
 
-  limited_rows_holds : (limit : ℕ) (r : Answer) (n : ℕ) → limited limit r ≡ Told n → r ≡ Told n
-  limited_rows_holds limit (Told m) n e = go (leb m limit) e
+  limited_rows_holds : (limit : ℕ) (r : Answer) (n : ℕ) → limited limit r ≡ Ok n → r ≡ Ok n
+  limited_rows_holds limit (Ok m) n e = go (leb m limit) e
     where
-      go : (b : Bool) → cond b (Told m) (Refused LineCount) ≡ Told n → Told m ≡ Told n
+      go : (b : Bool) → cond b (Ok m) (Err LineCount) ≡ Ok n → ◌≡◌ {A = Answer} (Ok m) (Ok n)
       go true f = f
       go false f = absurd (refused_rows f)
-  limited_rows_holds limit (Refused r) n e = absurd (refused_rows e)
+  limited_rows_holds limit (Err r) n e = absurd (refused_rows e)
 
-  passed : (limits : Limits) (t : List ℕ) (n : ℕ) → reading head limits t ≡ Told n → Closed t × (formed head 0 (lines_of t) ≡ Told n)
+  passed : (limits : Limits) (t : List ℕ) (n : ℕ) → reading head limits t ≡ Ok n → Closed t × (formed head 0 (lines_of t) ≡ Ok n)
   unfolding reading
   passed limits t n e = go (closed limits.bytes t) refl e
     where
-      go : (b : Bool) → closed limits.bytes t ≡ b → cond b (limited limits.lines (formed head 0 (lines_of t))) (Refused TextForm) ≡ Told n
-          → Closed t × (formed head 0 (lines_of t) ≡ Told n)
+      go : (b : Bool) → closed limits.bytes t ≡ b → cond b (limited limits.lines (formed head 0 (lines_of t))) (Err TextForm) ≡ Ok n
+          → Closed t × (formed head 0 (lines_of t) ≡ Ok n)
       go true c f = (closed_text limits.bytes t c, limited_rows_holds limits.lines (formed head 0 (lines_of t)) n f)
       go false c f = absurd (refused_rows f)
 
@@ -163,33 +156,35 @@ module _ (head : List ℕ → Found) where
   rows_within [] = omega arith
   rows_within (l ∷ ls) = go (line_of head l) (rows_within ls)
     where
-      go : (x : Line) → length (rows_in head ls) ≤ length ls → length (add_row x (rows_in head ls)) ≤ suc (length ls)
-      go (IsRow k z) h = omega arith
-      go NoRow h = omega arith
+      go : (x : Option Row) → length (rows_in head ls) ≤ length ls → length (add_row x (rows_in head ls)) ≤ suc (length ls)
+      go (Some (k, z)) h = omega arith
+      go None h = omega arith
 
   -- Where as many lines are let in as bytes, question 3 says nothing: so with a values file.
   pub lines_uncounted : (limit : ℕ) (t : List ℕ) → length t ≤ limit → limited limit (formed head 0 (lines_of t)) ≡ formed head 0 (lines_of t)
   lines_uncounted limit t h = go (formed head 0 (lines_of t)) refl
     where
       go : (r : Answer) → formed head 0 (lines_of t) ≡ r → limited limit r ≡ r
-      go (Told m) e =
-          ap (λ (b : Bool). cond b (Told m) (Refused LineCount))
+      go (Ok m) e =
+          ap (λ (b : Bool). cond b (Ok m) (Err LineCount))
           (le-leb m limit (omega (arith, rows_count 0 m (lines_of t) e, rows_within (lines_of t), lines_within t)))
-      go (Refused r) e = refl
+      go (Err r) e = refl
 
   -- As many rows are read as the answer says.
-  pub rows_read : (limits : Limits) (t : List ℕ) (n : ℕ) → reading head limits t ≡ Told n → length (rows_in head (lines_of t)) ≡ n
+  pub rows_read : (limits : Limits) (t : List ℕ) (n : ℕ) → reading head limits t ≡ Ok n → length (rows_in head (lines_of t)) ≡ n
   rows_read limits t n e = omega (arith, rows_count 0 n (lines_of t) (passed limits t n e).1)
 
 -- ---- what is read prints back, for every table
 
-pub paired_row : (f : Found) (d : Numeral) (k : ℕ) (z : ℤ) → paired f d ≡ IsRow k z → (f ≡ At k) × (d ≡ Is z)
-paired_row (At j) (Is y) k z e = (cc, cc)
-paired_row (At j) Malformed k z e = let clash : ◌≡◌ {A = ℕ} 0 1 = cc in absurd (omega arith)
-paired_row NotListed d k z e = let clash : ◌≡◌ {A = ℕ} 0 1 = cc in absurd (omega arith)
+pub paired_row : (f : Option ℕ) (d : Option ℤ) (k : ℕ) (z : ℤ) → paired f d ≡ Some (k, z) → (f ≡ Some k) × (d ≡ Some z)
+paired_row (Some j) (Some y) k z e =
+    let same : ◌≡◌ {A = Row} (j, y) (k, z) = cc in
+    (ap (λ (r : Row). Some r.0) same, ap (λ (r : Row). Some r.1) same)
+paired_row (Some j) None k z e = let clash : ◌≡◌ {A = ℕ} 0 1 = cc in absurd (omega arith)
+paired_row None d k z e = let clash : ◌≡◌ {A = ℕ} 0 1 = cc in absurd (omega arith)
 
 module _ (ws : List (List ℕ)) where
-  line_back : (l : List ℕ) (k : ℕ) (z : ℤ) → line_of (look_up ws) l ≡ IsRow k z → inside ws (k, z) ≡ l
+  line_back : (l : List ℕ) (k : ℕ) (z : ℤ) → line_of (look_up ws) l ≡ Some (k, z) → inside ws (k, z) ≡ l
   unfolding line_of
   line_back l k z e =
       let both = paired_row (look_up ws (before_comma l)) (numeral_of (after_comma l)) k z e in
@@ -198,22 +193,22 @@ module _ (ws : List (List ℕ)) where
       ap₂ (λ (w d : List ℕ). w ++ (44 ∷ d)) word digits
       ∙ place_split 44 l (subst (λ (d : List ℕ). 0 < length d) digits (decimal_nonempty z))
 
-  printed : (n m : ℕ) (ls : List (List ℕ)) → formed (look_up ws) n ls ≡ Told m → text_of ws (rows_in (look_up ws) ls) ≡ together ls
+  printed : (n m : ℕ) (ls : List (List ℕ)) → formed (look_up ws) n ls ≡ Ok m → text_of ws (rows_in (look_up ws) ls) ≡ together ls
   unfolding formed rows_in text_of together written
   printed n m [] e = refl
   printed n m (l ∷ ls) e = go (line_of (look_up ws) l) refl e (printed (suc n) m ls)
     where
-      go : (x : Line) → line_of (look_up ws) l ≡ x → whether x (formed (look_up ws) (suc n) ls) (Refused (LineForm (suc n))) ≡ Told m
-          → (formed (look_up ws) (suc n) ls ≡ Told m → text_of ws (rows_in (look_up ws) ls) ≡ together ls)
+      go : (x : Option Row) → line_of (look_up ws) l ≡ x → whether x (formed (look_up ws) (suc n) ls) (Err (LineForm (suc n))) ≡ Ok m
+          → (formed (look_up ws) (suc n) ls ≡ Ok m → text_of ws (rows_in (look_up ws) ls) ≡ together ls)
           → text_of ws (add_row (line_of (look_up ws) l) (rows_in (look_up ws) ls)) ≡ l ++ (10 ∷ together ls)
-      go (IsRow k z) is f rest =
-          ap (λ (x : Line). text_of ws (add_row x (rows_in (look_up ws) ls))) is
+      go (Some (k, z)) is f rest =
+          ap (λ (x : Option Row). text_of ws (add_row x (rows_in (look_up ws) ls))) is
           ∙ append_snoc (inside ws (k, z)) 10 (text_of ws (rows_in (look_up ws) ls))
           ∙ ap₂ (λ (a b : List ℕ). a ++ (10 ∷ b)) (line_back l k z is) (rest f)
-      go NoRow is f rest = absurd (refused_rows f)
+      go None is f rest = absurd (refused_rows f)
 
   -- A text that is read and printed again is the same text.
-  pub prints_back : (limits : Limits) (t : List ℕ) (n : ℕ) → reading (look_up ws) limits t ≡ Told n
+  pub prints_back : (limits : Limits) (t : List ℕ) (n : ℕ) → reading (look_up ws) limits t ≡ Ok n
       → text_of ws (rows_in (look_up ws) (lines_of t)) ≡ t
   prints_back limits t n e =
       let p = passed (look_up ws) limits t n e in

@@ -1,6 +1,3 @@
-pub mod Below
-pub mod Cells
-pub mod Copies
 pub mod Handed
 pub mod Lines
 pub mod Questions

@@ -1,9 +1,7 @@
 -- Rows put into a lent table, and what is left in its two slices: [10.12], [10.17], [10.22]. Definitions only; assumes nothing.
-use Rattle.std.specs.Prelude.{cond, ◌&&◌, ◌≡◌, List, ℕ, leb, ℤ, length}
+use Rattle.std.specs.Prelude.{cond, ◌&&◌, ◌≡◌, List, ℕ, leb, ℤ, length, Ok, Err}
 use Rattle.refusals.specs.declared.Refusal.TheVariants.{LentSize}
-use Rattle.refusals.specs.declared.Answer.{Answer}
-use Rattle.refusals.specs.declared.Answer.TheVariants.{Told, Refused}
-use Rattle.refusals.specs.Answers.{unless_refused, is_told}
+use Rattle.refusals.specs.Answers.{unless_refused, is_told, Answer}
 use Rattle.words.specs.Kinds.{Row}
 use Rattle.texts.specs.Texts.{lines_of}
 use Rattle.lines.specs.Reading.{rows_in, head_of, kinds_of, numbers_of, filled}
@@ -11,7 +9,7 @@ use Rattle.lines.specs.declared.Heads.TheVariants.{Words}
 
 -- [10.12] Has the table room for the rows? [1.8] It has as many as the shorter of its slices.
 abbrev pub ask_room : ℕ → ℕ → ℕ → Answer
-ask_room rows kinds numbers = cond (leb rows kinds && leb rows numbers) (Told rows) (Refused LentSize)
+ask_room rows kinds numbers = cond (leb rows kinds && leb rows numbers) (Ok rows) (Err LentSize)
 
 -- The rows of a text; ws is the table of words.
 abbrev pub text_rows : List (List ℕ) → List ℕ → List Row

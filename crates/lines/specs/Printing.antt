@@ -1,10 +1,9 @@
 -- From rows to a text: [1.9], [10.12]. The table of words is an argument. Definitions only; assumes nothing.
-use Rattle.std.specs.Prelude.{Bool, cond, ◌≡◌, List, [], ◌∷◌, ◌++◌, ℕ, ◌<◌, leb, length}
+use Rattle.std.specs.Prelude.{Bool, cond, ◌≡◌, List, [], ◌∷◌, ◌++◌, ℕ, ◌<◌, leb, length, Ok, Err}
+use Rattle.refusals.specs.Answers.{Answer}
 use Rattle.std.specs.Int.{w32}
 use Rattle.std.proofs.Common.{SFits}
 use Rattle.refusals.specs.declared.Refusal.TheVariants.{LentSize}
-use Rattle.refusals.specs.declared.Answer.{Answer}
-use Rattle.refusals.specs.declared.Answer.TheVariants.{Told, Refused}
 use Rattle.words.specs.Kinds.{Row}
 use Rattle.words.specs.Words.{word_at}
 use Rattle.numerals.specs.Numerals.{decimal}
@@ -23,7 +22,7 @@ abbrev pub fitting : List ℕ → ℕ → Bool
 fitting text room = leb (length text) room
 
 unfoldable pub printing : List ℕ → ℕ → Answer
-printing text room = cond (fitting text room) (Told (length text)) (Refused LentSize)
+printing text room = cond (fitting text room) (Ok (length text)) (Err LentSize)
 
 -- What a printer promises of its answer r and of the text, as lent and as left.
 pub record PrintInto (ws : List (List ℕ)) (rows : List Row) (text : List ℕ) (r : Answer) (text' : List ℕ) : Type 0 where

@@ -1,57 +1,55 @@
 -- From a text to rows: [1.1] to [1.5], [11.3], [11.4], and questions 1 to 3, [10.1] to [10.3]. The table of words is an argument.
 -- Definitions only; assumes nothing.
-use Rattle.std.specs.Prelude.{Bool, true, false, cond, ◌&&◌, ◌≡◌, List, [], ◌∷◌, ◌++◌, map, ℕ, suc, ◌-◌, eqb, leb, ℤ, pos, negsuc, length, get_or, drop}
+use Rattle.std.specs.Prelude.{Bool, true, false, cond, ◌&&◌, ◌≡◌, List, [], ◌∷◌, ◌++◌, map, ℕ, suc, ◌-◌, eqb, leb, ℤ, pos, negsuc, length, get_or, drop, ◌<◌, Ok, Err, Option, Some, None}
+use Rattle.refusals.specs.Answers.{Answer}
 use Rattle.std.proofs.lemmas.List.Edits.{sets}
 use Rattle.refusals.specs.declared.Refusal.TheVariants.{TextForm, LineForm, LineCount}
-use Rattle.refusals.specs.declared.Answer.{Answer}
-use Rattle.refusals.specs.declared.Answer.TheVariants.{Told, Refused}
 use Rattle.words.specs.Kinds.{Row}
 use Rattle.words.specs.Words.{look_up}
-use Rattle.words.specs.declared.Found.{Found}
-use Rattle.words.specs.declared.Found.TheVariants.{At, NotListed}
 use Rattle.texts.specs.Texts.{lines_of, before_comma, after_comma}
 use Rattle.numerals.specs.Numerals.{numeral_of}
-use Rattle.numerals.specs.declared.Numeral.{Numeral}
-use Rattle.numerals.specs.declared.Numeral.TheVariants.{Is, Malformed}
 use Rattle.lines.specs.declared.Heads.{Heads}
 use Rattle.lines.specs.declared.Heads.TheVariants.{Words, Cells}
-use Rattle.lines.specs.declared.Line.{Line}
-use Rattle.lines.specs.declared.Line.TheVariants.{IsRow, NoRow}
 use Rattle.lines.specs.declared.Limits.{Limits}
 
 -- ---- a line's row
 
 -- [11.3] In a values file a number that is not below 0 stands for the word, and is a cell; [11.4] no other number is one.
-abbrev pub cell_named : Numeral → Found
-cell_named (Is (pos n)) = At n
-cell_named (Is (negsuc n)) = NotListed
-cell_named Malformed = NotListed
+abbrev pub cell_named : Option ℤ → Option ℕ
+cell_named (Some (pos n)) = Some n
+cell_named (Some (negsuc n)) = None
+cell_named None = None
 
-abbrev pub cell_head : List ℕ → Found
+abbrev pub cell_head : List ℕ → Option ℕ
 cell_head l = cell_named (numeral_of l)
 
 -- [1.3] What stands before the comma: a listed word, or in the values file a cell, whatever the words are ([16.3]).
-abbrev pub head_of : List (List ℕ) → Heads → List ℕ → Found
+abbrev pub head_of : List (List ℕ) → Heads → List ℕ → Option ℕ
 head_of ws Words = look_up ws
 head_of ws Cells = cell_head
 
-abbrev pub paired : Found → Numeral → Line
-paired (At k) (Is z) = IsRow k z
-paired (At k) Malformed = NoRow
-paired NotListed n = NoRow
+abbrev pub paired : Option ℕ → Option ℤ → Option Row
+paired (Some k) (Some z) = Some (k, z)
+paired (Some k) None = None
+paired None n = None
 
 -- [1.2] A line is a word, one comma and a number; a second comma makes what is behind the first no number.
-unfoldable pub line_of : (List ℕ → Found) → List ℕ → Line
+unfoldable pub line_of : (List ℕ → Option ℕ) → List ℕ → Option Row
 line_of head l = paired (head (before_comma l)) (numeral_of (after_comma l))
 
 -- [1.5] The rows of lines.
-abbrev pub add_row : Line → List Row → List Row
-add_row (IsRow k z) rs = (k, z) ∷ rs
-add_row NoRow rs = rs
+abbrev pub add_row : Option Row → List Row → List Row
+add_row (Some r) rs = r ∷ rs
+add_row None rs = rs
 
-unfoldable pub rows_in : (List ℕ → Found) → List (List ℕ) → List Row
+unfoldable pub rows_in : (List ℕ → Option ℕ) → List (List ℕ) → List Row
 rows_in head [] = []
 rows_in head (l ∷ ls) = add_row (line_of head l) (rows_in head ls)
+
+-- the kind, or cell, of a line's row is below n
+abbrev pub Below : ℕ → Option Row → Type 0
+Below n (Some r) = r.0 < n
+Below n None = Unit {0}
 
 -- ---- questions 1 to 3
 
@@ -60,23 +58,23 @@ abbrev pub closed : ℕ → List ℕ → Bool
 closed limit t = leb 1 (length t) && leb (length t) limit && eqb (get_or t (length t - 1) 0) 10
 
 -- [10.2] Every line is well written; else the first that is not is told, counted from 1 ([1.5]). n lines were asked already.
-abbrev pub whether : Line → Answer → Answer → Answer
-whether (IsRow k z) yes' no' = yes'
-whether NoRow yes' no' = no'
+abbrev pub whether : Option Row → Answer → Answer → Answer
+whether (Some r) yes' no' = yes'
+whether None yes' no' = no'
 
-unfoldable pub formed : (List ℕ → Found) → ℕ → List (List ℕ) → Answer
-formed head n [] = Told n
-formed head n (l ∷ ls) = whether (line_of head l) (formed head (suc n) ls) (Refused (LineForm (suc n)))
+unfoldable pub formed : (List ℕ → Option ℕ) → ℕ → List (List ℕ) → Answer
+formed head n [] = Ok n
+formed head n (l ∷ ls) = whether (line_of head l) (formed head (suc n) ls) (Err (LineForm (suc n)))
 
 -- [10.3] The lines are at most as many as they may be.
 abbrev pub limited : ℕ → Answer → Answer
-limited limit (Told n) = cond (leb n limit) (Told n) (Refused LineCount)
-limited limit (Refused r) = Refused r
+limited limit (Ok n) = cond (leb n limit) (Ok n) (Err LineCount)
+limited limit (Err r) = Err r
 
 -- [10.2] All lines are asked for their form before they are counted. The first "no" of the three; else how many rows there are.
-unfoldable pub reading : (List ℕ → Found) → Limits → List ℕ → Answer
+unfoldable pub reading : (List ℕ → Option ℕ) → Limits → List ℕ → Answer
 reading head limits t =
-    cond (closed limits.bytes t) (limited limits.lines (formed head 0 (lines_of t))) (Refused TextForm)
+    cond (closed limits.bytes t) (limited limits.lines (formed head 0 (lines_of t))) (Err TextForm)
 
 -- [13.2], [13.4] Those of a plan.
 abbrev pub plan_limits : Limits
@@ -93,8 +91,8 @@ values_limits = record { bytes = 65536; lines = 65536 }
 -- ---- what the two slices of a table hold that a text was read into
 
 abbrev pub room_for : Answer → ℕ → ℕ → Bool
-room_for (Told n) kinds numbers = leb n kinds && leb n numbers
-room_for (Refused r) kinds numbers = false
+room_for (Ok n) kinds numbers = leb n kinds && leb n numbers
+room_for (Err r) kinds numbers = false
 
 abbrev pub kinds_of : List Row → List ℕ
 kinds_of rs = map (λ (r : Row). r.0) rs
@@ -108,11 +106,11 @@ filled room put held = cond room (put ++ drop (length put) held) held
 
 -- Not refused: these were stored from the first place on, those that had room.
 abbrev pub Put : {A : Type 0} → Answer → List A → List A → List A → Type 0
-Put r held put held' = (n : ℕ) → r ≡ Told n → held' ≡ sets held 0 put
+Put r held put held' = (n : ℕ) → r ≡ Ok n → held' ≡ sets held 0 put
 
 -- What a reader promises of its answer r and of the two slices, as lent and as left: the rows stand in front if both have room for them. Where they
 -- have not, or the text is refused, nothing is said of the slices.
-pub record ReadInto (head : List ℕ → Found) (limits : Limits) (t : List ℕ) (kinds : List ℕ) (numbers : List ℤ)
+pub record ReadInto (head : List ℕ → Option ℕ) (limits : Limits) (t : List ℕ) (kinds : List ℕ) (numbers : List ℤ)
     (r : Answer) (kinds' : List ℕ) (numbers' : List ℤ) : Type 0 where
   pub answer : r ≡ reading head limits t
   pub kinds_left : room_for r (length kinds) (length numbers) ≡ true → kinds' ≡ filled true (kinds_of (rows_in head (lines_of t))) kinds

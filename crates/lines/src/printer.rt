@@ -6,7 +6,7 @@ ghost use Rattle.words.specs.Tables.{words_in};
 ghost use Rattle.words.specs.Words.{word_at};
 ghost use Rattle.lines.specs.Printing.{written, text_of, printing};
 
-use refusals::{Answer, Refusal};
+use refusals::Refusal;
 use words::Table;
 
 // The bytes of a row's line.
@@ -17,21 +17,23 @@ fn line_size(table: &Table, kind: u8, number: i32) -> usize
 }
 
 // The bytes of the rows' text, if it has at most as many as there is room for.
-pub fn text_size(table: &Table, kinds: &[u8], numbers: &[i32], room: usize) -> Answer
+pub fn text_size(
+    table: &Table,
+    kinds: &[u8],
+    numbers: &[i32],
+    room: usize,
+) -> Result<usize, Refusal>
     ensures { result ≡ printing (text_of (words_in table.now) (rows_of kinds.now numbers.now)) room }
 {
-    let rows = words::row_count(kinds, numbers);
     let mut bytes = 0;
-    let mut i = 0;
-    while i < rows {
-        let size = line_size(table, kinds[i], numbers[i]);
+    for (kind, number) in kinds.iter().zip(numbers) {
+        let size = line_size(table, *kind, *number);
         if room - bytes < size {
-            return Answer::Refused(Refusal::LentSize);
+            return Err(Refusal::LentSize);
         }
         bytes += size;
-        i += 1;
     }
-    Answer::Told(bytes)
+    Ok(bytes)
 }
 
 // Puts a word's letters.
@@ -39,11 +41,8 @@ fn put_word(table: &Table, kind: u8, text: &mut [u8], at: usize)
     requires { at ≤ length text.old }
     ensures { text.new ≡ sets text.old at (word_at (words_in table.now) kind) }
 {
-    let n = words::length(table, kind);
-    let mut i = 0;
-    while i < n {
-        slices::put_u8(text, at + i, words::letter(table, kind, i));
-        i += 1;
+    for i in 0..words::length(table, kind) {
+        slices::put(text, at + i, words::letter(table, kind, i));
     }
 }
 
@@ -55,10 +54,10 @@ fn put_line(table: &Table, kind: u8, number: i32, text: &mut [u8], at: usize) ->
 {
     put_word(table, kind, text, at);
     let comma = at + words::length(table, kind);
-    slices::put_u8(text, comma, b',');
+    slices::put(text, comma, b',');
     numerals::put(number, text, comma + 1);
     let end = comma + 1 + numerals::size(number);
-    slices::put_u8(text, end, b'\n');
+    slices::put(text, end, b'\n');
     end + 1
 }
 
@@ -67,11 +66,8 @@ pub fn put_text(table: &Table, kinds: &[u8], numbers: &[i32], text: &mut [u8])
     requires { length (text_of (words_in table.now) (rows_of kinds.now numbers.now)) ≤ length text.old }
     ensures { text.new ≡ sets text.old 0 (text_of (words_in table.now) (rows_of kinds.now numbers.now)) }
 {
-    let rows = words::row_count(kinds, numbers);
     let mut at = 0;
-    let mut i = 0;
-    while i < rows {
-        at = put_line(table, kinds[i], numbers[i], text, at);
-        i += 1;
+    for (kind, number) in kinds.iter().zip(numbers) {
+        at = put_line(table, *kind, *number, text, at);
     }
 }

@@ -1,16 +1,15 @@
 -- A text that was read: its answer is that of its rows. Assumes nothing.
+use Rattle.std.specs.Prelude.{Err, Ok}
+use Rattle.loops.specs.Checked.{Checked}
+use Rattle.refusals.specs.Answers.{Answer}
 use mathlib.Core.Path.{◌≡◌, sym, ap, ◌∙◌}
 use mathlib.Core.List.{List}
 use Prim.Native.Nat.{ℕ}
 use Rattle.refusals.specs.declared.Refusal.{Refusal}
 use Rattle.words.specs.Kinds.{Row}
 use Rattle.lines.specs.Reading.{reading, loops_limits}
-use Rattle.refusals.specs.declared.Answer.{Answer}
-use Rattle.refusals.specs.declared.Answer.TheVariants as answer
 use Rattle.words.specs.Words.{look_up}
 use Rattle.lines.specs.Lent.{text_rows}
-use Rattle.loops.specs.declared.Checked.{Checked}
-use Rattle.loops.specs.declared.Checked.TheVariants.{Refused}
 use Rattle.loops.specs.Check.{after_answer, check_loops_rows, check_loops_text}
 
 module _ (ws : List (List ℕ)) (t : List ℕ) where
@@ -19,8 +18,8 @@ module _ (ws : List (List ℕ)) (t : List ℕ) where
     unfolding check_loops_text
     by_reading f = ap (λ (y : Answer). after_answer y (check_loops_rows (text_rows ws t))) (sym f ∙ e)
 
-    pub text_refused : {q : Refusal} → r ≡ answer.Refused q → Refused q ≡ check_loops_text ws t
+    pub text_refused : {q : Refusal} → r ≡ Err q → Err q ≡ check_loops_text ws t
     text_refused f = by_reading f
 
-    pub text_checked : {n : ℕ} {R : List Row} {c : Checked} → r ≡ answer.Told n → R ≡ text_rows ws t → c ≡ check_loops_rows R → c ≡ check_loops_text ws t
+    pub text_checked : {n : ℕ} {R : List Row} {c : Checked} → r ≡ Ok n → R ≡ text_rows ws t → c ≡ check_loops_rows R → c ≡ check_loops_text ws t
     text_checked f same q = q ∙ ap check_loops_rows same ∙ by_reading f

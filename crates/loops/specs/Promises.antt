@@ -1,12 +1,10 @@
 -- What the entries of `loops` promise for every input: each name stands in the `ensures` of its entry, and the demands are drawn from it.
-use Rattle.std.specs.Prelude.{◌≡◌, List, ℕ, ℤ}
-use Rattle.refusals.specs.declared.Answer.{Answer}
-use Rattle.refusals.specs.declared.Answer.TheVariants.{Refused}
+use Rattle.std.specs.Prelude.{◌≡◌, List, ℕ, ℤ, Err}
+use Rattle.loops.specs.Checked.{Checked}
+use Rattle.refusals.specs.Answers.{Answer}
 use Rattle.own_words.specs.Under.{Under}
 use Rattle.words.specs.Kinds.{rows_of}
 use Rattle.lines.specs.Lent.{text_rows, TableInto}
-use Rattle.loops.specs.declared.Checked.{Checked}
-use Rattle.loops.specs.declared.Checked.TheVariants as check
 use Rattle.loops.specs.Check.{check_table, check_loops_text, need_of}
 
 -- [10.16], [10.17] `check_text`: the text and the answer
@@ -29,11 +27,11 @@ ReadsLoops ws t kinds numbers r kinds' numbers' = TableInto (need_of (check_loop
 -- [16.6], [16.7] `check_text_in`, `need_text_in` and `read_text_in`, which are given a words text w: the same with its own words, or its
 -- refusal
 abbrev pub ChecksLoopsIn : List ℕ → List ℕ → Checked → Type 0
-ChecksLoopsIn w t r = Under w (λ ws. ChecksLoops ws t r) (λ q. r ≡ check.Refused q)
+ChecksLoopsIn w t r = Under w (λ ws. ChecksLoops ws t r) (λ q. r ≡ Err q)
 
 abbrev pub TellsNeedIn : List ℕ → List ℕ → Answer → Type 0
-TellsNeedIn w t r = Under w (λ ws. TellsNeed ws t r) (λ q. r ≡ Refused q)
+TellsNeedIn w t r = Under w (λ ws. TellsNeed ws t r) (λ q. r ≡ Err q)
 
 abbrev pub ReadsLoopsIn : List ℕ → List ℕ → List ℕ → List ℤ → Answer → List ℕ → List ℤ → Type 0
 ReadsLoopsIn w t kinds numbers r kinds' numbers' =
-    Under w (λ ws. ReadsLoops ws t kinds numbers r kinds' numbers') (λ q. (r ≡ Refused q) × (kinds' ≡ kinds) × (numbers' ≡ numbers))
+    Under w (λ ws. ReadsLoops ws t kinds numbers r kinds' numbers') (λ q. (r ≡ Err q) × (kinds' ≡ kinds) × (numbers' ≡ numbers))

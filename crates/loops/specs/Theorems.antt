@@ -1,12 +1,12 @@
 -- What it means that loops pass the check. It rests on Bounds and Check, on `LoopsPass`, `TouchesBelow`, `need` and `RunOf` of
 -- `meaning`, and on the walk of `syntax`; the proofs stand in Laws. Assumes nothing.
-use Rattle.std.specs.Prelude.{Bool, true, false, cond, ◌≡◌, refl, List, [], ◌↔◌, ℕ, ◌≤◌, leb, length}
+use Rattle.std.specs.Prelude.{Bool, true, false, cond, ◌≡◌, refl, List, [], ◌↔◌, ℕ, ◌≤◌, leb, length, Err, Ok}
+use Rattle.loops.specs.Checked.{Checked, passing}
+use Rattle.refusals.specs.Answers.{Answer}
 use Rattle.std.proofs.Common.{sym, ap, ◌∙◌, subst, arith, leb-true, le-leb}
 use Rattle.std.proofs.Math.Option.{Option, none, some}
 use Rattle.refusals.specs.declared.Refusal.{Refusal}
 use Rattle.refusals.specs.declared.Refusal.TheVariants.{LanesInside, WriteCount}
-use Rattle.refusals.specs.declared.Answer.{Answer}
-use Rattle.refusals.specs.declared.Answer.TheVariants as answer
 use Rattle.words.specs.Kinds.{Row}
 use Rattle.words.specs.declared.Sort.TheVariants as sort
 use Rattle.meaning.specs.Types.{DataType}
@@ -26,17 +26,32 @@ use Rattle.syntax.specs.Walk.{walk_table}
 use Rattle.syntax.specs.Reading.{loops_of}
 use Rattle.syntax.specs.InRange.{LoopsInRange}
 use Rattle.syntax.specs.Theorems.{WalksWell, all_passed, loops_walk, loops_read, loops_tree, lanes_refused}
-use Rattle.loops.specs.declared.Checked.{Checked}
-use Rattle.loops.specs.declared.Checked.TheVariants.{Passes, Refused}
 use Rattle.bounds.specs.Bounds.{ask_bounds}
 use Rattle.loops.specs.Check.{ask_writes, unless, check_loops, after_answer, check_loops_rows}
 use Rattle.loops.specs.Laws.Passing.{within_cells, within_command, loops_pass, pass_loops}
 
-no_refusal : {A : Type 0} {q : Refusal} {w n : ℕ} → Refused q ≡ Passes w n → A
+no_refusal : {A : Type 0} {q : Refusal} {w n : ℕ} → Err q ≡ passing w n → A
 no_refusal e = absurd (let z : ◌≡◌ {A = ℕ} 0 1 = cc in omega arith)
 
-no_pass : {A : Type 0} {q : Refusal} {w n : ℕ} → Passes w n ≡ Refused q → A
+no_pass : {A : Type 0} {q : Refusal} {w n : ℕ} → passing w n ≡ Err q → A
 no_pass e = absurd (let z : ◌≡◌ {A = ℕ} 0 1 = cc in omega arith)
+
+-- one answer has one count of writes, and one need
+told_writes : Checked → ℕ
+told_writes (Ok p) = p.writes
+told_writes (Err q) = 0
+
+told_need : Checked → ℕ
+told_need (Ok p) = p.need
+told_need (Err q) = 0
+
+writes_same : {v m w n : ℕ} → passing v m ≡ passing w n → w ≡ v
+unfolding told_writes
+writes_same e = sym (ap told_writes e)
+
+need_same : {v m w n : ℕ} → passing v m ≡ passing w n → n ≡ m
+unfolding told_need
+need_same e = sym (ap told_need e)
 
 -- ---- what passes
 
@@ -49,27 +64,27 @@ pub record Accepted (R : List Row) (w n : ℕ) : Type 0 where
   pub writes : w ≡ command_writes loops.command
   pub needs : n ≡ need loops
 
-few_writes_holds : (L : Loops) (w n : ℕ) → ask_writes L ≡ Passes w n
+few_writes_holds : (L : Loops) (w n : ℕ) → ask_writes L ≡ passing w n
     → (w ≤ 16777216) × (w ≡ command_writes L.command) × (n ≡ need L)
 few_writes_holds L w n e = go (leb (command_writes L.command) 16777216) refl e
   where
     go : (b : Bool) → leb (command_writes L.command) 16777216 ≡ b
-        → cond b (Passes (command_writes L.command) (need L)) (Refused WriteCount) ≡ Passes w n
+        → cond b (passing (command_writes L.command) (need L)) (Err WriteCount) ≡ passing w n
         → (w ≤ 16777216) × (w ≡ command_writes L.command) × (n ≡ need L)
     go true h e =
-        let x : w ≡ command_writes L.command = cc in
-        let y : n ≡ need L = cc in
+        let x : w ≡ command_writes L.command = writes_same e in
+        let y : n ≡ need L = need_same e in
         (omega (arith, leb-true (command_writes L.command) 16777216 h), x, y)
     go false h e = no_refusal e
 
-unless_passes : (a : Option Refusal) (b : Checked) (w n : ℕ) → unless a b ≡ Passes w n → (a ≡ none) × (b ≡ Passes w n)
+unless_passes : (a : Option Refusal) (b : Checked) (w n : ℕ) → unless a b ≡ passing w n → (a ≡ none) × (b ≡ passing w n)
 unless_passes none b w n e = (refl, e)
 unless_passes (some q) b w n e = no_refusal e
 
-walk_passes : (R : List Row) (a : Answer) (b : Checked) (w n : ℕ) → walk_table sort.Loops R ≡ a → after_answer a b ≡ Passes w n
-    → WalksWell sort.Loops R × (b ≡ Passes w n)
-walk_passes R (answer.Told m) b w n h e = (all_passed sort.Loops R m h, e)
-walk_passes R (answer.Refused q) b w n h e = no_refusal e
+walk_passes : (R : List Row) (a : Answer) (b : Checked) (w n : ℕ) → walk_table sort.Loops R ≡ a → after_answer a b ≡ passing w n
+    → WalksWell sort.Loops R × (b ≡ passing w n)
+walk_passes R (Ok m) b w n h e = (all_passed sort.Loops R m h, e)
+walk_passes R (Err q) b w n h e = no_refusal e
 
 walked_rows : (R : List Row) → WalksWell sort.Loops R → check_loops_rows R ≡ check_loops (loops_of R)
 unfolding check_loops_rows
@@ -84,7 +99,7 @@ pub tree_checked : (L : Loops) → LoopsInRange L → check_loops_rows (loops_ro
 tree_checked L h = walked_rows (loops_rows L) ((loops_walk (loops_rows L)).1 (L, h, refl)) ∙ ap check_loops (loops_read L)
 
 -- A table passes exactly when its rows are those of loops that satisfy the bounds and limits.
-pub passes_exactly : (R : List Row) (w n : ℕ) → (check_loops_rows R ≡ Passes w n) ↔ Accepted R w n
+pub passes_exactly : (R : List Row) (w n : ℕ) → (check_loops_rows R ≡ passing w n) ↔ Accepted R w n
 unfolding check_loops_rows check_loops
 passes_exactly R w n = (
   λ e.
@@ -103,16 +118,16 @@ passes_exactly R w n = (
   λ h.
       let L = h.loops in
       let l : leb (command_writes L.command) 16777216 ≡ true = le-leb (command_writes L.command) 16777216 (omega (arith, h.writes_few, h.writes)) in
-      let e : ask_writes L ≡ Passes w n =
-      ap (λ (b : Bool). cond b (Passes (command_writes L.command) (need L)) (Refused WriteCount)) l
-      ∙ ap (λ (x : ℕ). Passes x (need L)) (sym h.writes) ∙ ap (Passes w) (sym h.needs) in
+      let e : ask_writes L ≡ passing w n =
+      ap (λ (b : Bool). cond b (passing (command_writes L.command) (need L)) (Err WriteCount)) l
+      ∙ ap (λ (x : ℕ). passing x (need L)) (sym h.writes) ∙ ap (passing w) (sym h.needs) in
       ap check_loops_rows h.rows ∙ tree_checked L (pass_loops L h.passes).0 ∙ checked_loops L h.passes ∙ e,
 )
 
 -- ---- what loops that pass do
 
 -- [9.9] Loops that pass run safely: every cell that is read or written, in any round of any loop, is below the need.
-pub safe : (R : List Row) (w n : ℕ) → check_loops_rows R ≡ Passes w n
+pub safe : (R : List Row) (w n : ℕ) → check_loops_rows R ≡ passing w n
     → (L : Loops) × (R ≡ loops_rows L) × TouchesBelow n L.command (start_of L) (regions_from L)
 safe R w n e =
     let a = (passes_exactly R w n).0 e in
@@ -126,7 +141,7 @@ pub record RunsSafely (𝓝 : NumberDomain) (L : Loops) (w n : ℕ) (s : Store �
   pub kept : (st : State 𝓝) → RunOf 𝓝 L s st
       → (length st.store ≡ length s) × ((x : ℕ) → n ≤ x → cell 𝓝 st.store x ≡ cell 𝓝 s x)
 
-pub runs_safely : (𝓝 : NumberDomain) (R : List Row) (w n : ℕ) → check_loops_rows R ≡ Passes w n
+pub runs_safely : (𝓝 : NumberDomain) (R : List Row) (w n : ℕ) → check_loops_rows R ≡ passing w n
     → (L : Loops) × (R ≡ loops_rows L) × ((s : Store 𝓝) → RunsSafely 𝓝 L w n s)
 runs_safely 𝓝 R w n e =
     let a = (passes_exactly R w n).0 e in
@@ -146,7 +161,7 @@ runs_safely 𝓝 R w n e =
     )
 
 -- [18.15] Loops within the bounds and limits that have a `lanes` inside another are turned away by question 18,
-pub nested_refused : (L : Loops) → LoopsWithin L → lanes_apart L.command ≡ false → (l : ℕ) × (check_loops_rows (loops_rows L) ≡ Refused (LanesInside l))
+pub nested_refused : (L : Loops) → LoopsWithin L → lanes_apart L.command ≡ false → (l : ℕ) × (check_loops_rows (loops_rows L) ≡ Err (LanesInside l))
 unfolding check_loops_rows
 nested_refused L h nested =
     let r = lanes_refused L h.inputs_few (within_cells L h) h.output_cells (within_command L h) nested in
@@ -154,13 +169,13 @@ nested_refused L h nested =
 
 -- and so are those that the translator made.
 pub own_nested : (P : Plan) (t : DataType) → HasType P.inputs [] P.term t → PlanWithin P → lanes_apart (translation P).command ≡ false
-    → (l : ℕ) × (check_loops_rows (loops_rows (translation P)) ≡ Refused (LanesInside l))
+    → (l : ℕ) × (check_loops_rows (loops_rows (translation P)) ≡ Err (LanesInside l))
 own_nested P t typed within nested = nested_refused (translation P) (own_loops_within P t typed within) nested
 
 -- [9.9] Loops that the translator made pass: those of any plan within the limits that has few enough writes, [18.15] and in whose loops no
 -- `lanes` stands inside another.
 pub own_pass : (P : Plan) (t : DataType) → HasType P.inputs [] P.term t → PlanWithin P → lanes_apart (translation P).command ≡ true
-    → plan_writes P ≤ 16777216 → check_loops_rows (loops_rows (translation P)) ≡ Passes (plan_writes P) (need (translation P))
+    → plan_writes P ≤ 16777216 → check_loops_rows (loops_rows (translation P)) ≡ passing (plan_writes P) (need (translation P))
 own_pass P t typed within apart few =
     (passes_exactly (loops_rows (translation P)) (plan_writes P) (need (translation P))).1
     (record {

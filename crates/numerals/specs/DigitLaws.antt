@@ -1,8 +1,7 @@
 -- Laws of digits: what the digits of a number stand for, and which digits a number has. Used to prove `Laws`; assumes nothing.
-use Rattle.std.specs.Prelude.{Bool, true, false, not, cond, ◌&&◌, List, [], ◌∷◌, ◌++◌, ◌≢◌, ◌≡◌, refl, ℕ, zero, suc, ◌+◌, ◌-◌, ◌*◌, ◌/◌, ◌%◌, ◌^◌, ◌≤◌, ◌<◌, leb, pos, length, get_or}
+use Rattle.std.specs.Prelude.{Bool, true, false, not, cond, ◌&&◌, List, [], ◌∷◌, ◌++◌, ◌≢◌, ◌≡◌, refl, ℕ, zero, suc, ◌+◌, ◌-◌, ◌*◌, ◌/◌, ◌%◌, ◌^◌, ◌≤◌, ◌<◌, leb, pos, length, get_or, Some, None}
 use Rattle.std.proofs.Math.Bool.{and-eq-true_iff}
 use Rattle.std.proofs.Common.{append-nil, append_assoc, sym, ap, ◌∙◌, zero-le, le_refl, le_trans, pow-suc, div-lt_iff_lt-mul, arith, leb-true, le-leb, ne_eqb, length-append}
-use Rattle.std.proofs.Math.Option.{some, none, none-ne-some}
 use Rattle.std.proofs.lemmas.Bool.{eqb-false}
 use Rattle.std.proofs.Math.ListN.{get_or-append}
 use Rattle.numerals.specs.Numerals.{digit, all_digits, value, leading_zero, unsigned, last_digits, digits, decimal}
@@ -197,25 +196,25 @@ decimal_length k (suc n) h = digits_length (suc k) (suc n) h
 -- ---- a number without its sign
 
 unsigned_value : (ds : List ℕ) → 0 < length ds → all_digits ds ≡ true → leading_zero ds ≡ false
-    → unsigned ds ≡ some (value 0 ds)
+    → unsigned ds ≡ Some (value 0 ds)
 unfolding unsigned
 unsigned_value [] h k l = absurd (omega arith)
 unsigned_value (d ∷ ds) h k l = simp (l, k)
 
-pub unsigned_decimal : (n : ℕ) → unsigned (decimal (pos n)) ≡ some n
+pub unsigned_decimal : (n : ℕ) → unsigned (decimal (pos n)) ≡ Some n
 unsigned_decimal n =
     unsigned_value (decimal (pos n)) (decimal_nonempty n) (all_digits_decimal n) (leading_zero_decimal n)
-    ∙ ap some (value_decimal n)
+    ∙ ap Some (value_decimal n)
 
-well_written : (ds : List ℕ) (l a : Bool) {n : ℕ} → cond (not l && a) (some (value 0 ds)) none ≡ some n
+well_written : (ds : List ℕ) (l a : Bool) {n : ℕ} → cond (not l && a) (Some (value 0 ds)) None ≡ Some n
     → (l ≡ false) × (a ≡ true) × (value 0 ds ≡ n)
-well_written ds true a e = absurd (none-ne-some _ e)
+well_written ds true a e = absurd (let clash : ◌≡◌ {A = ℕ} 0 1 = cc in omega arith)
 well_written ds false true e = (refl, refl, cc)
-well_written ds false false e = absurd (none-ne-some _ e)
+well_written ds false false e = absurd (let clash : ◌≡◌ {A = ℕ} 0 1 = cc in omega arith)
 
-pub decimal_unsigned : (ds : List ℕ) {n : ℕ} → unsigned ds ≡ some n → decimal (pos n) ≡ ds
+pub decimal_unsigned : (ds : List ℕ) {n : ℕ} → unsigned ds ≡ Some n → decimal (pos n) ≡ ds
 unfolding unsigned
-decimal_unsigned [] e = absurd (none-ne-some _ e)
+decimal_unsigned [] e = absurd (let clash : ◌≡◌ {A = ℕ} 0 1 = cc in omega arith)
 decimal_unsigned (d ∷ ds) e =
     let parts = well_written (d ∷ ds) (leading_zero (d ∷ ds)) (all_digits (d ∷ ds)) e in
     ap (λ (m : ℕ). decimal (pos m)) (sym parts.2) ∙ decimal_value (d ∷ ds) (omega arith) parts.1 parts.0

@@ -1,10 +1,8 @@
 -- Texts that are well-written numbers and texts that are not: [1.4], card P10 of [15.2] among them. One computed test for reading and
 -- one for writing; assumes nothing.
-use Rattle.std.specs.Prelude.{List, [], ◌∷◌, map, ◌≡◌, refl, ℕ, ℤ, pos, negsuc}
+use Rattle.std.specs.Prelude.{List, [], ◌∷◌, map, ◌≡◌, refl, ℕ, ℤ, pos, negsuc, Option, Some, None}
 use Prim.Native.Char.{code}
 use Prim.Native.String.{String, [] as none, ◌∷◌ as ◌before◌}
-use Rattle.numerals.specs.declared.Numeral.{Numeral}
-use Rattle.numerals.specs.declared.Numeral.TheVariants.{Is, Malformed}
 use Rattle.numerals.specs.Numerals.{all_digits, value, leading_zero, unsigned, not_below_zero, below_zero, numeral_of, last_digits, digits, decimal}
 
 -- the bytes of a text
@@ -13,30 +11,30 @@ bytes none = []
 bytes (c before s) = code c ∷ bytes s
 
 -- a text, and what it says (`negsuc n` is −(n + 1))
-abbrev pub readings : List (String × Numeral)
+abbrev pub readings : List (String × Option ℤ)
 readings =
-    ("0", Is (pos 0))
-    ∷ ("-0", Malformed)
-    ∷ ("00", Malformed)
-    ∷ ("01", Malformed)
-    ∷ ("-01", Malformed)
-    ∷ ("-00", Malformed)
-    ∷ ("+1", Malformed)
-    ∷ ("", Malformed)
-    ∷ ("-", Malformed)
-    ∷ ("--1", Malformed)
-    ∷ ("1.0", Malformed)
-    ∷ ("0x1", Malformed)
-    ∷ ("-1", Is (negsuc 0))
-    ∷ ("10", Is (pos 10))
-    ∷ ("2147483647", Is (pos 2147483647))
-    ∷ ("2147483648", Malformed)
-    ∷ ("-2147483648", Is (negsuc 2147483647))
-    ∷ ("-2147483649", Malformed)
-    ∷ ("99999999999999999999999999999999", Malformed)
+    ("0", Some (pos 0))
+    ∷ ("-0", None)
+    ∷ ("00", None)
+    ∷ ("01", None)
+    ∷ ("-01", None)
+    ∷ ("-00", None)
+    ∷ ("+1", None)
+    ∷ ("", None)
+    ∷ ("-", None)
+    ∷ ("--1", None)
+    ∷ ("1.0", None)
+    ∷ ("0x1", None)
+    ∷ ("-1", Some (negsuc 0))
+    ∷ ("10", Some (pos 10))
+    ∷ ("2147483647", Some (pos 2147483647))
+    ∷ ("2147483648", None)
+    ∷ ("-2147483648", Some (negsuc 2147483647))
+    ∷ ("-2147483649", None)
+    ∷ ("99999999999999999999999999999999", None)
     ∷ []
 
-pub texts_read : map (λ (e : String × Numeral). numeral_of (bytes e.0)) readings ≡ map (λ (e : String × Numeral). e.1) readings
+pub texts_read : map (λ (e : String × Option ℤ). numeral_of (bytes e.0)) readings ≡ map (λ (e : String × Option ℤ). e.1) readings
 unfolding all_digits value leading_zero unsigned not_below_zero below_zero numeral_of
 texts_read = refl
 

@@ -1,11 +1,9 @@
 -- Laws of numbers as they are written: those of the range read back, and what reads as a number is written in that one way, so
 -- exactly the numbers of [1.4] are well written; how many bytes they take, and which. Assumes nothing.
-use Rattle.std.specs.Prelude.{Bool, true, false, cond, List, [], ◌∷◌, ◌≢◌, ◌≡◌, refl, ℕ, zero, suc, ◌≤◌, ◌<◌, leb, eqb, ℤ, pos, negsuc, length, get_or}
+use Rattle.std.specs.Prelude.{Bool, true, false, cond, List, [], ◌∷◌, ◌≢◌, ◌≡◌, refl, ℕ, zero, suc, ◌≤◌, ◌<◌, leb, eqb, ℤ, pos, negsuc, length, get_or, Some, None, Option}
 use Rattle.std.proofs.Common.{true≢false, sym, ap, subst, ◌∙◌, arith, leb-true, le-leb, eqb-true, ne_eqb, SFits}
-use Rattle.std.proofs.Math.Option.{Option, some, none}
 use Rattle.std.proofs.lemmas.Bool.{eqb-false}
 use Rattle.std.specs.Int.{w32}
-use Rattle.numerals.specs.declared.Numeral.TheVariants.{Is, Malformed}
 use Rattle.texts.specs.Laws.{Free}
 use Rattle.numerals.specs.Numerals.{digit, all_digits, unsigned, not_below_zero, below_zero, numeral_of, digits, decimal}
 use Rattle.numerals.specs.DigitLaws as laws
@@ -24,7 +22,7 @@ first_of_digits (d ∷ ds) h =
     omega arith
 
 -- A number of the range reads back as it was written.
-pub read_back : (z : ℤ) → SFits w32 z → numeral_of (decimal z) ≡ Is z
+pub read_back : (z : ℤ) → SFits w32 z → numeral_of (decimal z) ≡ Some z
 unfolding numeral_of decimal not_below_zero below_zero
 read_back (pos n) h =
     without_minus (decimal (pos n)) (first_of_digits (decimal (pos n)) (laws.all_digits_decimal n))
@@ -41,48 +39,48 @@ record Written (z : ℤ) (bs : List ℕ) : Type 0 where
   range : SFits w32 z
   bytes : decimal z ≡ bs
 
-malformed : {z : ℤ} → Malformed ≡ Is z → ⊥
+malformed : {z : ℤ} → None ≡ Some z → ⊥
 malformed e = let clash : ◌≡◌ {A = ℕ} 0 1 = cc in omega arith
 
-accepted : (t : Bool) (y z : ℤ) → cond t (Is y) Malformed ≡ Is z → (t ≡ true) × (y ≡ z)
+accepted : (t : Bool) (y z : ℤ) → cond t (Some y) None ≡ Some z → (t ≡ true) × (y ≡ z)
 accepted true y z e = (refl, cc)
 accepted false y z e = absurd (malformed e)
 
-not_below_zero_holds : (ds : List ℕ) (o : Option ℕ) {z : ℤ} → unsigned ds ≡ o → not_below_zero o ≡ Is z → Written z ds
+not_below_zero_holds : (ds : List ℕ) (o : Option ℕ) {z : ℤ} → unsigned ds ≡ o → not_below_zero o ≡ Some z → Written z ds
 unfolding not_below_zero
-not_below_zero_holds ds none e h = absurd (malformed h)
-not_below_zero_holds ds (some n) {z} e h =
+not_below_zero_holds ds None e h = absurd (malformed h)
+not_below_zero_holds ds (Some n) {z} e h =
     let both = accepted (leb n 2147483647) (pos n) z h in
     let most : n ≤ 2147483647 = leb-true n 2147483647 both.0 in
     subst (λ (y : ℤ). Written y ds) both.1
     (record { range = record { sfits = omega arith }; bytes = laws.decimal_unsigned ds e })
 
-below_zero_holds : (ds : List ℕ) (o : Option ℕ) {z : ℤ} → unsigned ds ≡ o → below_zero o ≡ Is z → Written z (45 ∷ ds)
+below_zero_holds : (ds : List ℕ) (o : Option ℕ) {z : ℤ} → unsigned ds ≡ o → below_zero o ≡ Some z → Written z (45 ∷ ds)
 unfolding below_zero decimal
-below_zero_holds ds none e h = absurd (malformed h)
-below_zero_holds ds (some zero) e h = absurd (malformed h)
-below_zero_holds ds (some (suc n)) {z} e h =
+below_zero_holds ds None e h = absurd (malformed h)
+below_zero_holds ds (Some zero) e h = absurd (malformed h)
+below_zero_holds ds (Some (suc n)) {z} e h =
     let both = accepted (leb (suc n) 2147483648) (negsuc n) z h in
     let most : suc n ≤ 2147483648 = leb-true (suc n) 2147483648 both.0 in
     subst (λ (y : ℤ). Written y (45 ∷ ds)) both.1
     (record { range = record { sfits = omega arith }; bytes = ap (λ (es : List ℕ). 45 ∷ es) (laws.decimal_unsigned ds e) })
 
-written : (bs : List ℕ) {z : ℤ} → numeral_of bs ≡ Is z → Written z bs
+written : (bs : List ℕ) {z : ℤ} → numeral_of bs ≡ Some z → Written z bs
 unfolding numeral_of
 written [] h = absurd (malformed h)
 written (b ∷ bs) {z} h = go (eqb b 45) refl h
   where
-    go : (t : Bool) → eqb b 45 ≡ t → cond t (below_zero (unsigned bs)) (not_below_zero (unsigned (b ∷ bs))) ≡ Is z
+    go : (t : Bool) → eqb b 45 ≡ t → cond t (below_zero (unsigned bs)) (not_below_zero (unsigned (b ∷ bs))) ≡ Some z
         → Written z (b ∷ bs)
     go true e k = subst (λ (c : ℕ). Written z (c ∷ bs)) (sym (eqb-true b 45 e)) (below_zero_holds bs (unsigned bs) refl k)
     go false e k = not_below_zero_holds (b ∷ bs) (unsigned (b ∷ bs)) refl k
 
 -- Bytes that say a number are the number as it is written: each is written in one way.
-pub one_way : (bs : List ℕ) {z : ℤ} → numeral_of bs ≡ Is z → decimal z ≡ bs
+pub one_way : (bs : List ℕ) {z : ℤ} → numeral_of bs ≡ Some z → decimal z ≡ bs
 one_way bs h = (written bs h).bytes
 
 -- Bytes say no number beyond the range.
-pub in_range_holds : (bs : List ℕ) {z : ℤ} → numeral_of bs ≡ Is z → SFits w32 z
+pub in_range_holds : (bs : List ℕ) {z : ℤ} → numeral_of bs ≡ Some z → SFits w32 z
 in_range_holds bs h = (written bs h).range
 
 -- ---- how long

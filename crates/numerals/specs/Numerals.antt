@@ -1,8 +1,5 @@
 -- How a number is written in bytes: [1.4], range [13.1]. Definitions only; assumes nothing.
-use Rattle.std.specs.Prelude.{Bool, true, false, not, cond, ◌&&◌, List, [], ◌∷◌, ◌++◌, ℕ, zero, suc, ◌+◌, ◌-◌, ◌*◌, ◌/◌, ◌%◌, leb, eqb, ℤ, pos, negsuc}
-use Rattle.std.proofs.Math.Option.{Option, some, none}
-use Rattle.numerals.specs.declared.Numeral.{Numeral}
-use Rattle.numerals.specs.declared.Numeral.TheVariants.{Is, Malformed}
+use Rattle.std.specs.Prelude.{Bool, true, false, not, cond, ◌&&◌, List, [], ◌∷◌, ◌++◌, ℕ, zero, suc, ◌+◌, ◌-◌, ◌*◌, ◌/◌, ◌%◌, leb, eqb, ℤ, pos, negsuc, Some, None, Option}
 
 -- [1.4] A digit is one of the bytes 48 to 57.
 abbrev pub digit : ℕ → Bool
@@ -25,23 +22,23 @@ leading_zero (b ∷ c ∷ bs) = eqb b 48
 
 -- [1.4] A number without its sign: digits, at least one, and nothing else, so no plus sign either.
 unfoldable pub unsigned : List ℕ → Option ℕ
-unsigned [] = none
-unsigned (b ∷ bs) = cond (not (leading_zero (b ∷ bs)) && all_digits (b ∷ bs)) (some (value 0 (b ∷ bs))) none
+unsigned [] = None
+unsigned (b ∷ bs) = cond (not (leading_zero (b ∷ bs)) && all_digits (b ∷ bs)) (Some (value 0 (b ∷ bs))) None
 
 -- [13.1] With no minus sign before it, it is at most 2,147,483,647.
-unfoldable pub not_below_zero : Option ℕ → Numeral
-not_below_zero none = Malformed
-not_below_zero (some n) = cond (leb n 2147483647) (Is (pos n)) Malformed
+unfoldable pub not_below_zero : Option ℕ → Option ℤ
+not_below_zero None = None
+not_below_zero (Some n) = cond (leb n 2147483647) (Some (pos n)) None
 
 -- [1.4], [13.1] With a minus sign before it, it is not 0 and at most 2,147,483,648. (`negsuc n` is −(n + 1).)
-unfoldable pub below_zero : Option ℕ → Numeral
-below_zero none = Malformed
-below_zero (some zero) = Malformed
-below_zero (some (suc n)) = cond (leb (suc n) 2147483648) (Is (negsuc n)) Malformed
+unfoldable pub below_zero : Option ℕ → Option ℤ
+below_zero None = None
+below_zero (Some zero) = None
+below_zero (Some (suc n)) = cond (leb (suc n) 2147483648) (Some (negsuc n)) None
 
 -- [1.4] The number that bytes say. The minus sign is byte 45.
-unfoldable pub numeral_of : List ℕ → Numeral
-numeral_of [] = Malformed
+unfoldable pub numeral_of : List ℕ → Option ℤ
+numeral_of [] = None
 numeral_of (b ∷ bs) = cond (eqb b 45) (below_zero (unsigned bs)) (not_below_zero (unsigned (b ∷ bs)))
 
 -- The digits of n: those of n / 10, then n % 10; none for 0. Of them the last ones, at most `most`.

@@ -1,4 +1,4 @@
--- Letters a to z, place by place; and the test of an own word. Assumes nothing.
+-- The test of an own word. Assumes nothing.
 use mathlib.Core.Path.{◌≡◌, refl, sym, ap, ◌∙◌}
 use mathlib.Core.Bool.{Bool, true, false, ◌&&◌}
 use mathlib.Core.List.{List, [], ◌∷◌}
@@ -20,30 +20,6 @@ and_true false = refl
 pub and_false : (b : Bool) → b && false ≡ false
 and_false true = refl
 and_false false = refl
-
-module _ (l : List ℕ) (i : ℕ) (inv : lower_case l ≡ lower_case (drop i l)) (h : i < length l) where
-  at_place : lower_case l ≡ leb 97 (get_or l i 0) && leb (get_or l i 0) 122 && lower_case (drop (suc i) l)
-  at_place = inv ∙ ap lower_case (drop-cons l i 0 h)
-
-  pub lower_next : 97 ≤ get_or l i 0 → get_or l i 0 ≤ 122 → lower_case l ≡ lower_case (drop (i + 1) l)
-  lower_next low high =
-      at_place
-      ∙ ap (λ (b : Bool). b && leb (get_or l i 0) 122 && lower_case (drop (suc i) l)) (le-leb 97 (get_or l i 0) low)
-      ∙ ap (λ (b : Bool). b && lower_case (drop (suc i) l)) (le-leb (get_or l i 0) 122 high)
-      ∙ ap (λ (n : ℕ). lower_case (drop n l)) (sym (add-one i))
-
-  pub lower_below : get_or l i 0 < 97 → false ≡ lower_case l
-  lower_below low =
-      sym (at_place ∙ ap (λ (b : Bool). b && leb (get_or l i 0) 122 && lower_case (drop (suc i) l)) (lt-leb 97 (get_or l i 0) low))
-
-  pub lower_above : 122 < get_or l i 0 → false ≡ lower_case l
-  lower_above high =
-      sym (at_place
-      ∙ ap (λ (b : Bool). leb 97 (get_or l i 0) && b && lower_case (drop (suc i) l)) (lt-leb (get_or l i 0) 122 high)
-      ∙ ap (λ (b : Bool). b && lower_case (drop (suc i) l)) (and_false (leb 97 (get_or l i 0))))
-
-pub lower_end : (l : List ℕ) (i : ℕ) → lower_case l ≡ lower_case (drop i l) → length l ≤ i → true ≡ lower_case l
-lower_end l i inv h = sym (inv ∙ ap lower_case (drop_of_length-le l h))
 
 -- ---- an own word
 

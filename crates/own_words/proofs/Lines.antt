@@ -1,5 +1,6 @@
 -- What the functions over lines know at each way out. A part of a slice from place n on is `take (length l - n) (drop n l)`. Assumes
 -- nothing.
+use Rattle.std.specs.Prelude.{Option, Some}
 use mathlib.Core.Path.{◌≡◌, sym, ap, ap₂, ◌∙◌}
 use mathlib.Core.Bool.{Bool, false, ◌&&◌}
 use mathlib.Core.List.{List}
@@ -10,8 +11,6 @@ use lib.ListN.{length, take, drop, length-drop}
 use lib.Seq.{take_all}
 use Rattle.words.proofs.Laws.{same_true, same_false, own_place, found_word, words_good}
 use Rattle.words.specs.Words.{words, word_at, same_letters, look_up}
-use Rattle.words.specs.declared.Found.{Found}
-use Rattle.words.specs.declared.Found.TheVariants.{At}
 use Rattle.texts.specs.Texts.{place_of, before_comma, after_comma}
 use Rattle.own_words.specs.OwnWords.{is_own_word, is_own_line}
 use Rattle.own_words.proofs.Letters.{and_false, no_letters}
@@ -30,10 +29,10 @@ comma_within l n comma some = omega (arith, comma, length-drop (suc (place_of 44
 -- ---- a line, by where its front is found in the table of built-in words
 
 module _ (k : ℕ) (l : List ℕ) (n : ℕ) (listed : k < length words) (comma : n ≡ place_of 44 l) {table : List (List ℕ)} (built_in : table ≡ words) where
-  front : {found : Found} → found ≡ look_up table (take n l) → found ≡ look_up words (before_comma l)
+  front : {found : Option ℕ} → found ≡ look_up table (take n l) → found ≡ look_up words (before_comma l)
   front look = look ∙ ap₂ look_up built_in (ap (λ (m : ℕ). take m l) comma)
 
-  pub not_there : {found : Found} → found ≡ look_up table (take n l) → (found ≡ At k → ⊥) → false ≡ is_own_line k (word_at words k) l
+  pub not_there : {found : Option ℕ} → found ≡ look_up table (take n l) → (found ≡ Some k → ⊥) → false ≡ is_own_line k (word_at words k) l
   unfolding is_own_line
   not_there look other =
       ap (λ (b : Bool). b && is_own_word k (after_comma l)) (same_false (before_comma l) (word_at words k)
@@ -46,7 +45,7 @@ module _ (k : ℕ) (l : List ℕ) (n : ℕ) (listed : k < length words) (comma :
       (sym (no_letters k (after_comma l) (omega (arith, comma, e, length-drop (suc (place_of 44 l)) l))))
       ∙ and_false (same_letters (before_comma l) (word_at words k)))
 
-  pub there : {found : Found} {r : Bool} → found ≡ look_up table (take n l) → found ≡ At k
+  pub there : {found : Option ℕ} {r : Bool} → found ≡ look_up table (take n l) → found ≡ Some k
       → r ≡ is_own_word k (take (length l - (n + 1)) (drop (n + 1) l)) → r ≡ is_own_line k (word_at words k) l
   unfolding is_own_line
   there look at own =

@@ -1,14 +1,13 @@
 -- Examples of words texts, each with the number that is answered to it, 0 where it is accepted: [16.1], [16.2], [16.4] to [16.6]. Computed on
 -- `ask_words`. Facts about the definitions, none of them a definition to believe; assumes nothing.
-use Rattle.std.specs.Prelude.{◌≡◌, refl, List, [], ◌∷◌, ◌++◌, map, ℕ, ◌-◌, length, take, set}
+use Rattle.std.specs.Prelude.{◌≡◌, refl, List, [], ◌∷◌, ◌++◌, map, ℕ, ◌-◌, length, take, set, Ok, Err}
+use Rattle.refusals.specs.Answers.{Answer}
 use Prim.Native.String.{String}
 use Rattle.words.specs.Kinds.{word_plan, word_num, word_arr, word_lit, word_loops, word_set, word_rest}
 use Rattle.words.specs.Good.{distinct, absent}
 use Rattle.words.specs.Words.{bytes, words, table, same_letters}
 use Rattle.texts.specs.Texts.{lines_of, place_of}
 use Rattle.refusals.specs.Refusals.{refusal_number}
-use Rattle.refusals.specs.declared.Answer.{Answer}
-use Rattle.refusals.specs.declared.Answer.TheVariants.{Told, Refused}
 use Rattle.own_words.specs.OwnWords.{is_own_word, is_own_line, are_own_lines, is_words_text, own_words, ask_words}
 use Rattle.own_words.specs.Laws.{lines_with}
 use Rattle.own_words.specs.Theorems.{words_text}
@@ -25,8 +24,8 @@ abbrev own₂ : ℕ → String → ℕ → String → List (List ℕ)
 own₂ j v k w = set (own j v) k (bytes w)
 
 abbrev number : Answer → ℕ
-number (Told n) = 0
-number (Refused q) = refusal_number q
+number (Ok n) = 0
+number (Err q) = refusal_number q
 
 -- [16.1] A text, by the lines that it has, and how it is answered.
 abbrev texts : List (List ℕ × ℕ)

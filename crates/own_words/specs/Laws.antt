@@ -1,5 +1,5 @@
 -- Laws of words texts and their own words. Assumes nothing.
-use Rattle.std.specs.Prelude.{◌≡◌, refl, Bool, true, false, cond, ◌&&◌, List, [], ◌∷◌, ◌++◌, map, ℕ, zero, suc, ◌+◌, ◌-◌, ◌≤◌, ◌<◌, T, eqb, leb, length, get_or}
+use Rattle.std.specs.Prelude.{◌≡◌, refl, Bool, true, false, cond, ◌&&◌, List, [], ◌∷◌, ◌++◌, map, ℕ, zero, suc, ◌+◌, ◌-◌, ◌≤◌, ◌<◌, T, eqb, leb, length, get_or, Ok, Err, Result}
 use Rattle.std.proofs.Common.{sym, ap, ◌∙◌, subst, arith, add-zero, add-suc, suc-add, leb→le, le→leb, eqb→eq, length-append}
 use Rattle.std.specs.Float.Ieee.Fits.{and_i, and_l, and_r}
 use Rattle.words.specs.Kinds.{word_lit}
@@ -10,37 +10,40 @@ use Rattle.words.specs.declared.Search.{Search}
 use Rattle.words.specs.Tables.{words_in}
 use Rattle.texts.specs.Texts.{lines_of, before_comma, after_comma}
 use Rattle.texts.specs.Laws.{together, Closed, place_split, lines_together, last_closed}
-use Rattle.refusals.specs.Answers.{is_told}
-use Rattle.refusals.specs.declared.Answer.{Answer}
-use Rattle.refusals.specs.declared.Answer.TheVariants.{Told, Refused}
+use Rattle.refusals.specs.Answers.{Answer}
 use Rattle.refusals.specs.declared.Refusal.{Refusal}
 use Rattle.refusals.specs.declared.Refusal.TheVariants.{WordsForm, WordTwice}
 use Rattle.own_words.specs.OwnWords.{most_letters, is_own_word, is_own_line, are_own_lines, is_words_text, own_words, ask_words}
 use Rattle.own_words.specs.Under.{ByAnswer, Under}
 use Rattle.own_words.specs.Promises.{ReadsWords, LooksUpIn}
-use Rattle.own_words.specs.declared.Searched.{Searched}
-use Rattle.own_words.specs.declared.Searched.TheVariants as searched
 
 -- ---- what an entry promises, by the answer to its words text
 
 module _ {w : List ℕ} {yes : List (List ℕ) → Type 0} {no : Refusal → Type 0} where
-  under_accepted : {r : Answer} {n : ℕ} → r ≡ ask_words w → r ≡ Told n → yes (own_words w) → Under w yes no
-  under_accepted asked told holds =
-      record { promised = subst (λ (a : Answer). ByAnswer a (yes (own_words w)) no) (sym told ∙ asked) holds }
+  answered : {a : Answer} → ask_words w ≡ a → ByAnswer a (yes (own_words w)) no → Under w yes no
+  answered asked holds = record { promised = subst (λ (a : Answer). ByAnswer a (yes (own_words w)) no) (sym asked) holds }
 
-  pub under_refused : {r : Answer} {q : Refusal} → r ≡ ask_words w → r ≡ Refused q → no q → Under w yes no
-  under_refused asked told holds =
-      record { promised = subst (λ (a : Answer). ByAnswer a (yes (own_words w)) no) (sym told ∙ asked) holds }
+  under_accepted : {r : Answer} {n : ℕ} → r ≡ ask_words w → r ≡ Ok n → yes (own_words w) → Under w yes no
+  under_accepted asked told holds = answered (sym asked ∙ told) holds
 
-  -- by the table that was read
-  pub under_read : {r : Answer} {n : ℕ} {table : List (List ℕ)} → ReadsWords w r table → r ≡ Told n → yes (words_in table) → Under w yes no
-  under_read reads told holds = under_accepted reads.answer told (subst yes (reads.words_read (ap is_told told)) holds)
+  pub under_refused : {r : Answer} {q : Refusal} → r ≡ ask_words w → r ≡ Err q → no q → Under w yes no
+  under_refused asked told holds = answered (sym asked ∙ told) holds
+
+  -- by what was read: the "no"
+  pub under_unread : {r : Result (List (List ℕ)) Refusal} {q : Refusal} → ReadsWords w r → r ≡ Err q → no q → Under w yes no
+  under_unread reads told holds = answered (subst (ReadsWords w) told reads) holds
+
+  -- or the table
+  pub under_read : {r : Result (List (List ℕ)) Refusal} {table : List (List ℕ)} → ReadsWords w r → r ≡ Ok table → yes (words_in table) → Under w yes no
+  under_read reads told holds =
+      let read = subst (ReadsWords w) told reads in
+      answered read.0 (subst yes read.1 holds)
 
   -- what is promised, by the answer
-  pub accepted_under : {n : ℕ} → ask_words w ≡ Told n → Under w yes no → yes (own_words w)
+  pub accepted_under : {n : ℕ} → ask_words w ≡ Ok n → Under w yes no → yes (own_words w)
   accepted_under told u = subst (λ (a : Answer). ByAnswer a (yes (own_words w)) no) told u.promised
 
-  pub refused_under : {q : Refusal} → ask_words w ≡ Refused q → Under w yes no → no q
+  pub refused_under : {q : Refusal} → ask_words w ≡ Err q → Under w yes no → no q
   refused_under told u = subst (λ (a : Answer). ByAnswer a (yes (own_words w)) no) told u.promised
 
 -- what follows from what is promised, whatever the answer is
@@ -49,16 +52,16 @@ pub under_any : {w : List ℕ} {yes : List (List ℕ) → Type 0} {no : Refusal 
 under_any {w} {yes} {no} {P} u accepted refused = go (ask_words w) u.promised
   where
     go : (a : Answer) → ByAnswer a (yes (own_words w)) no → P
-    go (Told n) p = accepted p
-    go (Refused q) p = refused q p
+    go (Ok n) p = accepted p
+    go (Err q) p = refused q p
 
 pub under_both : {w : List ℕ} {yes yes' : List (List ℕ) → Type 0} {no no' : Refusal → Type 0} → Under w yes no
     → ((ws : List (List ℕ)) → yes ws → yes' ws) → ((q : Refusal) → no q → no' q) → Under w yes' no'
 under_both {w} {yes} {yes'} {no} {no'} u accepted refused = record { promised = go (ask_words w) u.promised }
   where
     go : (a : Answer) → ByAnswer a (yes (own_words w)) no → ByAnswer a (yes' (own_words w)) no'
-    go (Told n) p = accepted (own_words w) p
-    go (Refused q) p = refused q p
+    go (Ok n) p = accepted (own_words w) p
+    go (Err q) p = refused q p
 
 -- ---- an accepted text
 
@@ -66,12 +69,12 @@ pub record IsAccepted (t : List ℕ) : Type 0 where
   pub is_text : T (is_words_text t)
   pub apart : T (distinct (own_words t))
 
-told : (f d : Bool) (m n : ℕ) → cond f (cond d (Told m) (Refused WordTwice)) (Refused WordsForm) ≡ Told n → T f × T d
+told : (f d : Bool) (m n : ℕ) → cond f (cond d (Ok m) (Err WordTwice)) (Err WordsForm) ≡ Ok n → T f × T d
 told true true m n e = (tt, tt)
 told true false m n e = let z : ◌≡◌ {A = ℕ} 0 1 = cc in absurd (omega arith)
 told false d m n e = let z : ◌≡◌ {A = ℕ} 0 1 = cc in absurd (omega arith)
 
-pub accepted : (t : List ℕ) (n : ℕ) → ask_words t ≡ Told n → IsAccepted t
+pub accepted : (t : List ℕ) (n : ℕ) → ask_words t ≡ Ok n → IsAccepted t
 unfolding ask_words
 accepted t n e = let r = told (is_words_text t) (distinct (own_words t)) (length words) n e in record { is_text = r.0; apart = r.1 }
 
@@ -182,7 +185,7 @@ text_lines : (t : List ℕ) → T (is_words_text t) → T (are_own_lines 0 words
 unfolding is_words_text
 text_lines t h = and_r (eqb (get_or t (length t - 1) 0) 10) (are_own_lines 0 words (lines_of t)) h
 
-pub accepted_good : (t : List ℕ) (n : ℕ) → ask_words t ≡ Told n → Good (own_words t)
+pub accepted_good : (t : List ℕ) (n : ℕ) → ask_words t ≡ Ok n → Good (own_words t)
 unfolding own_words
 accepted_good t n e =
     let a = accepted t n e in
@@ -195,18 +198,18 @@ accepted_good t n e =
     }
 
 -- [17.2] a search among its own words compares no more rows than there are words
-pub searched_few : (w l : List ℕ) {r : Searched} {s : Search} → LooksUpIn w l r → r ≡ searched.Told s → s.compared ≤ length words
+pub searched_few : (w l : List ℕ) {r : Result Search Refusal} {s : Search} → LooksUpIn w l r → r ≡ Ok s → s.compared ≤ length words
 searched_few w l {r} {s} looks e = go (ask_words w) refl
   where
     go : (a : Answer) → ask_words w ≡ a → s.compared ≤ length words
-    go (Told n) asked =
+    go (Ok n) asked =
         let t = accepted_under asked looks in
-        let told : searched.Told s ≡ searched.Told t.0 = sym e ∙ t.1 in
+        let told : Ok s ≡ Ok t.0 = sym e ∙ t.1 in
         let same : s ≡ t.0 = cc in
         let n : s.compared ≡ compared (own_words w) l = ap (λ (x : Search). x.compared) same ∙ t.2.1 in
         omega (arith, n, compared_few (own_words w) l, (accepted_good w _ asked).count)
-    go (Refused q) asked =
-        let no : searched.Told s ≡ searched.Refused q = sym e ∙ refused_under asked looks in
+    go (Err q) asked =
+        let no : Ok s ≡ Err q = sym e ∙ refused_under asked looks in
         absurd (let z : ◌≡◌ {A = ℕ} 0 1 = cc in omega arith)
 
 -- the text is the built-in words with its own words

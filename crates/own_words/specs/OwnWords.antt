@@ -1,11 +1,11 @@
 -- A words text: [16.1], [16.2]; its own words; and the questions put to it: [16.4] to [16.6]. Definitions only; assumes nothing.
-use Rattle.std.specs.Prelude.{Bool, true, false, cond, ◌&&◌, List, [], ◌∷◌, map, ℕ, suc, ◌-◌, eqb, leb, length, get_or}
+use Rattle.std.specs.Prelude.{◌≡◌, Bool, true, false, cond, ◌&&◌, Option, Some, None, List, [], ◌∷◌, map, ℕ, suc, ◌-◌, eqb, leb, length, get_or, Ok, Err}
+use Rattle.refusals.specs.Answers.{Answer}
 use Rattle.words.specs.Kinds.{word_lit}
+use Rattle.words.specs.Tables.{words_in}
 use Rattle.words.specs.Words.{words, same_letters}
 use Rattle.words.specs.Good.{lower_case, distinct}
 use Rattle.texts.specs.Texts.{lines_of, before_comma, after_comma}
-use Rattle.refusals.specs.declared.Answer.{Answer}
-use Rattle.refusals.specs.declared.Answer.TheVariants.{Told, Refused}
 use Rattle.refusals.specs.declared.Refusal.TheVariants.{WordsForm, WordTwice}
 
 -- [16.2] how many letters the own word of kind k may have
@@ -35,6 +35,11 @@ is_words_text t = eqb (get_or t (length t - 1) 0) 10 && are_own_lines 0 words (l
 unfoldable pub own_words : List ℕ → List (List ℕ)
 own_words t = map after_comma (lines_of t)
 
+-- [16.1] The table that is taken from the lines of the text t: they are those of a words text, and it has their own words; or they are not.
+abbrev pub TakesLines : List ℕ → Option (List (List ℕ)) → Type 0
+TakesLines t (Some table) = (are_own_lines 0 words (lines_of t) ≡ true) × (words_in table ≡ map after_comma (lines_of t))
+TakesLines t None = are_own_lines 0 words (lines_of t) ≡ false
+
 -- [16.4], then [16.5]: how many words there are, or the "no"
 unfoldable pub ask_words : List ℕ → Answer
-ask_words t = cond (is_words_text t) (cond (distinct (own_words t)) (Told (length words)) (Refused WordTwice)) (Refused WordsForm)
+ask_words t = cond (is_words_text t) (cond (distinct (own_words t)) (Ok (length words)) (Err WordTwice)) (Err WordsForm)

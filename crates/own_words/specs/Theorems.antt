@@ -1,5 +1,5 @@
 -- Every good table of words is had by a words text, and by one only: [16.1], [16.2]. Assumes nothing.
-use Rattle.std.specs.Prelude.{◌≡◌, refl, Bool, true, false, cond, ◌&&◌, List, [], ◌∷◌, ◌++◌, map, ℕ, suc, ◌+◌, ◌-◌, ◌≤◌, ◌<◌, T, eqb, leb, length, get_or}
+use Rattle.std.specs.Prelude.{◌≡◌, refl, Bool, true, false, cond, ◌&&◌, List, [], ◌∷◌, ◌++◌, map, ℕ, suc, ◌+◌, ◌-◌, ◌≤◌, ◌<◌, T, eqb, leb, length, get_or, Ok, Err}
 use Rattle.std.proofs.Common.{sym, ap, ap₂, ◌∙◌, subst, zero-add, add-zero, add-suc, suc-add, arith, eqb-true, leb→le, le→leb, length-append, get_or-append-add}
 use Rattle.std.specs.Float.Ieee.Bits.{is_true}
 use Rattle.std.specs.Float.Ieee.Fits.{and_i, and_l, and_r}
@@ -9,7 +9,6 @@ use Rattle.words.specs.Good.{lower_case, distinct, well_formed, Good}
 use Rattle.words.proofs.Laws.{same_refl, words_count, words_good, word_formed}
 use Rattle.texts.specs.Texts.{lines_of, before_comma, after_comma}
 use Rattle.texts.specs.Laws.{Free, free_append, before_cut, after_cut, lines_line, closed_last}
-use Rattle.refusals.specs.declared.Answer.TheVariants.{Told, Refused}
 use Rattle.refusals.specs.declared.Refusal.TheVariants.{WordsForm, WordTwice}
 use Rattle.own_words.specs.OwnWords.{most_letters, is_own_word, is_own_line, are_own_lines, is_words_text, own_words, ask_words}
 use Rattle.own_words.specs.Laws.{OwnWord, lines_with, accepted, text_back}
@@ -140,19 +139,19 @@ pub text_own : (ws : List (List ℕ)) → Good ws → own_words (words_text ws) 
 unfolding own_words
 text_own ws g = (good_made ws g).1
 
-pub text_accepted : (ws : List (List ℕ)) → Good ws → ask_words (words_text ws) ≡ Told (length words)
+pub text_accepted : (ws : List (List ℕ)) → Good ws → ask_words (words_text ws) ≡ Ok (length words)
 unfolding ask_words is_words_text
 text_accepted ws g =
-    ap₂ (λ (f d : Bool). cond f (cond d (Told (length words)) (Refused WordTwice)) (Refused WordsForm))
+    ap₂ (λ (f d : Bool). cond f (cond d (Ok (length words)) (Err WordTwice)) (Err WordsForm))
     (is_true (is_words_text (words_text ws))
     (and_i (eqb (get_or (words_text ws) (length (words_text ws) - 1) 0) 10) (are_own_lines 0 words (lines_of (words_text ws)))
     (subst (λ (b : ℕ). T (eqb b 10)) (sym (text_last words ws (omega (arith, words_count)) g.count)) tt) (good_made ws g).0))
     (ap distinct (text_own ws g) ∙ is_true (distinct ws) g.apart)
 
 -- and by that one only
-pub text_only : (t : List ℕ) (n : ℕ) → ask_words t ≡ Told n → words_text (own_words t) ≡ t
+pub text_only : (t : List ℕ) (n : ℕ) → ask_words t ≡ Ok n → words_text (own_words t) ≡ t
 text_only t n e = text_back t (accepted t n e).is_text
 
 -- the built-in words are had by the text that gives each built-in word itself
-pub built_in_text : ask_words (words_text words) ≡ Told (length words)
+pub built_in_text : ask_words (words_text words) ≡ Ok (length words)
 built_in_text = text_accepted words words_good

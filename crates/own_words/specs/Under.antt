@@ -1,13 +1,12 @@
 -- [16.6], [16.7] What an entry that is given a words text promises. Definitions only; assumes nothing.
-use Rattle.std.specs.Prelude.{List, ℕ}
-use Rattle.refusals.specs.declared.Answer.{Answer}
-use Rattle.refusals.specs.declared.Answer.TheVariants.{Told, Refused}
+use Rattle.std.specs.Prelude.{List, ℕ, Ok, Err}
+use Rattle.refusals.specs.Answers.{Answer}
 use Rattle.refusals.specs.declared.Refusal.{Refusal}
 use Rattle.own_words.specs.OwnWords.{ask_words, own_words}
 
 abbrev pub ByAnswer : Answer → Type 0 → (Refusal → Type 0) → Type 0
-ByAnswer (Told n) accepted refused = accepted
-ByAnswer (Refused q) accepted refused = refused q
+ByAnswer (Ok n) accepted refused = accepted
+ByAnswer (Err q) accepted refused = refused q
 
 -- Where the words text w is accepted, `accepted` of its own words; else `refused` of the "no".
 pub record Under (w : List ℕ) (accepted : List (List ℕ) → Type 0) (refused : Refusal → Type 0) : Type 0 where

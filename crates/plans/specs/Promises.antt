@@ -1,7 +1,6 @@
 -- What the entries of `plans` promise for every input: each name stands in the `ensures` of its entry, and the demands are drawn from it.
-use Rattle.std.specs.Prelude.{◌≡◌, List, ℕ, ℤ}
-use Rattle.refusals.specs.declared.Answer.{Answer}
-use Rattle.refusals.specs.declared.Answer.TheVariants.{Refused}
+use Rattle.std.specs.Prelude.{◌≡◌, List, ℕ, ℤ, Err}
+use Rattle.refusals.specs.Answers.{Answer}
 use Rattle.own_words.specs.Under.{Under}
 use Rattle.lines.specs.Lent.{text_rows, TableInto}
 use Rattle.typing.specs.Entry.{check_plan_text}
@@ -17,8 +16,8 @@ ReadsPlan ws t kinds numbers r kinds' numbers' = TableInto (check_plan_text ws t
 
 -- [16.6], [16.7] `check_text_in` and `read_text_in`, which are given a words text w: the same with its own words, or its refusal
 abbrev pub ChecksPlanIn : List ℕ → List ℕ → Answer → Type 0
-ChecksPlanIn w t r = Under w (λ ws. ChecksPlan ws t r) (λ q. r ≡ Refused q)
+ChecksPlanIn w t r = Under w (λ ws. ChecksPlan ws t r) (λ q. r ≡ Err q)
 
 abbrev pub ReadsPlanIn : List ℕ → List ℕ → List ℕ → List ℤ → Answer → List ℕ → List ℤ → Type 0
 ReadsPlanIn w t kinds numbers r kinds' numbers' =
-    Under w (λ ws. ReadsPlan ws t kinds numbers r kinds' numbers') (λ q. (r ≡ Refused q) × (kinds' ≡ kinds) × (numbers' ≡ numbers))
+    Under w (λ ws. ReadsPlan ws t kinds numbers r kinds' numbers') (λ q. (r ≡ Err q) × (kinds' ≡ kinds) × (numbers' ≡ numbers))

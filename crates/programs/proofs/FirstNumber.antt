@@ -1,31 +1,33 @@
--- Whether what stands behind a line's comma is `0`. Assumes nothing.
-use mathlib.Core.Bool.{true, false, not}
-use mathlib.Core.Path.{◌≡◌, sym, ap, ◌∙◌}
-use mathlib.Core.List.{List, [], ◌∷◌}
-use mathlib.Core.Logic.{◌≢◌}
-use Prim.Native.Nat.{ℕ, suc, ◌+◌}
-use native.Mathlib.Numerals.{add-one}
-use native.Mathlib.Omega.{arith}
-use lib.ListN.{length, get_or, drop, length-drop, drop_of_length-le}
-use lib.Seq.{drop-cons}
+-- Whether what stands behind the comma of a text's first line is `0`. Assumes nothing.
+use Rattle.std.specs.Prelude.{Bool, not, ◌≡◌, List, [], ◌∷◌, ℕ, ◌+◌, ◌-◌, min, eqb, suc, leb, true, false, length, take, drop}
+use Rattle.std.proofs.Common.{sym, ap, ap₂, ◌∙◌, arith, drop_of_length-le, length-drop, leb-true, refl}
+use borrow.Author.Tests.{leb-false}
+use Rattle.std.proofs.Math.Seq.{take_all}
+use lib.Pointwise.{pointwise}
 use Rattle.words.specs.Words.{bytes, same_letters}
-use Rattle.words.proofs.Laws.{same_true, same_false}
+use Rattle.words.proofs.Rows.{same_pointwise}
 use Rattle.texts.specs.Texts.{place_of, after_comma}
+use Rattle.programs.specs.Runner.{reads_values}
 
-module _ (l : List ℕ) (comma : ℕ) (is : comma ≡ place_of 44 l) where
-  behind : after_comma l ≡ drop (suc comma) l
-  behind = ap (λ (n : ℕ). drop (suc n) l) (sym is)
+-- what stands behind the comma, or nothing
+behind : (l : List ℕ) (comma number : ℕ) → comma ≡ place_of 44 l → number ≡ min (length l) (comma + 1) → drop number l ≡ after_comma l
+behind l comma number is at = go (leb (suc comma) (length l)) refl
+  where
+    go : (b : Bool) → leb (suc comma) (length l) ≡ b → drop number l ≡ after_comma l
+    go true h =
+        let next : number ≡ suc (place_of 44 l) = omega (arith, leb-true (suc comma) (length l) h) in
+        ap (λ (n : ℕ). drop n l) next
+    go false h =
+        let short = leb-false (suc comma) (length l) h in
+        drop_of_length-le l {i = number} (omega (arith, short)) ∙ sym (drop_of_length-le l {i = suc (place_of 44 l)} (omega (arith, short)))
 
-  pub longer : length l ≢ comma + 2 → true ≡ not (same_letters (after_comma l) (bytes "0"))
-  longer h = ap not (same_false (after_comma l) (bytes "0") (λ e. h (omega (arith, ap length (sym behind ∙ e), length-drop (suc comma) l))))
-
-  module _ (alone : length l ≡ comma + 2) where
-    one_byte : after_comma l ≡ get_or l (comma + 1) 0 ∷ []
-    one_byte = behind ∙ ap (λ (n : ℕ). drop n l) (sym (add-one comma)) ∙ drop-cons l (comma + 1) 0 (omega (arith, alone))
-        ∙ ap (λ (m : List ℕ). get_or l (comma + 1) 0 ∷ m) (drop_of_length-le l {i = suc (comma + 1)} (omega (arith, alone)))
-
-    pub zero_alone : get_or l (comma + 1) 0 ≡ 48 → false ≡ not (same_letters (after_comma l) (bytes "0"))
-    zero_alone e = ap not (same_true (after_comma l) (bytes "0") (one_byte ∙ ap (λ (b : ℕ). b ∷ []) e))
-
-    pub other_alone : get_or l (comma + 1) 0 ≢ 48 → true ≡ not (same_letters (after_comma l) (bytes "0"))
-    other_alone h = ap not (same_false (after_comma l) (bytes "0") (λ e. h (ap (λ (m : List ℕ). get_or m 0 0) (sym one_byte ∙ e))))
+pub number_compared : (t : List ℕ) (end comma number : ℕ) {zero : List ℕ} {b : Bool} → end ≡ place_of 10 t → comma ≡ place_of 44 (take end t)
+    → number ≡ min (length (take end t)) (comma + 1) → zero ≡ 48 ∷ []
+    → b ≡ not (pointwise eqb (take (length (take end t) - number) (drop number (take end t))) zero) → b ≡ reads_values t
+number_compared t end comma number e f g z h =
+    let line = take end t in
+    h
+    ∙ ap₂ (λ (x y : List ℕ). not (pointwise eqb x y))
+    (take_all (length line - number) (drop number line) (omega (arith, length-drop number line)) ∙ behind line comma number f g) z
+    ∙ ap not (same_pointwise (after_comma line) (bytes "0"))
+    ∙ ap (λ (n : ℕ). not (same_letters (after_comma (take n t)) (bytes "0"))) e

@@ -1,4 +1,5 @@
 -- What is printed, part by part. Assumes nothing.
+use Rattle.std.specs.Prelude.{Ok, Err}
 use mathlib.Core.Path.{◌≡◌, refl, sym, ap, ap₂, ◌∙◌}
 use mathlib.Core.List.{List, [], ◌∷◌, ◌++◌, append_assoc}
 use Prim.Native.Nat.{ℕ, ◌+◌, ◌≤◌, ◌<◌}
@@ -7,12 +8,13 @@ use native.Mathlib.Numerals.{add-one}
 use native.Mathlib.Omega.{arith}
 use borrow.Author.Tests.{le-leb, lt-leb}
 use lib.IntN.{ℤ, pos}
-use lib.ListN.{length, get_or, set, drop, length-append, drop_of_length-le}
-use lib.Seq.{sets, sets-eq, drop-cons}
+use lib.ListN.{length, get_or, set, take, drop, length-append, drop_of_length-le}
+use lib.Seq.{sets, sets-eq, drop-cons, take_all}
+use borrow.Rule.Slice.PartMut.{put_mid}
+use Rattle.std.proofs.lemmas.Slice.{put_mid-paste}
 use Rattle.refusals.specs.declared.Refusal.{Refusal}
 use Rattle.refusals.specs.declared.Refusal.TheVariants.{LentSize}
 use Rattle.refusals.specs.Refusals.{refusal_number, refusal_line}
-use Rattle.refusals.specs.declared.Answer.TheVariants.{Told, Refused}
 use Rattle.words.specs.Words.{bytes}
 use Rattle.numerals.specs.Numerals.{decimal}
 use Rattle.numerals.specs.DigitLaws.{decimal_length}
@@ -33,6 +35,19 @@ pub number_put : (d : List ℕ) (b : ℕ) (t : List ℕ) (at n : ℕ) {t₁ t₂
 number_put d b t at n e e₁ e₂ =
     e₂ ∙ ap₂ (λ (u : List ℕ) (k : ℕ). set u (at + k) b) e₁ e ∙ sym (sets_append t at d (b ∷ []))
 
+-- bytes copied over a part of a text, and over its front
+pub part_put : (bs t : List ℕ) (at n : ℕ) {b : List ℕ} → b ≡ bs → n ≡ length bs → at + length bs ≤ length t → put_mid at n t b ≡ sets t at bs
+part_put bs t at n {b} e size h =
+    put_mid-paste at n t b bs (length bs) e (sym size) refl
+    ∙ ap (λ (l : List ℕ). take at t ++ l ++ drop (at + length bs) t) (take_all (length bs) bs (omega arith))
+    ∙ sym (sets-eq bs t at h)
+
+pub front_copied : (bs t : List ℕ) {b : List ℕ} → b ≡ bs → length bs ≤ length t → b ++ drop (length bs) t ≡ sets t 0 bs
+front_copied bs t e h =
+    ap (λ (l : List ℕ). l ++ drop (length bs) t) e
+    ∙ ap (λ (k : ℕ). bs ++ drop k t) (sym (zero-add (length bs)))
+    ∙ sym (sets-eq bs t 0 (omega arith))
+
 -- ---- a text at the front
 
 -- what was put is in front, and the rest as lent
@@ -43,13 +58,13 @@ front_put text lent h put =
 
 -- a text that fits is put; one that does not is not
 pub put_all : (text lent : List ℕ) (n : ℕ) {lent' : List ℕ} → n ≡ length text → n ≤ length lent → lent' ≡ sets lent 0 text
-    → PutInto text lent (Told n) lent'
+    → PutInto text lent (Ok n) lent'
 put_all text lent n e h put = record {
   answer = fits_in text (length lent) n e h;
   text_left = front_put text lent (omega arith) put ∙ simp (le-leb (length text) (length lent) (omega arith));
 }
 
-pub put_none : (text lent : List ℕ) → length lent < length text → PutInto text lent (Refused LentSize) lent
+pub put_none : (text lent : List ℕ) → length lent < length text → PutInto text lent (Err LentSize) lent
 put_none text lent h = record { answer = too_long text (length lent) h; text_left = simp (lt-leb (length text) (length lent) h) }
 
 -- ---- a refusal's line

@@ -1,4 +1,5 @@
 -- The table of loops that pass, their values and their run. Assumes nothing.
+use Rattle.std.specs.Prelude.{Ok}
 use mathlib.Core.Path.{◌≡◌, refl, sym, ap, subst, ◌∙◌}
 use mathlib.Core.Bool.{Bool, cond}
 use mathlib.Core.List.{List, [], ◌∷◌, ◌++◌, map, append-nil}
@@ -10,9 +11,7 @@ use borrow.Author.Tests.{eq-eqb, ne_eqb}
 use lib.IntN.{ℤ, pos}
 use lib.ListN.{length, get_or, take, drop, drop_of_length-le, length-map}
 use lib.Seq.{drop-cons}
-use Rattle.refusals.specs.declared.Answer.{Answer}
-use Rattle.refusals.specs.declared.Answer.TheVariants.{Told}
-use Rattle.refusals.specs.Answers.{is_told}
+use Rattle.refusals.specs.Answers.{is_told, Answer}
 use Rattle.words.specs.Kinds.{rows_of}
 use Rattle.meaning.specs.Loops.{Loops}
 use Rattle.meaning.specs.Layout.{all_cells, need}
@@ -50,16 +49,16 @@ cells_end ns i h = ap (λ (l : List ℤ). all_cells (cell_numbers l)) (drop_of_l
 -- ---- the values
 
 module _ (v : List ℕ) (s : List ℤ) where
-  pub none_asked : (n : ℕ) → n ≡ 0 → ValuesInto v n s (Told 0) s
+  pub none_asked : (n : ℕ) → n ≡ 0 → ValuesInto v n s (Ok 0) s
   none_asked n e = record {
-    answer = ap (λ (b : Bool). cond b (Told 0) (filling v n (length s))) (sym (eq-eqb n 0 e));
+    answer = ap (λ (b : Bool). cond b (Ok 0) (filling v n (length s))) (sym (eq-eqb n 0 e));
     filled = λ m f. ap (λ (k : ℕ). with_values v k s) (sym e);
     kept = λ q f. refl;
   }
 
   pub values_asked : (n : ℕ) (r : Answer) (s' : List ℤ) → n ≢ 0 → FillInto v n s r s' → ValuesInto v n s r s'
   values_asked n r s' d I = record {
-    answer = I.answer ∙ ap (λ (b : Bool). cond b (Told 0) (filling v n (length s))) (sym (ne_eqb n 0 d));
+    answer = I.answer ∙ ap (λ (b : Bool). cond b (Ok 0) (filling v n (length s))) (sym (ne_eqb n 0 d));
     filled = λ m f.
         I.store_left ∙ ap (λ (x : Answer). filled (is_told x) put s) f
         ∙ ap (λ (k : ℕ). put ++ drop k s) (length-map (up_from 0 n) (value_of (value_lines v)) ∙ up_from_length 0 n);

@@ -1,9 +1,8 @@
 -- What the translator prints: [11.1], [11.8]. The table of words is an argument. Definitions only; assumes nothing.
-use Rattle.std.specs.Prelude.{◌≡◌, List, [], ◌∷◌, ◌++◌, ℕ, pos, length}
+use Rattle.std.specs.Prelude.{◌≡◌, List, [], ◌∷◌, ◌++◌, ℕ, pos, length, Ok, Err}
+use Rattle.refusals.specs.Answers.{Answer}
 use Rattle.refusals.specs.declared.Refusal.{Refusal}
 use Rattle.refusals.specs.Refusals.{refusal_number, refusal_line}
-use Rattle.refusals.specs.declared.Answer.{Answer}
-use Rattle.refusals.specs.declared.Answer.TheVariants.{Told, Refused}
 use Rattle.words.specs.Words.{bytes}
 use Rattle.numerals.specs.Numerals.{decimal}
 use Rattle.lines.specs.Reading.{filled}
@@ -16,8 +15,8 @@ refusal_text q = bytes "no," ++ decimal (pos (refusal_number q)) ++ (44 ∷ deci
 
 -- [11.1] The text of the loops made, or [11.8] the refusal's line.
 abbrev pub made_text : Answer → List ℕ → List ℕ
-made_text (Told n) loops = loops
-made_text (Refused q) loops = refusal_text q
+made_text (Ok n) loops = loops
+made_text (Err q) loops = refusal_text q
 
 unfoldable pub translator_text : List (List ℕ) → List ℕ → List ℕ
 translator_text ws t = made_text (make_text ws t) (text_of ws (rows_made ws t))

@@ -1,7 +1,7 @@
 -- What the entries of `programs` promise for every input: each name stands in the `ensures` of its entry, and the demands are drawn
 -- from it.
 use Rattle.std.specs.Prelude.{Bool, ◌≡◌, List, ℕ, ℤ}
-use Rattle.refusals.specs.declared.Answer.{Answer}
+use Rattle.refusals.specs.Answers.{Answer}
 use Rattle.own_words.specs.Under.{Under}
 use Rattle.programs.specs.Printed.{refusal_text, translator_text, PutInto}
 use Rattle.programs.specs.Runner.{reads_values, ShownInto, RunnerInto}

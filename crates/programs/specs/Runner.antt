@@ -1,9 +1,9 @@
 -- What the runner prints, and the store that it leaves: [11.5] to [11.9]. The table of words is an argument. Definitions only;
 -- assumes nothing.
-use Rattle.std.specs.Prelude.{Bool, not, cond, ◌≡◌, List, [], ◌∷◌, ◌++◌, map, ℕ, suc, eqb, leb, ℤ, pos, length, take, drop}
+use Rattle.std.specs.Prelude.{Bool, not, cond, ◌≡◌, List, [], ◌∷◌, ◌++◌, map, ℕ, suc, eqb, leb, ℤ, pos, length, take, drop, Ok, Err}
+use Rattle.loops.specs.Checked.{Checked}
+use Rattle.refusals.specs.Answers.{Answer}
 use Rattle.refusals.specs.declared.Refusal.TheVariants.{StoreSize, LentSize}
-use Rattle.refusals.specs.declared.Answer.{Answer}
-use Rattle.refusals.specs.declared.Answer.TheVariants.{Told, Refused}
 use Rattle.words.specs.Words.{bytes, same_letters}
 use Rattle.texts.specs.Texts.{first_line, after_comma}
 use Rattle.numerals.specs.Numerals.{decimal}
@@ -14,8 +14,6 @@ use Rattle.meaning.specs.Loops.{Loops}
 use Rattle.meaning.specs.Layout.{all_cells}
 use Rattle.syntax.specs.Reading.{loops_of}
 use Rattle.values.specs.Values.{filling, value_of, value_lines}
-use Rattle.loops.specs.declared.Checked.{Checked}
-use Rattle.loops.specs.declared.Checked.TheVariants as check
 use Rattle.loops.specs.Check.{check_loops_text}
 use Rattle.interpreter.specs.Orders.{run_of}
 use Rattle.run.specs.Run.{Ran, finished, refused}
@@ -25,7 +23,7 @@ use Rattle.programs.specs.Printed.{refusal_text}
 
 -- [11.5] With no input cells the values play no part; else those of n input cells are asked, the store having so many cells.
 abbrev pub ask_values : List ℕ → ℕ → ℕ → Answer
-ask_values v n store = cond (eqb n 0) (Told 0) (filling v n store)
+ask_values v n store = cond (eqb n 0) (Ok 0) (filling v n store)
 
 -- The cells 0 to n − 1 hold their values, and the others what they held.
 abbrev pub with_values : List ℕ → ℕ → List ℤ → List ℤ
@@ -33,8 +31,8 @@ with_values v n s = map (value_of (value_lines v)) (up_from 0 n) ++ drop n s
 
 -- [11.6] The run is in order 0, on the store with its values, unless they were refused.
 abbrev pub after_values : Answer → Loops → List ℤ → List ℤ → Ran
-after_values (Told m) L held s = finished (run_of L 0 held)
-after_values (Refused q) L held s = refused q s
+after_values (Ok m) L held s = finished (run_of L 0 held)
+after_values (Err q) L held s = refused q s
 
 -- `values.txt`, and then the run, of loops that pass
 unfoldable pub values_run : List ℕ → Loops → List ℤ → Ran
@@ -43,8 +41,8 @@ values_run v L s =
 
 -- [10.16] The runner asks the loops their questions, 14 included, and then the values.
 abbrev pub print_checked : Checked → List ℕ → Loops → List ℤ → Ran
-print_checked (check.Passes w n) v L s = cond (leb n (length s)) (values_run v L s) (refused StoreSize s)
-print_checked (check.Refused q) v L s = refused q s
+print_checked (Ok p) v L s = cond (leb p.need (length s)) (values_run v L s) (refused StoreSize s)
+print_checked (Err q) v L s = refused q s
 
 -- t is the loops' text, v that of the values, s the store
 unfoldable pub runner_outcome : List (List ℕ) → List ℕ → List ℕ → List ℤ → Ran
@@ -67,8 +65,8 @@ output_cells L s = take L.output (drop (all_cells L.inputs) s)
 
 -- [11.8] Where there is a refusal its line is printed instead.
 abbrev pub ran_text : Loops → Answer → List ℤ → List ℕ
-ran_text L (Told w) s = finished_text (output_cells L s) w
-ran_text L (Refused q) s = refusal_text q
+ran_text L (Ok w) s = finished_text (output_cells L s) w
+ran_text L (Err q) s = refusal_text q
 
 abbrev pub outcome_text : Loops → Ran → List ℕ
 outcome_text L x = ran_text L x.answer x.store
@@ -91,7 +89,7 @@ room_for_all lent = leb 69648 (length lent)
 -- What is promised of the answer r, of the store and of the lent text, as lent and as left, where `text` is printed and the store left as
 -- `end`.
 pub record ShownInto (text : List ℕ) (end store : List ℤ) (lent : List ℕ) (r : Answer) (store' : List ℤ) (lent' : List ℕ) : Type 0 where
-  pub answer : r ≡ cond (room_for_all lent) (Told (length text)) (Refused LentSize)
+  pub answer : r ≡ cond (room_for_all lent) (Ok (length text)) (Err LentSize)
   pub store_left : store' ≡ cond (room_for_all lent) end store
   pub text_left : lent' ≡ filled (room_for_all lent) text lent
 

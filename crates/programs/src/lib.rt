@@ -2,14 +2,17 @@
 // loops and values; with the built-in words, or under a words text ([16.8]).
 #![tactic(auto)]
 
-ghost use Rattle.std.specs.Prelude.{List, ℤ};
+ghost use Rattle.std.specs.Prelude.{List, ℤ, ◌≤◌, length};
 ghost use Rattle.words.specs.Tables.{words_in};
 ghost use Rattle.words.specs.Words.{words};
+ghost use Rattle.lines.specs.Lent.{text_rows};
+ghost use Rattle.syntax.specs.Reading.{loops_of};
+ghost use Rattle.programs.specs.Parts.{RunsInto};
 ghost use Rattle.programs.specs.Promises.{PrintsLoops, PrintsRun, PrintsLoopsIn, PrintsRunIn, SaysValuesRead};
 ghost use Rattle.programs.specs.Printed.{refusal_text};
-ghost use Rattle.programs.specs.Runner.{ShownInto};
+ghost use Rattle.programs.specs.Runner.{runner_outcome, ShownInto};
 
-use refusals::{Answer, Refusal};
+use refusals::Refusal;
 use words::Table;
 
 mod parts;
@@ -19,37 +22,51 @@ mod table;
 const LONGEST_OUTPUT: usize = 69648;
 
 // The translator with this table of words: a plan's text is read and the text of its loops printed with it.
-fn translator_with(table: &Table, plan: &[u8], lent: &mut [u8]) -> Answer
+fn translator_with(table: &Table, plan: &[u8], lent: &mut [u8]) -> Result<usize, Refusal>
     ensures { PrintsLoops (words_in table.now) plan.now lent.old result lent.new }
 {
     let mut kinds = [0u8; 4096];
     let mut numbers = [0i32; 4096];
-    let made = translate::rows_with(table, plan, &mut kinds, &mut numbers);
-    match made {
-        Answer::Refused(refusal) => parts::put_refusal(refusal, lent),
-        Answer::Told(rows) => lines::print(table, &kinds[..rows], &numbers[..rows], lent),
+    match translate::rows_with(table, plan, &mut kinds, &mut numbers) {
+        Ok(rows) => lines::print(table, &kinds[..rows], &numbers[..rows], lent),
+        Err(refusal) => parts::put_refusal(refusal, lent),
     }
 }
 
 // [11.1] The translator: the text of the loops made from a plan's text, or the refusal's line, goes to the front of the lent text:
 // how many bytes it has, or the "no" to question 12.
-pub fn translator(plan: &[u8], lent: &mut [u8]) -> Answer
+pub fn translator(plan: &[u8], lent: &mut [u8]) -> Result<usize, Refusal>
     ensures { PrintsLoops words plan.now lent.old result lent.new }
 {
-    let table = words::built_in();
-    translator_with(&table, plan, lent)
+    translator_with(&words::built_in(), plan, lent)
 }
 
 // [16.8] The translator under a words text.
-pub fn translator_in(words: &[u8], plan: &[u8], lent: &mut [u8]) -> Answer
+pub fn translator_in(words: &[u8], plan: &[u8], lent: &mut [u8]) -> Result<usize, Refusal>
     ensures { PrintsLoopsIn words.now plan.now lent.old result lent.new }
 {
-    let mut table = words::built_in();
-    let read = own_words::read(words, &mut table);
-    match read {
-        Answer::Refused(refusal) => parts::put_refusal(refusal, lent),
-        Answer::Told(_) => translator_with(&table, plan, lent),
+    match own_words::read(words) {
+        Ok(table) => translator_with(&table, plan, lent),
+        Err(refusal) => parts::put_refusal(refusal, lent),
     }
+}
+
+// Runs loops on the store with its values, and prints the run; or the first "no", which is not printed.
+fn run_text(
+    table: &Table,
+    loops: &[u8],
+    values: &[u8],
+    store: &mut [i32],
+    lent: &mut [u8],
+) -> Result<usize, Refusal>
+    requires { 69648 ≤ length lent.old }
+    ensures { RunsInto (loops_of (text_rows (words_in table.now) loops.now)) (runner_outcome (words_in table.now) loops.now values.now store.old)
+        lent.old result store.new lent.new }
+{
+    let mut kinds = [0u8; 4096];
+    let mut numbers = [0i32; 4096];
+    let rows = lines::read_loops(table, loops, &mut kinds, &mut numbers)?;
+    table::run_table(&kinds[..rows], &numbers[..rows], values, store, lent)
 }
 
 // The runner with this table of words.
@@ -59,39 +76,38 @@ fn runner_with(
     values: &[u8],
     store: &mut [i32],
     lent: &mut [u8],
-) -> Answer
+) -> Result<usize, Refusal>
     ensures { PrintsRun (words_in table.now) loops.now values.now store.old lent.old result store.new lent.new }
 {
     if lent.len() < LONGEST_OUTPUT {
-        return Answer::Refused(Refusal::LentSize);
+        return Err(Refusal::LentSize);
     }
-    let mut kinds = [0u8; 4096];
-    let mut numbers = [0i32; 4096];
-    let read = lines::read_loops(table, loops, &mut kinds, &mut numbers);
-    match read {
-        Answer::Refused(refusal) => parts::put_refusal(refusal, lent),
-        Answer::Told(rows) => {
-            table::run_table(&kinds[..rows], &numbers[..rows], values, store, lent)
-        }
+    match run_text(table, loops, values, store, lent) {
+        Ok(bytes) => Ok(bytes),
+        Err(refusal) => parts::put_refusal(refusal, lent),
     }
 }
 
 // [11.6], [11.7] The runner: the store's input cells are filled from the values and the loops run on it; the output cells and the
 // writes, or the refusal's line, go to the front of the lent text.
-pub fn runner(loops: &[u8], values: &[u8], store: &mut [i32], lent: &mut [u8]) -> Answer
+pub fn runner(
+    loops: &[u8],
+    values: &[u8],
+    store: &mut [i32],
+    lent: &mut [u8],
+) -> Result<usize, Refusal>
     ensures { PrintsRun words loops.now values.now store.old lent.old result store.new lent.new }
 {
-    let table = words::built_in();
-    runner_with(&table, loops, values, store, lent)
+    runner_with(&words::built_in(), loops, values, store, lent)
 }
 
 // What the runner prints of a words text that is refused, where there is room for all that it may print ([11.9]); s is its store, which is
 // not touched.
-fn show_refusal(refusal: Refusal, lent: &mut [u8]) -> Answer
+fn show_refusal(refusal: Refusal, lent: &mut [u8]) -> Result<usize, Refusal>
     ensures { (s : List ℤ) → ShownInto (refusal_text refusal) s s lent.old result s lent.new }
 {
     if lent.len() < LONGEST_OUTPUT {
-        return Answer::Refused(Refusal::LentSize);
+        return Err(Refusal::LentSize);
     }
     parts::put_refusal(refusal, lent)
 }
@@ -103,14 +119,12 @@ pub fn runner_in(
     values: &[u8],
     store: &mut [i32],
     lent: &mut [u8],
-) -> Answer
+) -> Result<usize, Refusal>
     ensures { PrintsRunIn words.now loops.now values.now store.old lent.old result store.new lent.new }
 {
-    let mut table = words::built_in();
-    let read = own_words::read(words, &mut table);
-    match read {
-        Answer::Refused(refusal) => show_refusal(refusal, lent),
-        Answer::Told(_) => runner_with(&table, loops, values, store, lent),
+    match own_words::read(words) {
+        Ok(table) => runner_with(&table, loops, values, store, lent),
+        Err(refusal) => show_refusal(refusal, lent),
     }
 }
 
@@ -119,14 +133,7 @@ pub fn runner_in(
 pub fn reads_values(loops: &[u8]) -> bool
     ensures { SaysValuesRead loops.now result }
 {
-    let end = texts::line_length(loops);
-    let line = &loops[..end];
-    let comma = texts::field_length(line);
-    if line.len() != comma + 2 {
-        return true;
-    }
-    if line[comma + 1] == b'0' {
-        return false;
-    }
-    true
+    let line = &loops[..texts::line_length(loops)];
+    let number = line.len().min(texts::field_length(line) + 1);
+    &line[number..] != b"0".as_slice()
 }

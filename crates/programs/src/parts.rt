@@ -1,22 +1,10 @@
-// The parts of what is printed: bytes, numbers and a refusal's line ([11.8]).
+// The parts of what is printed: numbers and a refusal's line ([11.8]).
 ghost use Rattle.std.specs.Prelude.{[], ◌∷◌, ◌++◌, ◌≡◌, ◌+◌, ◌≤◌, pos, length};
 ghost use Rattle.std.proofs.lemmas.List.Edits.{sets};
 ghost use Rattle.numerals.specs.Numerals.{decimal};
 ghost use Rattle.programs.specs.Printed.{refusal_text, PutInto};
 
-use refusals::{Answer, Refusal};
-
-// Puts bytes from place `at` on.
-pub fn put_bytes(bytes: &[u8], text: &mut [u8], at: usize)
-    requires { at ≤ length text.old }
-    ensures { text.new ≡ sets text.old at bytes.now }
-{
-    let mut i = 0;
-    while i < bytes.len() {
-        slices::put_u8(text, at + i, bytes[i]);
-        i += 1;
-    }
-}
+use refusals::Refusal;
 
 // Puts a natural number and the byte behind it; the place behind both.
 pub fn put_natural(value: u64, closing: u8, text: &mut [u8], at: usize) -> usize
@@ -26,31 +14,31 @@ pub fn put_natural(value: u64, closing: u8, text: &mut [u8], at: usize) -> usize
 {
     numerals::put_natural(value, text, at);
     let end = at + numerals::natural_size(value);
-    slices::put_u8(text, end, closing);
+    slices::put(text, end, closing);
     end + 1
 }
 
 // The bytes of a refusal's line.
 fn refusal_size(refusal: Refusal) -> usize
-    ensures { (result ≡ length (refusal_text refusal)) × (result ≤ 45) }
+    ensures { (result ≡ length (refusal_text refusal)) × (3 ≤ result) × (result ≤ 45) }
 {
-    let number = refusals::number(refusal) as u64;
-    let line = refusals::line(refusal) as u64;
+    let number = refusal.number() as u64;
+    let line = refusal.line() as u64;
     3 + numerals::natural_size(number) + 1 + numerals::natural_size(line) + 1
 }
 
-// Puts a refusal's line at the front of a text, if it has room for it.
-pub fn put_refusal(refusal: Refusal, text: &mut [u8]) -> Answer
+// Puts a refusal's line at the front of a text, if it has room for it. By hand: its bytes are promised, and Display promises none.
+pub fn put_refusal(refusal: Refusal, text: &mut [u8]) -> Result<usize, Refusal>
     ensures { PutInto (refusal_text refusal) text.old result text.new × (length (refusal_text refusal) ≤ 45) }
 {
     let size = refusal_size(refusal);
     if text.len() < size {
-        return Answer::Refused(Refusal::LentSize);
+        return Err(Refusal::LentSize);
     }
-    let number = refusals::number(refusal) as u64;
-    let line = refusals::line(refusal) as u64;
-    put_bytes(b"no,", text, 0);
+    let number = refusal.number() as u64;
+    let line = refusal.line() as u64;
+    text[..3].copy_from_slice(b"no,");
     let comma = put_natural(number, b',', text, 3);
     put_natural(line, b'\n', text, comma);
-    Answer::Told(size)
+    Ok(size)
 }

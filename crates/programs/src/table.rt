@@ -1,5 +1,6 @@
 // The runner behind the reading of its loops: their check, their values, their run, and what is printed of it.
-ghost use Rattle.std.specs.Prelude.{[], ◌∷◌, ◌++◌, ◌≡◌, ◌+◌, ◌≤◌, pos, length};
+// Kinds and numbers of rows come as two slices, as the interface for C lends them.
+ghost use Rattle.std.specs.Prelude.{[], ◌∷◌, ◌++◌, ◌≡◌, ◌+◌, ◌≤◌, pos, length, Ok};
 ghost use Rattle.std.proofs.lemmas.List.Edits.{sets};
 ghost use Rattle.numerals.specs.Numerals.{decimal};
 ghost use Rattle.words.specs.Kinds.{rows_of};
@@ -9,12 +10,11 @@ ghost use Rattle.syntax.specs.Reading.{loops_of};
 ghost use Rattle.loops.specs.Check.{check_table};
 ghost use Rattle.interpreter.specs.Orders.{run_of};
 ghost use Rattle.run.specs.Run.{finished};
-ghost use Rattle.programs.specs.Runner.{finished_text, values_run, print_checked};
-ghost use Rattle.programs.specs.Parts.{ValuesInto, Ready, LaidOut, OutcomeInto};
+ghost use Rattle.programs.specs.Runner.{finished_text, print_checked};
+ghost use Rattle.programs.specs.Parts.{ValuesInto, Ready, LaidOut, RunsInto};
 
 use crate::parts;
-use loops::Checked;
-use refusals::{Answer, Refusal};
+use refusals::Refusal;
 use syntax::ranges;
 
 // How many cells the inputs of loops have in all, and how many their output.
@@ -30,10 +30,8 @@ fn cells_in(numbers: &[i32]) -> usize
     ensures { result ≡ all_cells (cell_numbers numbers.now) }
 {
     let mut cells = 0;
-    let mut i = 0;
-    while i < numbers.len() {
-        cells += ranges::natural(numbers[i]);
-        i += 1;
+    for number in numbers {
+        cells += ranges::natural(*number);
     }
     cells
 }
@@ -51,11 +49,11 @@ fn layout_of(kinds: &[u8], numbers: &[i32], store: usize) -> Layout
 }
 
 // [11.5] The values of so many input cells; with none the values are not looked at.
-fn fill_inputs(values: &[u8], cells: usize, store: &mut [i32]) -> Answer
+fn fill_inputs(values: &[u8], cells: usize, store: &mut [i32]) -> Result<usize, Refusal>
     ensures { ValuesInto values.now cells store.old result store.new }
 {
     if cells == 0 {
-        return Answer::Told(0);
+        return Ok(0);
     }
     values::fill(values, cells, store)
 }
@@ -70,7 +68,7 @@ fn put_cell(cell: usize, value: i32, text: &mut [u8], at: usize) -> usize
     let comma = parts::put_natural(cell as u64, b',', text, at);
     numerals::put(value, text, comma);
     let end = comma + numerals::size(value);
-    slices::put_u8(text, end, b'\n');
+    slices::put(text, end, b'\n');
     end + 1
 }
 
@@ -81,80 +79,52 @@ fn put_output(cells: &[i32], writes: u32, text: &mut [u8]) -> usize
         × (text.new ≡ sets text.old 0 (finished_text cells.now writes)) }
 {
     let mut at = 0;
-    let mut i = 0;
-    while i < cells.len() {
-        at = put_cell(i, cells[i], text, at);
-        i += 1;
+    for (cell, value) in cells.iter().enumerate() {
+        at = put_cell(cell, *value, text, at);
     }
-    parts::put_bytes(b"writes,", text, at);
-    parts::put_natural(writes as u64, b'\n', text, at + 7)
+    let end = at + 7;
+    text[at..end].copy_from_slice(b"writes,");
+    parts::put_natural(writes as u64, b'\n', text, end)
 }
 
-// [11.6] Runs loops that pass, in order 0, on the store that holds their values, and prints it.
+// [11.6] Runs loops that pass, in order 0, on the store that holds their values, and prints it: how many bytes were put.
 fn print_run(
     kinds: &[u8],
     numbers: &[i32],
-    inputs: usize,
-    output: usize,
+    layout: Layout,
     store: &mut [i32],
     lent: &mut [u8],
-) -> Answer
-    requires { Ready kinds.now numbers.now (length store.old) × LaidOut (loops_of (rows_of kinds.now numbers.now)) inputs output
+) -> usize
+    requires { Ready kinds.now numbers.now (length store.old) × LaidOut (loops_of (rows_of kinds.now numbers.now)) layout.inputs layout.output
         × (69648 ≤ length lent.old) }
-    ensures { OutcomeInto (loops_of (rows_of kinds.now numbers.now))
+    ensures { RunsInto (loops_of (rows_of kinds.now numbers.now))
         (finished (run_of (loops_of (rows_of kinds.now numbers.now)) 0 store.old))
-        lent.old result store.new lent.new }
+        lent.old (Ok result) store.new lent.new }
 {
-    let mut none = [0u8; 0];
-    let writes = interpreter::run_loops(kinds, numbers, 0, store, &mut none);
-    let bytes = put_output(&store[inputs..inputs + output], writes, lent);
-    Answer::Told(bytes)
+    let writes = interpreter::run_loops(kinds, numbers, 0, store, &mut []);
+    let end = layout.inputs + layout.output;
+    put_output(&store[layout.inputs..end], writes, lent)
 }
 
-// The values of loops that pass; then their run.
-fn run_passing(
-    kinds: &[u8],
-    numbers: &[i32],
-    values: &[u8],
-    store: &mut [i32],
-    lent: &mut [u8],
-) -> Answer
-    requires { Ready kinds.now numbers.now (length store.old) × (69648 ≤ length lent.old) }
-    ensures { OutcomeInto (loops_of (rows_of kinds.now numbers.now))
-        (values_run values.now (loops_of (rows_of kinds.now numbers.now)) store.old)
-        lent.old result store.new lent.new }
-{
-    let layout = layout_of(kinds, numbers, store.len());
-    let inputs = layout.inputs;
-    let filled = fill_inputs(values, inputs, store);
-    match filled {
-        Answer::Refused(refusal) => parts::put_refusal(refusal, lent),
-        Answer::Told(_) => print_run(kinds, numbers, inputs, layout.output, store, lent),
-    }
-}
-
-// The check of a table that was read; then its values and its run.
+// The check of a table that was read, its need and its values; then its run. How many bytes were put; or the first "no", which is not printed.
 pub fn run_table(
     kinds: &[u8],
     numbers: &[i32],
     values: &[u8],
     store: &mut [i32],
     lent: &mut [u8],
-) -> Answer
+) -> Result<usize, Refusal>
     requires { (length kinds.now ≡ length numbers.now) × (length kinds.now ≤ 4096) × (69648 ≤ length lent.old) }
-    ensures { OutcomeInto (loops_of (rows_of kinds.now numbers.now))
+    ensures { RunsInto (loops_of (rows_of kinds.now numbers.now))
         (print_checked (check_table (rows_of kinds.now numbers.now)) values.now
         (loops_of (rows_of kinds.now numbers.now)) store.old)
         lent.old result store.new lent.new }
 {
-    let checked = loops::check_table(kinds, numbers);
-    match checked {
-        Checked::Refused(refusal) => parts::put_refusal(refusal, lent),
-        Checked::Passes { writes: _, need } => {
-            if store.len() < need {
-                return parts::put_refusal(Refusal::StoreSize, lent);
-            }
-            run_passing(kinds, numbers, values, store, lent)
-        }
+    let counted = loops::check_table(kinds, numbers)?;
+    if store.len() < counted.need {
+        return Err(Refusal::StoreSize);
     }
+    let layout = layout_of(kinds, numbers, store.len());
+    fill_inputs(values, layout.inputs, store)?;
+    Ok(print_run(kinds, numbers, layout, store, lent))
 }

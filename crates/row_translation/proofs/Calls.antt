@@ -20,7 +20,7 @@ use Rattle.emission.specs.Table.{Table}
 use Rattle.emission.specs.Laws.Growth.{grown_none}
 use Rattle.words.specs.Groups.{is_leaf, is_map, has_one_operand}
 use Rattle.clauses.specs.Clauses.{region_node, RegionOpened, AfterUse}
-use Rattle.row_translation.specs.WriteAndUse.{Stands, ReadyToUse, ReadyToWrite, Room, nodes_used, nodes_written, Used, Written}
+use Rattle.row_translation.specs.WriteAndUse.{Stands, ReadyToUse, ReadyToWrite, Room, nodes_used, nodes_written, Used, Uses, Writes}
 use Rattle.row_translation.specs.Laws.Kinds.{TwoOperands, two_operands}
 use Rattle.row_translation.specs.Laws.Operands.{type_here, type_first}
 use Rattle.row_translation.specs.Laws.Calls.{regions_few_holds, room_on, stands_region, stands_under, stands_after_use}
@@ -38,14 +38,28 @@ pub ready_write : {ks : List ℕ} {ns : List ℤ} {C Y : List ℕ} {N : List ℤ
     → Stands ks ns C Y N T s I Γ Δ e → Room (nodes_written e) Y N T s → ReadyToWrite ks ns C Y N T s
 ready_write {I = I} {Γ = Γ} {Δ = Δ} {e = e} S R = (record { inputs = I; variables = Γ; expressions = Δ; term = e; stands = S }, R)
 
--- what a use, and a write, was asked for and gave
-abbrev pub Uses : List ℕ → List ℤ → List ℕ → List ℕ → List ℤ → State → List ℕ → List ℕ → Table → Table → Translated → Type 0
-Uses ks ns C Y N s T U o o' r =
-    (I Γ : List DataType) (Δ : List Expression) (e : Term) → Stands ks ns C Y N T s I Γ Δ e → Used Y N I Γ Δ e s T U o o' r
+-- the rows that a call is handed are those that its callee's are
+abbrev pub SameRows : List ℕ → List ℤ → List ℕ → List ℕ → List ℤ → List ℕ → Type 0
+SameRows ks' ns' C' ks ns C = (ks' ≡ ks) × (ns' ≡ ns) × (C' ≡ C)
 
-abbrev pub Writes : List ℕ → List ℤ → List ℕ → List ℕ → List ℤ → Acceptor → State → List ℕ → List ℕ → Table → Table → Translated → Type 0
-Writes ks ns C Y N P s T U o o' r =
-    (I Γ : List DataType) (Δ : List Expression) (e : Term) → Stands ks ns C Y N T s I Γ Δ e → Written Y N I Γ Δ e P s T U o o' r
+module _ {ks' ks : List ℕ} {ns' ns : List ℤ} {C' C : List ℕ} (q : SameRows ks' ns' C' ks ns C) where
+  pub stands_as : {Y : List ℕ} {N : List ℤ} {T : List ℕ} {s : State} {I Γ : List DataType} {Δ : List Expression} {e : Term}
+      → Stands ks ns C Y N T s I Γ Δ e → Stands ks' ns' C' Y N T s I Γ Δ e
+  stands_as S = rw (q.0, q.1, q.2) S
+
+  pub use_as : {Y : List ℕ} {N : List ℤ} {T : List ℕ} {s : State} → ReadyToUse ks ns C Y N T s → ReadyToUse ks' ns' C' Y N T s
+  use_as R = rw (q.0, q.1, q.2) R
+
+  pub write_as : {Y : List ℕ} {N : List ℤ} {T : List ℕ} {s : State} → ReadyToWrite ks ns C Y N T s → ReadyToWrite ks' ns' C' Y N T s
+  write_as R = rw (q.0, q.1, q.2) R
+
+  pub uses_as : {Y : List ℕ} {N : List ℤ} {s : State} {T U : List ℕ} {o o' : Table} {r : Translated}
+      → Uses ks' ns' C' Y N s T U o o' r → Uses ks ns C Y N s T U o o' r
+  uses_as H I Γ Δ e S = H I Γ Δ e (stands_as S)
+
+  pub writes_as : {Y : List ℕ} {N : List ℤ} {P : Acceptor} {s : State} {T U : List ℕ} {o o' : Table} {r : Translated}
+      → Writes ks' ns' C' Y N P s T U o o' r → Writes ks ns C Y N P s T U o o' r
+  writes_as H I Γ Δ e S = H I Γ Δ e (stands_as S)
 
 -- where a term stands, what a write or a use finds
 module _ (ks : List ℕ) (ns : List ℤ) (C Y : List ℕ) (N : List ℤ) (T : List ℕ) (s : State) (I Γ : List DataType) (Δ : List Expression) (e : Term)
@@ -63,29 +77,27 @@ module _ (ks : List ℕ) (ns : List ℤ) (C Y : List ℕ) (N : List ℤ) (T : Li
 
   module _ (m : ℕ) (R : Room m Y N T s) where
     pub leaf_asks : (k n p : ℕ) → k ≡ get_or ks 0 0 → n ≡ as_natural (get_or ns 0 (pos 0)) → p < 65536
-        → (1 ≤ s.len) × (s.len < 1024) × (p < 65536) × (length N - length ns < 65536) × (length T ≡ 1024)
-        × (k ≡ word_kind_in → n < 65536) × (k ≡ word_var → n < s.count) × (s.count ≤ 16) × (length s.variables ≡ 16)
+        → (1 ≤ s.len) × (s.len < 1024) × (p < 65536) × (length N - length ns < 65536)
+        × (k ≡ word_kind_in → n < 65536) × (k ≡ word_var → n < s.count) × (s.count ≤ 16)
     leaf_asks k n p ek en hp = (
       R.some,
       omega (arith, R.nodes),
       hp,
       omega (arith, R.plan, bounds),
-      R.size,
       λ q. number_fits ks ns C Y N T s I Γ Δ e S k n ek en (λ x. absurd (omega (arith, q, x))),
       λ q. variable_fits ks ns C Y N T s I Γ Δ e S k n ek en q,
       S.variables.few,
-      S.variables.long,
     )
 
-    pub region_asks : 1 ≤ m → Sound Y (length Y) × (get_or C 0 0 < length Y) × (1 ≤ s.len) × (s.len < 1024) × (s.regions < 65535) × (length T ≡ 1024)
-    region_asks h = (R.types, typed, R.some, omega (arith, R.nodes), omega (arith, R.regions), R.size)
+    pub region_asks : 1 ≤ m → Sound Y (length Y) × (get_or C 0 0 < length Y) × (1 ≤ s.len) × (s.len < 1024) × (s.regions < 65535)
+    region_asks h = (R.types, typed, R.some, omega (arith, R.nodes), omega (arith, R.regions))
 
   some_node : 1 ≤ nodes_used e
   some_node = omega (arith, some_rows e)
 
   -- a region is opened for a used map
   pub open_asks : Room (nodes_used e) Y N T s
-      → Sound Y (length Y) × (get_or C 0 0 < length Y) × (1 ≤ s.len) × (s.len < 1024) × (s.regions < 65535) × (length T ≡ 1024)
+      → Sound Y (length Y) × (get_or C 0 0 < length Y) × (1 ≤ s.len) × (s.len < 1024) × (s.regions < 65535)
   open_asks R = region_asks (nodes_used e) R some_node
 
   pub opened_asks : Room (nodes_used e) Y N T s → is_map (get_or ks 0 0) ≡ true → {U : List ℕ} {p : ℕ} {s' : State} → RegionOpened T U p s s'
@@ -129,8 +141,8 @@ module _ (ks : List ℕ) (ns : List ℤ) (C Y : List ℕ) (N : List ℤ) (T : Li
       pub first_reach : (1 + r.rows ≤ length ks) × (r.rows ≤ length N)
       first_reach = (omega (arith, first_used.passed, fewer, bounds), omega (arith, first_used.passed, fewer, bounds))
 
-      pub over_one_asks : Room (nodes_used e) Y N T s → (r.value < r.len) × (r.len < 1024) × (r.rows ≤ 65535) × (length U ≡ 1024)
-      over_one_asks R = (first_used.below, omega (arith, R.nodes, first_used.few, fewer), omega (arith, R.plan, first_reach, bounds), first_used.grown.size)
+      pub over_one_asks : Room (nodes_used e) Y N T s → (r.value < r.len) × (r.len < 1024) × (r.rows ≤ 65535)
+      over_one_asks R = (first_used.below, omega (arith, R.nodes, first_used.few, fewer), omega (arith, R.plan, first_reach, bounds))
 
       -- the second of two that are used
       module _ (hm : is_map (get_or ks 0 0) ≡ false) (hr : get_or ks 0 0 ≡ word_redseq → ⊥) (hb : has_one_operand (get_or ks 0 0) ≡ false) where
@@ -139,9 +151,6 @@ module _ (ks : List ℕ) (ns : List ℤ) (C Y : List ℕ) (N : List ℤ) (T : Li
 
         both : length (term_rows e) ≡ 1 + length (term_rows (first_operand e)) + length (term_rows (second_operand e))
         both = rows_of_two e two.count
-
-        pub second_reach : 1 + r.rows < length ks
-        second_reach = omega (arith, first_used.passed, both, bounds, some_rows (second_operand e))
 
         module _ {s' : State} (G : AfterUse s r s') where
           pub second_here : Stands (part (1 + r.rows) ks) (part (1 + r.rows) ns) (part (1 + r.rows) C) Y N U s' I Γ Δ (second_operand e)
@@ -157,12 +166,11 @@ module _ (ks : List ℕ) (ns : List ℤ) (C Y : List ℕ) (N : List ℤ) (T : Li
             pub second_used : Used Y N I Γ Δ (second_operand e) s' U W p p' w
             second_used = H' I Γ Δ (second_operand e) second_here
 
-            pub over_two_asks : Room (nodes_used e) Y N T s → (r.value < w.len) × (w.value < w.len) × (w.len < 1024) × (r.rows ≤ 65535) × (w.rows ≤ 65535) × (length W ≡ 1024)
+            pub over_two_asks : Room (nodes_used e) Y N T s → (r.value < w.len) × (w.value < w.len) × (w.len < 1024) × (r.rows ≤ 65535) × (w.rows ≤ 65535)
             over_two_asks R = (
               omega (arith, first_used.below, G.len, second_used.more),
               second_used.below,
               omega (arith, R.nodes, first_used.few, G.len, second_used.few, both),
               omega (arith, R.plan, first_reach, bounds),
               omega (arith, R.plan, second_used.passed, bounds, both),
-              second_used.grown.size,
             )

@@ -18,12 +18,12 @@ use Rattle.syntax.specs.Standing.{TermStands, operand_count, first_operand, seco
 use Rattle.syntax.proofs.Standing.{first_stands, rows_of_three}
 use Rattle.syntax.proofs.Front.{part, part_length}
 use Rattle.type_table.specs.Table.{type_at, Sound}
-use Rattle.emission.specs.Table.{Table, table}
+use Rattle.emission.specs.Table.{Table}
 use Rattle.emission.specs.References.{expression_at, acceptor_at}
 use Rattle.emission.specs.Growth.{Grown}
 use Rattle.emission.specs.Laws.Growth.{grown_none, grown_more}
 use Rattle.clauses.specs.Clauses.{body_region, entered_rows, left_rows, AfterUse, ReductionEntered, ReductionLeft}
-use Rattle.row_translation.specs.WriteAndUse.{Stands, SomeRows, CountsRows, ReadyToUse, ReadyToWrite, Room, nodes_used, nodes_written, Used, Written}
+use Rattle.row_translation.specs.WriteAndUse.{Stands, SomeRows, CountsRows, ReadyToUse, ReadyToWrite, Room, nodes_used, nodes_written, Used, Written, Uses, Writes}
 use Rattle.row_translation.specs.Laws.Kinds.{ReduceTerm, reduce_term}
 use Rattle.row_translation.specs.Laws.Operands.{type_array}
 use Rattle.row_translation.specs.Laws.Calls.{regions_few_holds, room_on, stands_reduced, stands_start}
@@ -33,7 +33,7 @@ use Rattle.row_translation.specs.Laws.Reductions.{reduction_body, used_reduce}
 use Rattle.clauses.specs.declared.State.{State}
 use Rattle.clauses.specs.declared.Translated.{Translated}
 use Rattle.row_translation.proofs.TermRows.{some_rows}
-use Rattle.row_translation.proofs.Calls.{Uses, Writes, ready_use, ready_write, head, bounds, typed}
+use Rattle.row_translation.proofs.Calls.{ready_use, ready_write, head, bounds, typed}
 
 module _ (ks : List ℕ) (ns : List ℤ) (C Y : List ℕ) (N : List ℤ) (T : List ℕ) (s : State) (I Γ : List DataType) (Δ : List Expression) (e : Term)
     (S : Stands ks ns C Y N T s I Γ Δ e) (q : get_or ks 0 0 ≡ word_redseq) where
@@ -79,9 +79,9 @@ module _ (ks : List ℕ) (ns : List ℤ) (C Y : List ℕ) (N : List ℤ) (T : Li
         (room_on (nodes_used e) (nodes_used (second_operand e)) Y N T T s s R (grown_none T s.len R.size)
         (omega arith) (omega (arith, all_rows)) (omega (arith, all_rows)) (omega (arith, all_rows)))
 
-    module _ {U : List ℕ} {o : Table} {K : List ℕ} {M : List ℤ} {x : Translated}
-        (H : Uses (part (1 + a) ks) (part (1 + a) ns) (part (1 + a) C) Y N s T U o (table K M x.to) x) where
-      array_used_holds : Used Y N I Γ Δ (second_operand e) s T U o (table K M x.to) x
+    module _ {U : List ℕ} {o o₁ : Table} {x : Translated}
+        (H : Uses (part (1 + a) ks) (part (1 + a) ns) (part (1 + a) C) Y N s T U o o₁ x) where
+      array_used_holds : Used Y N I Γ Δ (second_operand e) s T U o o₁ x
       array_used_holds = H I Γ Δ (second_operand e) array_here
 
       pub body_reach : 1 + a + x.rows < length ks
@@ -89,7 +89,7 @@ module _ (ks : List ℕ) (ns : List ℤ) (C Y : List ℕ) (N : List ℤ) (T : Li
 
       module _ {s₁ : State} (G : AfterUse s x s₁) where
         start_here : Stands (part 1 ks) (part 1 ns) (part 1 C) Y N U s₁ I Γ Δ (first_operand e)
-        start_here = stands_start ks ns C Y N T s I Γ Δ e S (get_or ks 0 0) refl q U o (table K M x.to) x s₁ array_used_holds G
+        start_here = stands_start ks ns C Y N T s I Γ Δ e S (get_or ks 0 0) refl q U o o₁ x s₁ array_used_holds G
 
         pub start_asks : Room (nodes_used e) Y N T s → ReadyToUse (part 1 ks) (part 1 ns) (part 1 C) Y N U s₁
         start_asks R =
@@ -98,9 +98,9 @@ module _ (ks : List ℕ) (ns : List ℤ) (C Y : List ℕ) (N : List ℤ) (T : Li
             (omega (arith, G.len, array_used_holds.few, all_rows))
             (omega (arith, G.counters, all_rows)) (omega (arith, G.regions, array_used_holds.regions, regions_few_holds (second_operand e), all_rows)))
 
-        module _ {W K₁ : List ℕ} {M₁ : List ℤ} {y : Translated}
-            (B : Uses (part 1 ks) (part 1 ns) (part 1 C) Y N s₁ U W (table K M s₁.to) (table K₁ M₁ y.to) y) where
-          start_used_holds : Used Y N I Γ Δ (first_operand e) s₁ U W (table K M s₁.to) (table K₁ M₁ y.to) y
+        module _ {W : List ℕ} {o₂ : Table} {y : Translated}
+            (B : Uses (part 1 ks) (part 1 ns) (part 1 C) Y N s₁ U W o₁ o₂ y) where
+          start_used_holds : Used Y N I Γ Δ (first_operand e) s₁ U W o₁ o₂ y
           start_used_holds = B I Γ Δ (first_operand e) start_here
 
           -- the region that the body is written into
@@ -109,7 +109,7 @@ module _ (ks : List ℕ) (ns : List ℤ) (C Y : List ℕ) (N : List ℤ) (T : Li
 
           pub enter_asks : Room (nodes_used e) Y N T s
               → Sound Y (length Y) × (get_or C 0 0 < length Y) × (x.value < y.len) × (y.value < y.len) × (y.len + 19 ≤ 1024)
-              × (s.counters + 8 < 65536) × (y.regions + 2 < 65536) × (s.count + 1 < 16) × (length s.variables ≡ 16) × (length W ≡ 1024)
+              × (s.counters + 8 < 65536) × (y.regions + 2 < 65536) × (s.count + 1 < 16)
           enter_asks R = (
             R.types,
             typed ks ns C Y N T s I Γ Δ e S,
@@ -119,8 +119,6 @@ module _ (ks : List ℕ) (ns : List ℤ) (C Y : List ℕ) (N : List ℤ) (T : Li
             omega (arith, R.counters),
             omega (arith, R.regions, array_used_holds.regions, G.regions, start_used_holds.regions, regions_few_holds (first_operand e), regions_few_holds (second_operand e), all_rows),
             reduction_fits ks ns C Y N T s I Γ Δ e S (get_or ks 0 0) (as_natural (get_or ns 0 (pos 0))) refl refl q,
-            S.variables.long,
-            start_used_holds.grown.size,
           )
 
           module _ {X : List ℕ} {s₂ : State} (E : ReductionEntered W X (get_or C 0 0) x.value region s y s₂) (hy : length Y ≤ 65536) (hl : y.len + 3 ≤ 1024)
@@ -130,7 +128,7 @@ module _ (ks : List ℕ) (ns : List ℤ) (C Y : List ℕ) (N : List ℤ) (T : Li
                 (Expression.region y.regions (type_of I Γ (first_operand e)) ∷ Expression.index (expression_of I (second_operand e) Γ Δ s.regions) (Offset.counter s.counters) ∷ Δ)
                 (third_operand e)
             round_here =
-                reduction_body Y N I Γ Δ s T e ks ns C S (get_or ks 0 0) (get_or C 0 0) refl q refl hy U W X o K K₁ M M₁ x s₁ y s₂ array_used_holds G start_used_holds E hl hr hc a a_is hv
+                reduction_body Y N I Γ Δ s T e ks ns C S (get_or ks 0 0) (get_or C 0 0) refl q refl hy U W X o o₁ o₂ x s₁ y s₂ array_used_holds G start_used_holds E hl hr hc a a_is hv
 
             pub round_asks : Room (nodes_used e) Y N T s
                 → (y.len + 2 < s₂.len) × ReadyToWrite (part (1 + a + x.rows) ks) (part (1 + a + x.rows) ns) (part (1 + a + x.rows) C) Y N X s₂
@@ -157,17 +155,17 @@ module _ (ks : List ℕ) (ns : List ℤ) (C Y : List ℕ) (N : List ℤ) (T : Li
                       ))),
                 )
 
-            module _ {Z K₂ K₃ : List ℕ} {M₂ M₃ : List ℤ} {w : Translated}
+            module _ {Z : List ℕ} {o₃ o₄ : Table} {w : Translated}
                 (D : Writes (part (1 + a + x.rows) ks) (part (1 + a + x.rows) ns) (part (1 + a + x.rows) C) Y N (acceptor_at Y X (y.len + 2)) s₂ X Z
-                (table K₂ M₂ s₂.to) (table K₃ M₃ w.to) w) where
+                o₃ o₄ w) where
               round_written : Written Y N I (type_of I Γ (first_operand e) ∷ element (type_of I Γ (second_operand e)) ∷ Γ)
                   (Expression.region y.regions (type_of I Γ (first_operand e)) ∷ Expression.index (expression_of I (second_operand e) Γ Δ s.regions) (Offset.counter s.counters) ∷ Δ)
-                  (third_operand e) (acceptor_at Y X (y.len + 2)) s₂ X Z (table K₂ M₂ s₂.to) (table K₃ M₃ w.to) w
+                  (third_operand e) (acceptor_at Y X (y.len + 2)) s₂ X Z o₃ o₄ w
               round_written = D I _ _ (third_operand e) round_here
 
               pub leave_asks : Room (nodes_used e) Y N T s
                   → Sound Y (length Y) × (get_or C 0 0 < length Y) × (y.len + 2 < w.len) × (w.len + 16 ≤ 1024)
-                  × (s.counters + 9 < 65536) × (y.regions + 2 < 65536) × (1 + a + x.rows ≤ 65535) × (w.rows ≤ 65535) × (length Z ≡ 1024)
+                  × (s.counters + 9 < 65536) × (y.regions + 2 < 65536) × (1 + a + x.rows ≤ 65535) × (w.rows ≤ 65535)
               leave_asks R = (
                 R.types,
                 typed ks ns C Y N T s I Γ Δ e S,
@@ -177,15 +175,14 @@ module _ (ks : List ℕ) (ns : List ℤ) (C Y : List ℕ) (N : List ℤ) (T : Li
                 omega (arith, R.regions, array_used_holds.regions, G.regions, start_used_holds.regions, regions_few_holds (first_operand e), regions_few_holds (second_operand e), all_rows),
                 omega (arith, R.plan, body_reach, there),
                 omega (arith, R.plan, round_written.passed, all_rows, there),
-                round_written.grown.size,
               )
 
               -- the reduction was used
-              pub reduce_returned : {Q K₄ : List ℕ} {M₄ : List ℤ} {n : ℕ} {r : Translated} → n ≡ array_length (type_at Y (get_or C (1 + a) 0))
-                  → table K₂ M₂ s₂.to ≡ entered_rows (type_at Y (get_or C 0 0)) n (expression_at Y N W y.value) s.counters y.regions (table K₁ M₁ y.to)
+              pub reduce_returned : {Q : List ℕ} {o₅ : Table} {n : ℕ} {r : Translated} → n ≡ array_length (type_at Y (get_or C (1 + a) 0))
+                  → o₃ ≡ entered_rows (type_at Y (get_or C 0 0)) n (expression_at Y N W y.value) s.counters y.regions o₂
                   → ReductionLeft Z Q y.len y.regions (1 + a + x.rows) w r
-                  → table K₄ M₄ r.to ≡ left_rows (type_at Y (get_or C 0 0)) (expression_at Y N Z (y.len + 2)) (acceptor_at Y Z y.len) s.counters y.regions (table K₃ M₃ w.to)
-                  → Used Y N I Γ Δ e s T Q o (table K₄ M₄ r.to) r
-              reduce_returned {Q} {K₄} {M₄} {n} {r} en q₁ L q₂ =
-                  used_reduce Y N I Γ Δ s T e ks ns C S (get_or ks 0 0) (get_or C 0 0) refl q refl hy U W X o K K₁ M M₁ x s₁ y s₂ array_used_holds G start_used_holds E hl hr hc
-                  Z Q K₂ K₃ K₄ M₂ M₃ M₄ a n (1 + a + x.rows) w r a_is en refl q₁ round_written L q₂
+                  → o₅ ≡ left_rows (type_at Y (get_or C 0 0)) (expression_at Y N Z (y.len + 2)) (acceptor_at Y Z y.len) s.counters y.regions o₄
+                  → Used Y N I Γ Δ e s T Q o o₅ r
+              reduce_returned {Q} {o₅} {n} {r} en q₁ L q₂ =
+                  used_reduce Y N I Γ Δ s T e ks ns C S (get_or ks 0 0) (get_or C 0 0) refl q refl hy U W X o o₁ o₂ x s₁ y s₂ array_used_holds G start_used_holds E hl hr hc
+                  Z Q o₃ o₄ o₅ a n (1 + a + x.rows) w r a_is en refl q₁ round_written L q₂

@@ -2,6 +2,7 @@
 use mathlib.Core.Path.{◌≡◌}
 use mathlib.Core.List.{List}
 use Prim.Native.Nat.{ℕ, ◌≤◌, ◌<◌}
+use native.Mathlib.Omega.{arith}
 use lib.IntN.{ℤ}
 use lib.ListN.{length, get_or}
 use Rattle.row_translation.specs.WriteAndUse.{SomeTerm, Room}
@@ -18,3 +19,8 @@ pub sizes : {ks : List ℕ} {ns : List ℤ} {C Y : List ℕ} {N : List ℤ} {T :
 sizes {ks} {ns} {C} {Y} {N} {T} {s} X R =
     let b = bounds ks ns C Y N T s X.inputs X.variables X.expressions X.term X.stands in
     (b.0, b.1, b.2, b.3, R.plan, typed ks ns C Y N T s X.inputs X.variables X.expressions X.term X.stands, R.types.few)
+
+-- the rows from one of them on
+pub from_asks : (ks : List ℕ) (ns : List ℤ) (C Y : List ℕ) (N : List ℤ) {at : ℕ} → Sizes ks ns C Y N → at ≤ length ks
+    → (at ≤ length ks) × (at ≤ length ns) × (at ≤ length C)
+from_asks ks ns C Y N b h = (h, omega (arith, b.1, h), omega (arith, b.2, h))

@@ -19,13 +19,13 @@ use Rattle.syntax.specs.Standing.{term_kind, operand_count, first_operand, secon
 use Rattle.syntax.proofs.Standing.{rows_of_two, no_leaf}
 use Rattle.syntax.proofs.Front.{part}
 use Rattle.type_table.specs.Table.{type_at, Sound}
-use Rattle.emission.specs.Table.{Table, table}
+use Rattle.emission.specs.Table.{Table}
 use Rattle.emission.specs.Growth.{Grown}
 use Rattle.emission.specs.Laws.Growth.{grown_none, grown_more}
 use Rattle.emission.specs.Laws.Assign.{both_grown}
 use Rattle.words.specs.Groups.{is_leaf, is_map}
 use Rattle.clauses.specs.Clauses.{is_paired, is_regrouped, region_node, IntoPart, MapEntered}
-use Rattle.row_translation.specs.WriteAndUse.{Stands, ReadyToUse, ReadyToWrite, Room, nodes_used, nodes_written, Used, Written}
+use Rattle.row_translation.specs.WriteAndUse.{Stands, ReadyToUse, ReadyToWrite, Room, nodes_used, nodes_written, Used, Written, Uses, Writes}
 use Rattle.row_translation.specs.Laws.Kinds.{MapTerm, map_term, PairedTerm, paired_term, RegroupedTerm, regrouped_term}
 use Rattle.row_translation.specs.Laws.Calls.{regions_few_holds, room_on, stands_in_part, stands_in_second}
 use Rattle.row_translation.specs.Laws.Ranges.{map_fits}
@@ -34,12 +34,9 @@ use Rattle.clauses.specs.declared.State.{State}
 use Rattle.clauses.specs.declared.Translated.{Translated}
 use Rattle.row_translation.proofs.TermRows.{some_rows}
 use Rattle.row_translation.proofs.Calls as calls
-use Rattle.row_translation.proofs.Calls.{Uses, Writes, ready_use, ready_write}
+use Rattle.row_translation.proofs.Calls.{ready_use, ready_write}
 
--- the end of the rows, and the kind of a part, named otherwise
-pub same_end : {K : List ℕ} {M : List ℤ} {i j : ℕ} → i ≡ j → table K M i ≡ table K M j
-same_end {K} {M} q = ap (table K M) q
-
+-- the kind of a part, named otherwise
 pub into_same : {T U : List ℕ} {i j n P m : ℕ} {s r : State} → i ≡ j → IntoPart T U i n P m s r → IntoPart T U j n P m s r
 into_same {T} {U} {n = n} {P = P} {m = m} {s = s} {r = r} q F = subst (λ (k : ℕ). IntoPart T U k n P m s r) q F
 
@@ -75,10 +72,10 @@ module _ (ks : List ℕ) (ns : List ℤ) (C Y : List ℕ) (N : List ℤ) (T : Li
 
     pub assign_asks : (target : ℕ) → target < s.len → {U : List ℕ} {o o' : Table} {r : Translated} → Uses ks ns C Y N s T U o o' r
         → Sound Y (length Y) × (get_or C 0 0 < length Y) × (r.value < r.len) × (target < r.len) × (r.len + 2 * levels (type_at Y (get_or C 0 0)) ≤ 1024)
-        × (s.counters + levels (type_at Y (get_or C 0 0)) < 65536) × (length U ≡ 1024)
+        × (s.counters + levels (type_at Y (get_or C 0 0)) < 65536)
     assign_asks target ht H =
         let A = H I Γ Δ e S in
-        (R.types, typed, A.below, omega (arith, ht, A.more), omega (arith, R.nodes, A.few, no_node, few_levels R.types), omega (arith, R.counters, few_levels R.types), A.grown.size)
+        (R.types, typed, A.below, omega (arith, ht, A.more), omega (arith, R.nodes, A.few, no_node, few_levels R.types), omega (arith, R.counters, few_levels R.types))
 
   -- the words tell which terms these are
   pub paired_node : is_paired (get_or ks 0 0) ≡ true → (is_leaf (get_or ks 0 0) ≡ false) × (region_node (term_kind e) ≡ 0)
@@ -110,9 +107,9 @@ module _ (ks : List ℕ) (ns : List ℤ) (C Y : List ℕ) (N : List ℤ) (T : Li
         (omega arith) (omega (arith, n, fewer)) (omega (arith, n, fewer)) (omega (arith, n, fewer)))
 
     -- the body of a map that is written, where the element is entered
-    module _ {U : List ℕ} {o : Table} {K : List ℕ} {M : List ℤ} {r : Translated} (H : Uses (part 1 ks) (part 1 ns) (part 1 C) Y N s T U o (table K M r.to) r)
+    module _ {U : List ℕ} {o o₁ : Table} {r : Translated} (H : Uses (part 1 ks) (part 1 ns) (part 1 C) Y N s T U o o₁ r)
         (hm : is_map (get_or ks 0 0) ≡ true) (target : ℕ) (ht : target < s.len) where
-      array_used_holds : Used Y N I Γ Δ (first_operand e) s T U o (table K M r.to) r
+      array_used_holds : Used Y N I Γ Δ (first_operand e) s T U o o₁ r
       array_used_holds = calls.first_used ks ns C Y N T s I Γ Δ e S l H
 
       map : MapTerm I e
@@ -128,7 +125,7 @@ module _ (ks : List ℕ) (ns : List ℤ) (C Y : List ℕ) (N : List ℤ) (T : Li
       map_reach = omega (arith, array_used_holds.passed, map_rows, bounds, some_rows (second_operand e))
 
       pub enter_map_asks : Room (nodes_written e) Y N T s → Sound Y (length Y) × (get_or C 0 0 < length Y) × (r.value < r.len) × (target < r.len) × (r.len + 2 ≤ 1024)
-          × (s.counters < 65535) × (s.count < 16) × (length s.variables ≡ 16) × (length U ≡ 1024)
+          × (s.counters < 65535) × (s.count < 16)
       enter_map_asks R = (
         R.types,
         typed,
@@ -137,14 +134,12 @@ module _ (ks : List ℕ) (ns : List ℤ) (C Y : List ℕ) (N : List ℤ) (T : Li
         omega (arith, R.nodes, array_used_holds.few, map_rows, node),
         omega (arith, R.counters),
         map_fits ks ns C Y N T s I Γ Δ e S (get_or ks 0 0) (as_natural (get_or ns 0 (pos 0))) refl refl hm,
-        S.variables.long,
-        array_used_holds.grown.size,
       )
 
       module _ {W : List ℕ} {s' : State} (E : MapEntered U W target s r s') (hl : r.len + 2 ≤ 1024) (hc : s.counters < 65535) (hv : s.count < 16) where
         pub body_here : Stands (part (1 + r.rows) ks) (part (1 + r.rows) ns) (part (1 + r.rows) C) Y N W s' I
             (element (type_of I Γ (first_operand e)) ∷ Γ) (Expression.index (expression_of I (first_operand e) Γ Δ s.regions) (Offset.counter s.counters) ∷ Δ) (second_operand e)
-        body_here = map_body Y N I Γ Δ s T target ht e ks ns C S (get_or ks 0 0) refl o U W K M r s' array_used_holds E hl hc hm hv
+        body_here = map_body Y N I Γ Δ s T target ht e ks ns C S (get_or ks 0 0) refl o U W o₁ r s' array_used_holds E hl hc hm hv
 
         pub body_asks : Room (nodes_written e) Y N T s → (r.len + 1 < s'.len) × ReadyToWrite (part (1 + r.rows) ks) (part (1 + r.rows) ns) (part (1 + r.rows) C) Y N W s'
         body_asks R =
@@ -166,8 +161,8 @@ module _ (ks : List ℕ) (ns : List ℤ) (C Y : List ℕ) (N : List ℤ) (T : Li
 
     -- operands that are written into parts of the place
     module _ (target : ℕ) (ht : target < s.len) where
-      pub into_asks : Room (nodes_written e) Y N T s → (target < s.len) × (s.len < 1024) × (length T ≡ 1024)
-      into_asks R = (ht, omega (arith, R.nodes), R.size)
+      pub into_asks : Room (nodes_written e) Y N T s → (target < s.len) × (s.len < 1024)
+      into_asks R = (ht, omega (arith, R.nodes))
 
       module _ {U : List ℕ} {i n : ℕ} {s₁ : State} (F : IntoPart T U i n target s.len s s₁) where
         pub part_here : Stands (part 1 ks) (part 1 ns) (part 1 C) Y N U s₁ I Γ Δ (first_operand e)
@@ -198,9 +193,9 @@ module _ (ks : List ℕ) (ns : List ℤ) (C Y : List ℕ) (N : List ℤ) (T : Li
             pub paired_reach : 1 + r.rows < length ks
             paired_reach = omega (arith, part_written.passed, paired_rows, bounds, some_rows (second_operand e))
 
-            pub into_second_asks : Room (nodes_written e) Y N T s → (target < r.len) × (r.len < 1024) × (length W ≡ 1024)
+            pub into_second_asks : Room (nodes_written e) Y N T s → (target < r.len) × (r.len < 1024)
             into_second_asks R =
-                (omega (arith, ht, F.len, part_written.more), omega (arith, R.nodes, F.len, part_written.few, paired_rows, paired.no_map), part_written.grown.size)
+                (omega (arith, ht, F.len, part_written.more), omega (arith, R.nodes, F.len, part_written.few, paired_rows, paired.no_map))
 
             module _ {X : List ℕ} {j m : ℕ} {s₂ : State} (G : IntoPart W X j m target r.len s s₂) where
               pub second_part_here : Stands (part (1 + r.rows) ks) (part (1 + r.rows) ns) (part (1 + r.rows) C) Y N X s₂ I Γ Δ (second_operand e)

@@ -12,11 +12,14 @@ use Rattle.syntax.specs.Standing.{TermStands, term_kind}
 use Rattle.type_table.specs.Table.{Sound}
 use Rattle.type_table.specs.Columns.{Noted}
 use Rattle.emission.specs.Table.{Table, put_rows}
-use Rattle.emission.specs.References.{expression_at}
+use Rattle.emission.specs.References.{expression_at, acceptor_at}
 use Rattle.emission.specs.Growth.{Grown}
 use Rattle.clauses.specs.Clauses.{region_node}
+use Rattle.emission.specs.declared.sources.Made.{Made}
+use Rattle.emission.specs.declared.sources.Source.{Source}
 use Rattle.clauses.specs.declared.State.{State}
 use Rattle.clauses.specs.declared.Translated.{Translated}
+use Rattle.row_translation.specs.declared.terms.TermRows.{TermRows}
 
 -- The variables' nodes read Δ, innermost first.
 pub record Variables (Y : List ℕ) (N : List ℤ) (T : List ℕ) (s : State) (Δ : List Expression) : Type 0 where
@@ -98,3 +101,28 @@ pub record Written (Y : List ℕ) (N : List ℤ) (I Γ : List DataType) (Δ : Li
   pub grown : Grown T U s.len
   pub more : s.len ≤ r.len
   pub few : r.len + region_node (term_kind e) ≤ s.len + 3 * length (term_rows e)
+
+-- [6.2] Whichever term stands in front, this is what a use of it, or a write of it into P, gives.
+abbrev pub Uses : List ℕ → List ℤ → List ℕ → List ℕ → List ℤ → State → List ℕ → List ℕ → Table → Table → Translated → Type 0
+Uses ks ns C Y N s T U o o' r =
+    (I Γ : List DataType) (Δ : List Expression) (e : Term) → Stands ks ns C Y N T s I Γ Δ e → Used Y N I Γ Δ e s T U o o' r
+
+abbrev pub Writes : List ℕ → List ℤ → List ℕ → List ℕ → List ℤ → Acceptor → State → List ℕ → List ℕ → Table → Table → Translated → Type 0
+Writes ks ns C Y N P s T U o o' r =
+    (I Γ : List DataType) (Δ : List Expression) (e : Term) → Stands ks ns C Y N T s I Γ Δ e → Written Y N I Γ Δ e P s T U o o' r
+
+-- The same of the rows, the types and the numbers that the code is handed.
+abbrev pub UseReady : TermRows → Source → List ℕ → State → Type 0
+UseReady t Z T s = ReadyToUse t.kinds.now t.numbers.now t.column.now Z.types.now Z.plan.now T s
+
+abbrev pub WriteReady : TermRows → Source → List ℕ → State → Type 0
+WriteReady t Z T s = ReadyToWrite t.kinds.now t.numbers.now t.column.now Z.types.now Z.plan.now T s
+
+abbrev pub UseMade : TermRows → Source → State → Made → Made → Translated → Type 0
+UseMade t Z s m m' r =
+    Uses t.kinds.now t.numbers.now t.column.now Z.types.now Z.plan.now s m.references m'.references m.rows m'.rows r
+
+abbrev pub WriteMade : TermRows → Source → ℕ → State → Made → Made → Translated → Type 0
+WriteMade t Z target s m m' r =
+    Writes t.kinds.now t.numbers.now t.column.now Z.types.now Z.plan.now (acceptor_at Z.types.now m.references target) s m.references m'.references
+    m.rows m'.rows r

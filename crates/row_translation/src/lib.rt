@@ -3,5 +3,6 @@
 #![tactic(auto)]
 
 mod reductions;
+pub mod terms;
 mod uses;
 pub mod writes;

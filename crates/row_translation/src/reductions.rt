@@ -1,14 +1,13 @@
 // Using a reduction: [6.14].
-ghost use Rattle.std.specs.Prelude.{◌≡◌, List, ◌≤◌, length, get_or};
+ghost use Rattle.std.specs.Prelude.{◌≡◌, ◌≤◌, length, get_or};
 ghost use Rattle.words.specs.Kinds.{word_redseq};
-ghost use Rattle.meaning.specs.Types.{DataType};
-ghost use Rattle.meaning.specs.Terms.{Term};
-ghost use Rattle.meaning.specs.Expressions.{Expression};
-ghost use Rattle.emission.specs.Table.{table};
-ghost use Rattle.row_translation.specs.WriteAndUse.{SomeRows, CountsRows, ReadyToUse, Stands, Used};
+ghost use Rattle.row_translation.specs.WriteAndUse.{SomeRows, CountsRows, UseReady, UseMade};
 
+use crate::terms::TermRows;
 use crate::{uses, writes};
+use clauses::bodies::Reduction;
 use clauses::{State, Translated, bodies};
+use emission::sources::{Made, Source};
 use words::groups::{has_one_operand, is_leaf};
 use words::kinds::*;
 
@@ -35,86 +34,26 @@ fn rows_of(kinds: &[u8]) -> usize
 // [6.14] The array is used, then the start, then come the rounds. The start's rows are the first behind its own, the array's next.
 #[cycle(use_reduce_use_term_write_map_write_term)]
 pub fn use_reduce(
-    kinds: &[u8],
-    numbers: &[i32],
-    column: &[u16],
-    types: &[u64],
-    plan: &[i32],
-    references: &mut [u64; 1024],
-    outkinds: &mut [u8; 4096],
-    outnumbers: &mut [i32; 4096],
+    term: TermRows<'_>,
+    source: Source<'_>,
+    made: &mut Made,
     state: State,
 ) -> Translated
-    requires { (get_or kinds.now 0 0 ≡ word_redseq) × ReadyToUse kinds.now numbers.now column.now types.now plan.now references.old state }
-    ensures { (I Γ : List DataType) (Δ : List Expression) (e : Term)
-        → Stands kinds.now numbers.now column.now types.now plan.now references.old state I Γ Δ e
-        → Used types.now plan.now I Γ Δ e state references.old
-        references.new (table outkinds.old outnumbers.old state.to) (table
-        outkinds.new outnumbers.new result.to) result }
+    requires { (get_or term.kinds.now 0 0 ≡ word_redseq) × UseReady term source made.old.references state }
+    ensures { UseMade term.entry source.entry state made.old made.new result }
 {
-    let place = column[0] as usize;
     let first = 1;
-    let from = first + rows_of(&kinds[first..]);
-    let array = uses::use_term(
-        &kinds[from..],
-        &numbers[from..],
-        &column[from..],
-        types,
-        plan,
-        references,
-        outkinds,
-        outnumbers,
-        state,
-    );
+    let from = first + rows_of(&term.kinds[first..]);
+    let array = uses::use_term(term.from(from), source, made, state);
     let behind = clauses::after_use(state, array);
-    let start = uses::use_term(
-        &kinds[first..],
-        &numbers[first..],
-        &column[first..],
-        types,
-        plan,
-        references,
-        outkinds,
-        outnumbers,
-        behind,
-    );
-    let rounds = clauses::array_length(types, column[from] as usize);
-    let inside = bodies::enter_reduction(
-        types,
-        plan,
-        references,
-        outkinds,
-        outnumbers,
-        place,
-        rounds,
-        array.value,
-        state,
-        start,
-    );
+    let start = uses::use_term(term.from(first), source, made, behind);
+    let reduction = Reduction {
+        place: term.place_at(0),
+        rounds: clauses::array_length(source.types, term.place_at(from)),
+        array: array.value,
+    };
+    let inside = bodies::enter_reduction(source, made, reduction, state, start);
     let at = from + array.rows;
-    let body = writes::write_term(
-        &kinds[at..],
-        &numbers[at..],
-        &column[at..],
-        types,
-        plan,
-        references,
-        outkinds,
-        outnumbers,
-        start.len + 2,
-        inside,
-    );
-    bodies::leave_reduction(
-        types,
-        plan,
-        references,
-        outkinds,
-        outnumbers,
-        place,
-        start.len,
-        state.counters,
-        start.regions,
-        at,
-        body,
-    )
+    let body = writes::write_term(term.from(at), source, made, start.len + 2, inside);
+    bodies::leave_reduction(source, made, reduction.place, state, start, at, body)
 }

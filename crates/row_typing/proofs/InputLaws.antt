@@ -27,8 +27,10 @@ use Rattle.typing.specs.Check.{Verdict, typed, refused, after_operand, behind_ty
 use Rattle.type_rules.specs.Rules.{Found, Grown, Room}
 use Rattle.row_typing.specs.Terms.{TypeStands}
 use Rattle.row_typing.specs.Typed.{PlanStands, InputsTyped, InputsFound}
-use Rattle.type_rules.specs.declared.Typing.{Typing}
-use Rattle.type_rules.specs.declared.Typing.TheVariants.{Typed, Refused}
+use Rattle.std.specs.Prelude.{Result, Ok, Err}
+use Rattle.type_rules.specs.declared.Typed.{Typed}
+use Rattle.row_typing.specs.declared.inputs.TypedInputs.{TypedInputs}
+use Rattle.type_rules.specs.Rules.{type_found}
 use Rattle.type_rules.proofs.Found.{was_typed, was_refused}
 use Rattle.row_typing.proofs.TypeLaws.{spelt}
 use Rattle.row_typing.proofs.NotedLaws.{names_on}
@@ -130,8 +132,8 @@ inputs_start T U D J A size = record {
 }
 
 -- an answer said of the table before the type of numbers was put in it
-pub inputs_found : (T U X D : List ℕ) (P : Plan) (r : Typing) → length U ≡ length T → InputsFound U X D P r → InputsFound T X D P r
-inputs_found T U X D P (Typed p row len) e F = (
+pub inputs_found : (T U X : List ℕ) (P : Plan) (r : Result TypedInputs Refusal) → length U ≡ length T → InputsFound U X P r → InputsFound T X P r
+inputs_found T U X P (Ok f) e F = (
   record {
     sound = F.0.sound;
     some = F.0.some;
@@ -144,7 +146,7 @@ inputs_found T U X D P (Typed p row len) e F = (
   },
   F.1,
 )
-inputs_found T U X D P (Refused q) e F = F
+inputs_found T U X P (Err q) e F = F
 
 module _ (ks : List ℕ) (ns : List ℤ) (sizes : length ks ≡ length ns) (few : length ks ≤ 256) (P : Plan) (S : PlanStands ks ns P) where
   head : (get_or ks 0 0 ≡ word_plan) × (get_or ns 0 (pos 0) ≡ pos (length P.inputs))
@@ -182,7 +184,7 @@ module _ (ks : List ℕ) (ns : List ℤ) (sizes : length ks ≡ length ns) (few 
       few = omega (arith, R.typed.few, part_length row ks);
     }
 
-    pub inputs_end : length P.inputs ≤ i → InputsFound T U D P (Typed 0 row len)
+    pub inputs_end : length P.inputs ≤ i → InputsFound T U P (Ok (record { places = D; row = row; len = len }))
     inputs_end h =
         let k : i ≡ length P.inputs = omega (arith, R.count) in (
           subst (λ (n : ℕ). InputsTyped T U D P.inputs n row len) k R.typed,
@@ -205,14 +207,12 @@ module _ (ks : List ℕ) (ns : List ℤ) (sizes : length ks ≡ length ns) (few 
           R.goes v ∙ check_at P.inputs i (row + 1) v more
           ∙ ap (λ (x : Verdict). after_operand x (λ u. check_types (drop (suc i) P.inputs) (behind_type (get_or P.inputs i number) (row + 1)) v)) h
 
-      module _ (X : List ℕ) (r : Typing) (F : (t : DataType) → TypeStands (part row ks) (part row ns) t
+      module _ (X : List ℕ) (r : Result Typed Refusal) (F : (t : DataType) → TypeStands (part row ks) (part row ns) t
           → Found U len X (len + length (type_rows t)) (length (type_rows t)) (check_type t (row + 1)) r) where
-        pub input_no : (E : List ℕ) (q : Refusal) → r ≡ Refused q → InputsFound T X E P r
-        input_no E q h =
-            subst (InputsFound T X E P) (sym h)
-            (λ v. next v (refused q) (was_refused U len X _ _ _ h (F (get_or P.inputs i number) input_stands)))
+        pub input_no : (q : Refusal) → r ≡ Err q → (v : Verdict) → check_types P.inputs 2 v ≡ refused q
+        input_no q h = λ v. next v (refused q) (was_refused U len X _ _ _ h (F (get_or P.inputs i number) input_stands))
 
-        module _ (p a l : ℕ) (h : r ≡ Typed p a l) where
+        module _ (p a l : ℕ) (h : r ≡ type_found p a l) where
           found : (check_type (get_or P.inputs i number) (row + 1) ≡ typed (type_at X p)) × (a ≡ length (type_rows (get_or P.inputs i number))) × (p < l)
               × (l ≤ len + length (type_rows (get_or P.inputs i number))) × Grown U len X l
           found = was_typed U len X _ _ _ h (F (get_or P.inputs i number) input_stands)

@@ -16,94 +16,79 @@ use Rattle.typing.specs.Check.{Verdict, typed, refused, check, check_types, chec
 use Rattle.row_typing.specs.Terms.{Stands, Place, TermFound}
 use Rattle.row_typing.specs.Typed.{PlanStands, PlanTyped, PlanRoom, PlanAnswered, InputsTyped, InputsFound}
 use Rattle.row_typing.specs.declared.TypedPlan.{TypedPlan}
-use Rattle.type_rules.specs.declared.Typing.{Typing}
-use Rattle.type_rules.specs.declared.Typing.TheVariants.{Typed, Refused}
+use Rattle.std.specs.Prelude.{Result, Ok, Err}
+use Rattle.type_rules.specs.declared.Typed.{Typed}
+use Rattle.row_typing.specs.declared.inputs.TypedInputs.{TypedInputs}
 use Rattle.row_typing.proofs.NotedLaws.{names_on}
 use Rattle.row_typing.proofs.TermAnswers.{at_line}
 use Rattle.row_typing.proofs.InputLaws.{rows_all, rows_behind, rows_count}
 
 -- the answer, of one plan
-abbrev PlanFound : List ℕ → List ℕ → List ℕ → List ℕ → Plan → List ℕ → ℕ → Typing → Type 0
-PlanFound T C U D P I r (Typed p a l) = (t : DataType) × (check_plan P ≡ typed t) × PlanTyped T C U D P t I r p l
-PlanFound T C U D P I r (Refused q) = check_plan P ≡ refused q
+abbrev PlanFound : List ℕ → List ℕ → List ℕ → List ℕ → Plan → Result TypedPlan Refusal → Type 0
+PlanFound T C U D P (Ok f) = (t : DataType) × (check_plan P ≡ typed t) × PlanTyped T C U D P t f.inputs f.row f.term.place f.term.len
+PlanFound T C U D P (Err q) = check_plan P ≡ refused q
 
-different : {A : Type 0} {v : Verdict} {t : DataType} {q : Refusal} → v ≡ typed t → v ≡ refused q → A
-different e f = absurd (let z : ◌≡◌ {A = ℕ} 0 1 = cc in omega arith)
-
-same_type_holds : {v : Verdict} {s t : DataType} → v ≡ typed s → v ≡ typed t → s ≡ t
-same_type_holds e f = cc
-
-same_refusal : {v : Verdict} {p q : Refusal} → v ≡ refused p → v ≡ refused q → p ≡ q
-same_refusal e f = cc
-
-unlike : {q : Refusal} {p a l : ℕ} → Refused q ≡ Typed p a l → ◌≡◌ {A = ℕ} 0 1
-unlike e = cc
-
-same_answer : {p q : Refusal} → Refused p ≡ Refused q → p ≡ q
-same_answer e = cc
-
-alike : {p a l i b j : ℕ} → Typed p a l ≡ Typed i b j → (p ≡ i) × (l ≡ j)
-alike e = (cc, cc)
-
-plan_answered : (ks : List ℕ) (ns : List ℤ) (T C U D I : List ℕ) (r : ℕ) (x : Typing) → ((P : Plan) → PlanStands ks ns P → PlanFound T C U D P I r x)
-    → PlanAnswered ks ns T C U D (record { inputs = I; row = r; typing = x })
-plan_answered ks ns T C U D I r (Typed p a l) F = record {
-  no = λ P q S h. different (F P S).1 h;
-  yes = λ P t S h. (p, a, l, refl, subst (λ (s : DataType). PlanTyped T C U D P s I r p l) (same_type_holds (F P S).1 h) (F P S).2);
+plan_answered : (ks : List ℕ) (ns : List ℤ) (T C U D : List ℕ) (x : Result TypedPlan Refusal) → ((P : Plan) → PlanStands ks ns P → PlanFound T C U D P x)
+    → PlanAnswered ks ns T C U D x
+plan_answered ks ns T C U D (Ok f) F = record {
+  no = λ P q S h. absurd (let a = (F P S).1 in cc);
+  yes = λ P t S h.
+      let e : (F P S).0 ≡ t = let a = (F P S).1 in cc in
+      (f, refl, subst (λ (s : DataType). PlanTyped T C U D P s f.inputs f.row f.term.place f.term.len) e (F P S).2);
 }
-plan_answered ks ns T C U D I r (Refused q) F = record {
-  no = λ P p S h. ap Refused (same_refusal (F P S) h);
-  yes = λ P t S h. different h (F P S);
+plan_answered ks ns T C U D (Err q) F = record {
+  no = λ P p S h. let a = F P S in cc;
+  yes = λ P t S h. absurd (let a = F P S in cc);
 }
 
 -- what the answer tells, taken apart
-module _ (ks : List ℕ) (ns : List ℤ) (T C U D : List ℕ) (r : TypedPlan) (A : PlanAnswered ks ns T C U D r) (P : Plan) (S : PlanStands ks ns P) where
-  pub plan_refused : (q : Refusal) → r.typing ≡ Refused q → check_plan P ≡ refused q
+module _ (ks : List ℕ) (ns : List ℤ) (T C U D : List ℕ) (r : Result TypedPlan Refusal) (A : PlanAnswered ks ns T C U D r) (P : Plan) (S : PlanStands ks ns P) where
+  pub plan_refused : (q : Refusal) → r ≡ Err q → check_plan P ≡ refused q
   plan_refused q h = go (check_plan P) refl
     where
       go : (v : Verdict) → check_plan P ≡ v → v ≡ refused q
-      go (typed t) e = let y = A.yes P t S e in absurd (let z : ◌≡◌ {A = ℕ} 0 1 = unlike (sym h ∙ y.3) in omega arith)
-      go (refused p) e = ap refused (same_answer (sym (A.no P p S e) ∙ h))
+      go (typed t) e = absurd (let y = (A.yes P t S e).1 in cc)
+      go (refused p) e = let y = A.no P p S e in cc
 
-  pub plan_typed : (p a l : ℕ) → r.typing ≡ Typed p a l → (t : DataType) × (check_plan P ≡ typed t) × PlanTyped T C U D P t r.inputs r.row p l
-  plan_typed p a l h = go (check_plan P) refl
+  pub plan_typed : (f : TypedPlan) → r ≡ Ok f → (t : DataType) × (check_plan P ≡ typed t) × PlanTyped T C U D P t f.inputs f.row f.term.place f.term.len
+  plan_typed f h = go (check_plan P) refl
     where
-      go : (v : Verdict) → check_plan P ≡ v → (t : DataType) × (check_plan P ≡ typed t) × PlanTyped T C U D P t r.inputs r.row p l
+      go : (v : Verdict) → check_plan P ≡ v → (t : DataType) × (check_plan P ≡ typed t) × PlanTyped T C U D P t f.inputs f.row f.term.place f.term.len
       go (typed t) e =
           let y = A.yes P t S e in
-          let k = alike (sym y.3 ∙ h) in
-          (t, e, subst (λ (i : ℕ). PlanTyped T C U D P t r.inputs r.row i l) k.0 (subst (λ (i : ℕ). PlanTyped T C U D P t r.inputs r.row y.0 i) k.1 y.4))
-      go (refused q) e = absurd (let z : ◌≡◌ {A = ℕ} 0 1 = unlike (sym (A.no P q S e) ∙ h) in omega arith)
+          let k : y.0 ≡ f = let z = y.1 in cc in
+          (t, e, subst (λ (g : TypedPlan). PlanTyped T C U D P t g.inputs g.row g.term.place g.term.len) k y.2)
+      go (refused q) e = absurd (let y = A.no P q S e in cc)
 
-module _ (ks : List ℕ) (ns : List ℤ) (T C : List ℕ) (M : PlanRoom ks ns T C) (U D : List ℕ) (r : Typing)
-    (F : (P : Plan) → PlanStands ks ns P → InputsFound T U D P r) where
-  pub inputs_no : (q : Refusal) (X E : List ℕ) (row : ℕ) → r ≡ Refused q → PlanAnswered ks ns T C X E (record { inputs = D; row = row; typing = r })
+module _ (ks : List ℕ) (ns : List ℤ) (T C : List ℕ) (M : PlanRoom ks ns T C) (U : List ℕ) (r : Result TypedInputs Refusal)
+    (F : (P : Plan) → PlanStands ks ns P → InputsFound T U P r) where
+  pub inputs_no : (q : Refusal) (X E : List ℕ) (x : Result TypedPlan Refusal) → r ≡ Err q → x ≡ Err q → PlanAnswered ks ns T C X E x
   unfolding check_plan
-  inputs_no q X E row h =
-      subst (λ (x : Typing). PlanAnswered ks ns T C X E (record { inputs = D; row = row; typing = x })) (sym h)
-      (plan_answered ks ns T C X E D row (Refused q)
-      (λ P S. subst (InputsFound T U D P) h (F P S) (check P.inputs [] P.term (term_line P.inputs))))
+  inputs_no q X E x h e =
+      subst (PlanAnswered ks ns T C X E) (sym e)
+      (plan_answered ks ns T C X E (Err q)
+      (λ P S. subst (InputsFound T U P) h (F P S) (check P.inputs [] P.term (term_line P.inputs))))
 
-  module _ (p row len : ℕ) (h : r ≡ Typed p row len) where
+  module _ (f : TypedInputs) (h : r ≡ Ok f) where
     module _ (P : Plan) (S : PlanStands ks ns P) where
-      found : InputsTyped T U D P.inputs (length P.inputs) row len × ((v : Verdict) → check_types P.inputs 2 v ≡ v)
-      found = subst (InputsFound T U D P) h (F P S)
+      found : InputsTyped T U f.places P.inputs (length P.inputs) f.row f.len × ((v : Verdict) → check_types P.inputs 2 v ≡ v)
+      found = subst (InputsFound T U P) h (F P S)
 
-      term_row : row ≡ 1 + length (all_type_rows P.inputs)
+      term_row : f.row ≡ 1 + length (all_type_rows P.inputs)
       term_row = omega (arith, found.0.ends, rows_all P.inputs)
 
-      pub row_within : row ≤ length ks
+      pub row_within : f.row ≤ length ks
       row_within = omega (arith, term_row, rows_count ks ns M.sizes M.few P S)
 
       pub term_stands : (W : List ℕ) → length W ≡ 16
-          → Stands (part row ks) (part row ns) U len (record { inputs = D; variables = W; count = 0 }) P.inputs [] P.term
+          → Stands (part f.row ks) (part f.row ns) U f.len (record { inputs = f.places; variables = W; count = 0 }) P.inputs [] P.term
       unfolding all_type_rows
       term_stands W long = record {
         term = record {
-          sizes = omega (arith, part_length row ks, part_length row ns, M.sizes);
+          sizes = omega (arith, part_length f.row ks, part_length f.row ns, M.sizes);
           rest = [];
           rows =
-              rows_behind ks ns M.sizes M.few P S (length P.inputs) row found.0.ends
+              rows_behind ks ns M.sizes M.few P S (length P.inputs) f.row found.0.ends
               ∙ ap (λ (J : List DataType). all_type_rows J ++ term_rows P.term) (drop-length P.inputs) ∙ sym (append-nil (term_rows P.term));
           in_range = S.1.term;
         };
@@ -117,34 +102,37 @@ module _ (ks : List ℕ) (ns : List ℤ) (T C : List ℕ) (M : PlanRoom ks ns T 
         };
       }
 
-    pub term_place : Place (part row ks) U len C row (2 * length (part row ks))
+    pub term_place : Place (part f.row ks) U f.len C f.row (2 * length (part f.row ks))
     term_place =
         let I = (found M.plan M.stands).0 in
         let w = row_within M.plan M.stands in
         record {
           room = record {
             sound = I.sound;
-            places = omega (arith, I.size, I.few, M.types, M.few, part_length row ks);
-            few = omega (arith, I.few, M.few, part_length row ks);
+            places = omega (arith, I.size, I.few, M.types, M.few, part_length f.row ks);
+            few = omega (arith, I.few, M.few, part_length f.row ks);
           };
           some = I.some;
           number = I.first;
-          column = omega (arith, M.few, M.column, part_length row ks);
-          few = omega (arith, M.few, part_length row ks);
+          column = omega (arith, M.few, M.column, part_length f.row ks);
+          few = omega (arith, M.few, part_length f.row ks);
         }
 
-    module _ (W : List ℕ) (long : length W ≡ 16) (X E : List ℕ) (a : Typing)
-        (G : (I Γ : List DataType) (e : Term) → Stands (part row ks) (part row ns) U len (record { inputs = D; variables = W; count = 0 }) I Γ e
-        → TermFound U len C X E row I Γ e (len + 2 * length (term_rows e)) (check I Γ e (row + 1)) a) where
-      by_term : (P : Plan) (S : PlanStands ks ns P) (x : Typing)
-          → TermFound U len C X E row P.inputs [] P.term (len + 2 * length (term_rows P.term)) (check P.inputs [] P.term (row + 1)) x
-          → PlanFound T C X E P D row x
+    module _ (W : List ℕ) (long : length W ≡ 16) (X E : List ℕ) (a : Result Typed Refusal)
+        (G : (I Γ : List DataType) (e : Term) → Stands (part f.row ks) (part f.row ns) U f.len (record { inputs = f.places; variables = W; count = 0 }) I Γ e
+        → TermFound U f.len C X E f.row I Γ e (f.len + 2 * length (term_rows e)) (check I Γ e (f.row + 1)) a) where
+      on_term : (P : Plan) → PlanStands ks ns P
+          → TermFound U f.len C X E f.row P.inputs [] P.term (f.len + 2 * length (term_rows P.term)) (check P.inputs [] P.term (f.row + 1)) a
+      on_term P S = G P.inputs [] P.term (term_stands P S W long)
+
+      pub term_answered : (t : Typed) → a ≡ Ok t → PlanAnswered ks ns T C X E (Ok (record { inputs = f.places; row = f.row; term = t }))
       unfolding check_plan
-      by_term P S (Typed z b l) K =
+      term_answered t is = plan_answered ks ns T C X E (Ok (record { inputs = f.places; row = f.row; term = t })) λ P S.
+          let K = subst (TermFound U f.len C X E f.row P.inputs [] P.term (f.len + 2 * length (term_rows P.term)) (check P.inputs [] P.term (f.row + 1))) is (on_term P S) in
           let I = found P S in
           let count = rows_count ks ns M.sizes M.few P S in (
-            type_at X z,
-            I.1 _ ∙ at_line P.inputs [] P.term (typed (type_at X z)) (row + 1) (term_line P.inputs) (omega (arith, term_row P S)) K.0.0,
+            type_at X t.place,
+            I.1 _ ∙ at_line P.inputs [] P.term (typed (type_at X t.place)) (f.row + 1) (term_line P.inputs) (omega (arith, term_row P S)) K.0.0,
             record {
               sound = K.0.4.sound;
               few = omega (arith, K.0.3, I.0.few, term_row P S, count, M.few);
@@ -156,9 +144,9 @@ module _ (ks : List ℕ) (ns : List ℤ) (T C : List ℕ) (M : PlanRoom ks ns T 
               column = K.2.size;
             },
           )
-      by_term P S (Refused q) K =
-          (found P S).1 _ ∙ at_line P.inputs [] P.term (refused q) (row + 1) (term_line P.inputs) (omega (arith, term_row P S)) K
 
-      pub term_answered : PlanAnswered ks ns T C X E (record { inputs = D; row = row; typing = a })
-      term_answered =
-          plan_answered ks ns T C X E D row a (λ P S. by_term P S a (G P.inputs [] P.term (term_stands P S W long)))
+      pub term_no : (q : Refusal) (x : Result TypedPlan Refusal) → a ≡ Err q → x ≡ Err q → PlanAnswered ks ns T C X E x
+      unfolding check_plan
+      term_no q x is e = subst (PlanAnswered ks ns T C X E) (sym e) (plan_answered ks ns T C X E (Err q) λ P S.
+          let K = subst (TermFound U f.len C X E f.row P.inputs [] P.term (f.len + 2 * length (term_rows P.term)) (check P.inputs [] P.term (f.row + 1))) is (on_term P S) in
+          (found P S).1 _ ∙ at_line P.inputs [] P.term (refused q) (f.row + 1) (term_line P.inputs) (omega (arith, term_row P S)) K)

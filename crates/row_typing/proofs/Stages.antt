@@ -12,8 +12,8 @@ use Rattle.meaning.specs.Terms.{LoopKind, Term}
 use Rattle.syntax.specs.Standing.{Shape, none, one, two, three, view_of, count_in, first_in, second_in, third_in}
 use Rattle.syntax.specs.Standing.{term_kind, term_number, operand_count, first_operand, second_operand, third_operand}
 use Rattle.typing.specs.Check.{Verdict, typed, refused, sized, fitted, after_operand, behind, check, is_array, is_series, may_be_in}
-use Rattle.type_rules.specs.Rules.{unary_rule, negate_rule, split_rule, join_rule, first_rule, second_rule, index_rule, binary_rule, map_rule}
-use Rattle.type_rules.specs.Rules.{zip_rule, operation_rule, reduce_rule, opens_second, second_scope}
+use Rattle.type_rules.specs.Rules.{unary_rule, binary_rule, map_rule}
+use Rattle.type_rules.specs.Rules.{reduce_rule, opens_second, second_scope}
 
 -- The check of a row of kind k and number n with these operands, the first of which has the type s: a map over no array, [18.6] or a
 -- `mapvec` over no vector, is refused before its body is checked.
@@ -51,7 +51,6 @@ series_once : (series : Series) (I Γ : List DataType) (b : Term) (line next : �
     (after_operand (check I (element s ∷ Γ) b next) λ t. fitted line (may_be_in series t) (series_of series (array_length s) t))
     (refused (TypeMisfit line))
     ≡ cond (is_series series s) (after_operand (check I (element s ∷ Γ) b next) λ t. map_rule series line s t) (refused (TypeMisfit line))
-unfolding map_rule
 series_once series I Γ b line next s = go (is_series series s)
   where
     go : (x : Bool)
@@ -66,7 +65,7 @@ series_once series I Γ b line next s = go (is_series series s)
 
 pub first_checked : (I Γ : List DataType) (e : Term) (line : ℕ) → 1 ≤ operand_count e
     → check I Γ e line ≡ after_operand (check I Γ (first_operand e) (suc line)) (λ s. behind_one I Γ e line s)
-unfolding check behind_one_in behind_two_in unary_rule negate_rule split_rule join_rule first_rule second_rule index_rule operation_rule zip_rule reduce_rule binary_rule map_rule one_of
+unfolding check behind_one_in behind_two_in unary_rule binary_rule one_of
 first_checked I Γ (Term.input k) line h = absurd (omega arith)
 first_checked I Γ (Term.variable d) line h = absurd (omega arith)
 first_checked I Γ (Term.literal v) line h = absurd (omega arith)

@@ -20,8 +20,9 @@ use Rattle.typing.specs.Check.{Verdict, refused, check}
 use Rattle.type_rules.specs.Rules.{Found, Grown}
 use Rattle.type_rules.specs.Scopes.{InForce}
 use Rattle.row_typing.specs.Terms.{Place, Kept, TermFound, place_found, with_type}
-use Rattle.type_rules.specs.declared.Typing.{Typing}
-use Rattle.type_rules.specs.declared.Typing.TheVariants.{Typed, Refused}
+use Rattle.std.specs.Prelude.{Result, Ok, Err}
+use Rattle.type_rules.specs.declared.Typed.{Typed}
+use Rattle.type_rules.specs.Rules.{type_found}
 use Rattle.type_rules.specs.declared.scope.Scope.{Scope}
 use Rattle.type_rules.proofs.Found.{found_on, room_less, room_grown}
 use Rattle.row_typing.proofs.TermLaws.{checked_type}
@@ -86,29 +87,26 @@ kept_on K L h k = record {
 
 -- ---- what an answer tells
 
-module _ (T : List ℕ) (m : ℕ) (C U D : List ℕ) (row : ℕ) (I Γ : List DataType) (e : Term) (n : ℕ) (v : Verdict) (r : Typing) where
-  pub term_no : (q : Refusal) → r ≡ Refused q → v ≡ refused q → TermFound T m C U D row I Γ e n v r
-  term_no q h k = subst (TermFound T m C U D row I Γ e n v) (sym h) k
-
-  pub term_was_no : (q : Refusal) → r ≡ Refused q → TermFound T m C U D row I Γ e n v r → v ≡ refused q
+module _ (T : List ℕ) (m : ℕ) (C U D : List ℕ) (row : ℕ) (I Γ : List DataType) (e : Term) (n : ℕ) (v : Verdict) (r : Result Typed Refusal) where
+  pub term_was_no : (q : Refusal) → r ≡ Err q → TermFound T m C U D row I Γ e n v r → v ≡ refused q
   term_was_no q h k = subst (TermFound T m C U D row I Γ e n v) h k
 
-  pub term_was : (p a l : ℕ) → r ≡ Typed p a l → TermFound T m C U D row I Γ e n v r
-      → Found T m U n (length (term_rows e)) v (Typed p a l) × Noted U l I Γ e (drop row D) × Kept C D row (length (term_rows e))
+  pub term_was : (p a l : ℕ) → r ≡ type_found p a l → TermFound T m C U D row I Γ e n v r
+      → Found T m U n (length (term_rows e)) v (type_found p a l) × Noted U l I Γ e (drop row D) × Kept C D row (length (term_rows e))
   term_was p a l h k = subst (TermFound T m C U D row I Γ e n v) h k
 
 -- an answer behind some rows of the term, said of the table and the column before them
-pub term_on : (T : List ℕ) (m : ℕ) (C U : List ℕ) (l : ℕ) (D X E : List ℕ) (row : ℕ) (I Γ : List DataType) (e : Term) (n k i a : ℕ) (v : Verdict) (r : Typing)
+pub term_on : (T : List ℕ) (m : ℕ) (C U : List ℕ) (l : ℕ) (D X E : List ℕ) (row : ℕ) (I Γ : List DataType) (e : Term) (n k i a : ℕ) (v : Verdict) (r : Result Typed Refusal)
     → Grown T m U l → Kept C D i a → row ≤ i → i + a ≤ row + length (term_rows e) → k ≤ n
     → TermFound U l D X E row I Γ e k v r → TermFound T m C X E row I Γ e n v r
-term_on T m C U l D X E row I Γ e n k i a v (Typed p b j) G K h h' less F =
-    (found_on T m U l X k n (length (term_rows e)) v v (Typed p b j) G less refl F.0, F.1, kept_on K F.2 h h')
-term_on T m C U l D X E row I Γ e n k i a v (Refused q) G K h h' less F = F
+term_on T m C U l D X E row I Γ e n k i a v (Ok t) G K h h' less F =
+    (found_on T m U l X k n (length (term_rows e)) v v (Ok t) G less refl F.0, F.1, kept_on K F.2 h h')
+term_on T m C U l D X E row I Γ e n k i a v (Err q) G K h h' less F = F
 
 -- a place is small enough for the column
-pub place_small : (T : List ℕ) (m : ℕ) (U : List ℕ) (n rows : ℕ) (v : Verdict) (r : Typing) → Found T m U n rows v r → place_found r < 65536
-place_small T m U n rows v (Typed p a l) F = omega (arith, F.2, F.4.sound.few)
-place_small T m U n rows v (Refused q) F = omega arith
+pub place_small : (T : List ℕ) (m : ℕ) (U : List ℕ) (n rows : ℕ) (v : Verdict) (r : Result Typed Refusal) → Found T m U n rows v r → place_found r < 65536
+place_small T m U n rows v (Ok t) F = omega (arith, F.2, F.4.sound.few)
+place_small T m U n rows v (Err q) F = omega arith
 
 -- the column behind a row whose type was noted
 pub behind_set : (D : List ℕ) (row p : ℕ) → drop 1 (drop row (set D row p)) ≡ drop (row + 1) D
@@ -131,15 +129,15 @@ module _ (T : List ℕ) (m : ℕ) (C U : List ℕ) (l : ℕ) (D X : List ℕ) (r
     behind = λ i h. get_or-set_other D row i p 0 (λ q. omega (arith, some_rows e)) ∙ K.behind i h;
   }
 
-  answered : (a : Typing) → Found U l X k (length (term_rows e)) w a → TermFound T m C X (with_type D row a) row I Γ e n (check I Γ e (row + 1)) a
-  answered (Typed p b j) F = (
-    found_on T m U l X k n (length (term_rows e)) (check I Γ e (row + 1)) w (Typed p b j) G less same F,
-    note p j F.4 (omega (arith, here p, F.2), ap (type_at X) (here p) ∙ sym (checked_type I Γ e (row + 1) _ (same ∙ F.0))),
-    kept_here p,
+  answered : (a : Result Typed Refusal) → Found U l X k (length (term_rows e)) w a → TermFound T m C X (with_type D row a) row I Γ e n (check I Γ e (row + 1)) a
+  answered (Ok t) F = (
+    found_on T m U l X k n (length (term_rows e)) (check I Γ e (row + 1)) w (Ok t) G less same F,
+    note t.place t.len F.4 (omega (arith, here t.place, F.2), ap (type_at X) (here t.place) ∙ sym (checked_type I Γ e (row + 1) _ (same ∙ F.0))),
+    kept_here t.place,
   )
-  answered (Refused q) F = same ∙ F
+  answered (Err q) F = same ∙ F
 
-  pub noted_row : (a r : Typing) (E : List ℕ) (rows : ℕ) → rows ≡ length (term_rows e) → Found U l X k rows w a → r ≡ a → E ≡ with_type D row a
+  pub noted_row : (a r : Result Typed Refusal) (E : List ℕ) (rows : ℕ) → rows ≡ length (term_rows e) → Found U l X k rows w a → r ≡ a → E ≡ with_type D row a
       → TermFound T m C X E row I Γ e n (check I Γ e (row + 1)) r
   noted_row a r E rows h F f g =
       subst (TermFound T m C X E row I Γ e n (check I Γ e (row + 1))) (sym f)

@@ -26,13 +26,14 @@ use Rattle.typing.specs.Check.{typed, refused, check}
 use Rattle.type_rules.specs.Rules.{Found, Grown, Room, unary_rule}
 use Rattle.type_rules.specs.Scopes.{InForce}
 use Rattle.row_typing.specs.Terms.{Stands, Place, Kept, TermFound, FirstTyped, leaf_place, with_type}
-use Rattle.type_rules.specs.declared.Typing.{Typing}
-use Rattle.type_rules.specs.declared.Typing.TheVariants.{Typed, Refused}
+use Rattle.std.specs.Prelude.{Result, Err}
+use Rattle.type_rules.specs.declared.Typed.{Typed}
+use Rattle.type_rules.specs.Rules.{type_found}
 use Rattle.type_rules.specs.declared.scope.Scope.{Scope}
 use Rattle.type_rules.proofs.Found.{found_type, grown_same, within_sized, room_grown}
 use Rattle.row_typing.proofs.TermLaws.{first_refused, row_of_one}
 use Rattle.row_typing.proofs.NotedLaws.{noted_none, noted_one, noted_moved}
-use Rattle.row_typing.proofs.TermAnswers.{at_line, force_on, place_on, operands_within, term_no, term_was_no, term_was, term_on, behind_set, noted_row}
+use Rattle.row_typing.proofs.TermAnswers.{at_line, force_on, place_on, operands_within, term_was_no, term_was, term_on, behind_set, noted_row}
 
 -- ---- numbers in range
 
@@ -120,7 +121,7 @@ module _ (ks : List ℕ) (ns : List ℤ) (T : List ℕ) (m : ℕ) (C : List ℕ)
     pub leaf_small : (p : ℕ) → p ≡ leaf_place (get_or ks 0 0) n s → p < 65536
     leaf_small p h = omega (arith, leaf_place_holds.0, P.room.few)
 
-    pub leaf_row : (p : ℕ) (r : Typing) (E : List ℕ) → p ≡ leaf_place (get_or ks 0 0) n s → r ≡ Typed p 1 m → E ≡ with_type C row (Typed p 1 m)
+    pub leaf_row : (p : ℕ) (r : Result Typed Refusal) (E : List ℕ) → p ≡ leaf_place (get_or ks 0 0) n s → r ≡ type_found p 1 m → E ≡ with_type C row (type_found p 1 m)
         → TermFound T m C T E row I Γ e (m + 2 * length (term_rows e)) (check I Γ e (row + 1)) r
     leaf_row p r E h f g =
         let there : Names T m p (type_of I Γ e) = subst (λ (x : ℕ). Names T m x (type_of I Γ e)) (sym h) leaf_place_holds in
@@ -129,7 +130,7 @@ module _ (ks : List ℕ) (ns : List ℤ) (T : List ℕ) (m : ℕ) (C : List ℕ)
         (leaf_checked I Γ (row + 1) its_leaf within ∙ ap typed (sym there.1))
         (record { size = refl; before = λ i l. refl; behind = λ i l. refl }) row_inside
         (λ q j G N. noted_none T j I Γ (drop row (set C row q)) e N no_operand)
-        (Typed p 1 m) r E 1 (sym (rows_of_none e no_operand))
+        (type_found p 1 m) r E 1 (sym (rows_of_none e no_operand))
         (found_type T m m 1 (typed (type_at T p)) p P.room.sound there.0 (omega arith) refl) f g
 
   -- ---- the first operand
@@ -141,18 +142,17 @@ module _ (ks : List ℕ) (ns : List ℤ) (T : List ℕ) (m : ℕ) (C : List ℕ)
     operand_stands = record { term = first_stands ks ns (length I) (length Γ) e S.term has_operand; in_force = S.in_force }
 
     -- its answer
-    module _ (U D : List ℕ) (r : Typing)
+    module _ (U D : List ℕ) (r : Result Typed Refusal)
         (F : (I Γ : List DataType) (e : Term) → Stands (part 1 ks) (part 1 ns) T m s I Γ e
         → TermFound T m C U D (row + 1) I Γ e (m + 2 * length (term_rows e)) (check I Γ e (row + 1 + 1)) r) where
-      pub operand_no : (X E : List ℕ) (q : Refusal) → r ≡ Refused q → TermFound T m C X E row I Γ e (m + 2 * length (term_rows e)) (check I Γ e (row + 1)) r
-      operand_no X E q h =
-          term_no T m C X E row I Γ e (m + 2 * length (term_rows e)) (check I Γ e (row + 1)) r q h
-          (first_refused I Γ e (row + 1) q has_operand
+      pub operand_no : (q : Refusal) → r ≡ Err q → check I Γ e (row + 1) ≡ refused q
+      operand_no q h =
+          first_refused I Γ e (row + 1) q has_operand
           (at_line I Γ (first_operand e) (refused q) (row + 1 + 1) (suc (row + 1)) (omega arith)
-          (term_was_no T m C U D (row + 1) I Γ (first_operand e) _ _ r q h (F I Γ (first_operand e) operand_stands))))
+          (term_was_no T m C U D (row + 1) I Γ (first_operand e) _ _ r q h (F I Γ (first_operand e) operand_stands)))
 
-      module _ (p a l : ℕ) (h : r ≡ Typed p a l) where
-        found : Found T m U (m + 2 * length (term_rows (first_operand e))) (length (term_rows (first_operand e))) (check I Γ (first_operand e) (row + 1 + 1)) (Typed p a l)
+      module _ (p a l : ℕ) (h : r ≡ type_found p a l) where
+        found : Found T m U (m + 2 * length (term_rows (first_operand e))) (length (term_rows (first_operand e))) (check I Γ (first_operand e) (row + 1 + 1)) (type_found p a l)
             × Noted U l I Γ (first_operand e) (drop (row + 1) D) × Kept C D (row + 1) (length (term_rows (first_operand e)))
         found = term_was T m C U D (row + 1) I Γ (first_operand e) _ _ r p a l h (F I Γ (first_operand e) operand_stands)
 
@@ -197,7 +197,7 @@ module _ (ks : List ℕ) (ns : List ℤ) (T : List ℕ) (m : ℕ) (C : List ℕ)
                 grown.kept 0 P.some ∙ P.number,
               )
 
-          pub unary_row : (X : List ℕ) (answer r' : Typing) (E : List ℕ)
+          pub unary_row : (X : List ℕ) (answer r' : Result Typed Refusal) (E : List ℕ)
               → Found U l X (l + 2) (1 + a) (unary_rule (get_or ks 0 0) n (row + 1) (type_at U p)) answer → r' ≡ answer → E ≡ with_type D row answer
               → TermFound T m C X E row I Γ e (m + 2 * length (term_rows e)) (check I Γ e (row + 1)) r'
           unary_row X answer r' E F' f g =
@@ -232,7 +232,7 @@ module _ (ks : List ℕ) (ns : List ℤ) (T : List ℕ) (m : ℕ) (C : List ℕ)
           pub second_place : Place ks U l D row (2 * (suc (length ks) - (1 + a)))
           second_place = place_on (2 * length ks) _ P grown column_kept (omega (arith, few_types, operand_within))
 
-          pub second_row : (X E : List ℕ) (r' : Typing)
+          pub second_row : (X E : List ℕ) (r' : Result Typed Refusal)
               → TermFound U l D X E row I Γ e (l + 2 * (suc (length (term_rows e)) - (1 + a))) (check I Γ e (row + 1)) r'
               → TermFound T m C X E row I Γ e (m + 2 * length (term_rows e)) (check I Γ e (row + 1)) r'
           second_row X E r' F' =

@@ -20,8 +20,9 @@ use Rattle.type_table.specs.Table.{type_at, Put}
 use Rattle.typing.specs.Check.{Verdict, typed, refused, sized, check_type, after_operand}
 use Rattle.type_rules.specs.Rules.{Grown, Found, Room}
 use Rattle.row_typing.specs.Terms.{TypeStands}
-use Rattle.type_rules.specs.declared.Typing.{Typing}
-use Rattle.type_rules.specs.declared.Typing.TheVariants.{Typed, Refused}
+use Rattle.std.specs.Prelude.{Result, Err}
+use Rattle.type_rules.specs.declared.Typed.{Typed}
+use Rattle.type_rules.specs.Rules.{type_found}
 use Rattle.type_rules.proofs.Found.{found_type, found_put, found_on, was_typed, was_refused, sized_typed, grown_on}
 
 abbrev type_kind : DataType → ℕ
@@ -112,7 +113,7 @@ spelt (DataType.pair r t) line u e =
     sized_typed line (DataType.pair r t) u (after_typed (check_type t (suc line + length (type_rows r))) (λ v. sized line (DataType.pair r t)) u h.2).2
 spelt (vector w) line u e = sized_typed line (vector w) u e
 
-found_rows : (T : List ℕ) (m : ℕ) (U : List ℕ) (n a b : ℕ) (v : Verdict) (r : Typing) → a ≡ b → Found T m U n a v r → Found T m U n b v r
+found_rows : (T : List ℕ) (m : ℕ) (U : List ℕ) (n a b : ℕ) (v : Verdict) (r : Result Typed Refusal) → a ≡ b → Found T m U n a v r → Found T m U n b v r
 found_rows T m U n a b v r e F = subst (λ (x : ℕ). Found T m U n x v r) e F
 
 next_line : (t : DataType) (line : ℕ) → check_type t (suc line) ≡ check_type t (line + 1)
@@ -126,7 +127,7 @@ NotFlat k = (k ≡ word_num → ⊥) × (k ≡ word_vec → ⊥)
 
 module _ (ks : List ℕ) (ns : List ℤ) (T : List ℕ) (m line : ℕ) where
   pub number_row : (t : DataType) → TypeStands ks ns t → get_or ks 0 0 ≡ word_num → Room T m (length ks) → 1 ≤ m → type_at T 0 ≡ number
-      → Found T m T (m + length (type_rows t)) (length (type_rows t)) (check_type t line) (Typed 0 1 m)
+      → Found T m T (m + length (type_rows t)) (length (type_rows t)) (check_type t line) (type_found 0 1 m)
   unfolding type_rows check_type
   number_row number S e R h f =
       found_type T m (m + 1) 1 (sized line number) 0 R.sound h (omega arith) (ap typed (sym f))
@@ -142,7 +143,7 @@ module _ (ks : List ℕ) (ns : List ℤ) (T : List ℕ) (m line : ℕ) where
   vector_width (vector w) n S h g = subst IsWidth (sym (g ∙ ap as_natural (heads ks ns (vector w) S).1)) S.in_range
 
   pub vector_row : (t : DataType) (n : ℕ) (U : List ℕ) → TypeStands ks ns t → get_or ks 0 0 ≡ word_vec → n ≡ as_natural (get_or ns 0 (pos 0))
-      → Put T U m (vector n) → Found T m U (m + length (type_rows t)) (length (type_rows t)) (check_type t line) (Typed m 1 (m + 1))
+      → Put T U m (vector n) → Found T m U (m + length (type_rows t)) (length (type_rows t)) (check_type t line) (type_found m 1 (m + 1))
   unfolding type_rows check_type
   vector_row number n U S h g P = absurd (omega (arith, its_kind ks ns number S))
   vector_row (array k t) n U S h g P = absurd (omega (arith, its_kind ks ns (array k t) S))
@@ -157,13 +158,13 @@ module _ (ks : List ℕ) (ns : List ℤ) (T : List ℕ) (m line : ℕ) where
   first_some (vector w) S f = absurd (f.1 (its_kind ks ns (vector w) S))
 
   -- the first operand's answer
-  module _ (U : List ℕ) (r : Typing)
+  module _ (U : List ℕ) (r : Result Typed Refusal)
       (F : (u : DataType) → TypeStands (part 1 ks) (part 1 ns) u → Found T m U (m + length (type_rows u)) (length (type_rows u)) (check_type u (line + 1)) r) where
-    first_no_holds : (u : DataType) (q : Refusal) → TypeStands (part 1 ks) (part 1 ns) u → r ≡ Refused q → check_type u (suc line) ≡ refused q
+    first_no_holds : (u : DataType) (q : Refusal) → TypeStands (part 1 ks) (part 1 ns) u → r ≡ Err q → check_type u (suc line) ≡ refused q
     first_no_holds u q S e =
         next_line u line ∙ was_refused T m U (m + length (type_rows u)) (length (type_rows u)) (check_type u (line + 1)) e (F u S)
 
-    pub refused_first : (t : DataType) (q : Refusal) → TypeStands ks ns t → NotFlat (get_or ks 0 0) → r ≡ Refused q → check_type t line ≡ refused q
+    pub refused_first : (t : DataType) (q : Refusal) → TypeStands ks ns t → NotFlat (get_or ks 0 0) → r ≡ Err q → check_type t line ≡ refused q
     unfolding check_type
     refused_first number q S f e = absurd (f.0 (its_kind ks ns number S))
     refused_first (array n t) q S f e =
@@ -173,7 +174,7 @@ module _ (ks : List ℕ) (ns : List ℤ) (T : List ℕ) (m line : ℕ) where
         (first_no_holds s q (first_stands ks ns s t S) e)
     refused_first (vector w) q S f e = absurd (f.1 (its_kind ks ns (vector w) S))
 
-    module _ (p a l : ℕ) (e : r ≡ Typed p a l) where
+    module _ (p a l : ℕ) (e : r ≡ type_found p a l) where
       first_typed : (u : DataType) → TypeStands (part 1 ks) (part 1 ns) u
           → (u ≡ type_at U p) × (check_type u (suc line) ≡ typed (type_at U p)) × (a ≡ length (type_rows u)) × (p < l) × (l ≤ m + length (type_rows u)) × Grown T m U l
       first_typed u S =
@@ -196,7 +197,7 @@ module _ (ks : List ℕ) (ns : List ℤ) (T : List ℕ) (m line : ℕ) where
       count_bounds (DataType.pair s u) n S h g = absurd (omega (arith, its_kind ks ns (DataType.pair s u) S))
       count_bounds (vector w) n S h g = absurd (omega (arith, its_kind ks ns (vector w) S))
 
-      pub array_row : (t : DataType) (n : ℕ) (X : List ℕ) (r' : Typing) → TypeStands ks ns t → get_or ks 0 0 ≡ word_arr → n ≡ as_natural (get_or ns 0 (pos 0))
+      pub array_row : (t : DataType) (n : ℕ) (X : List ℕ) (r' : Result Typed Refusal) → TypeStands ks ns t → get_or ks 0 0 ≡ word_arr → n ≡ as_natural (get_or ns 0 (pos 0))
           → Found U l X (l + 1) (1 + a) (sized line (array n (type_at U p))) r'
           → Found T m X (m + length (type_rows t)) (length (type_rows t)) (check_type t line) r'
       unfolding type_rows check_type
@@ -221,10 +222,10 @@ module _ (ks : List ℕ) (ns : List ℤ) (T : List ℕ) (m line : ℕ) where
       second_some (vector w) S f g = absurd (f.1 (its_kind ks ns (vector w) S))
 
       -- the second operand's answer, on a line behind the first's rows
-      module _ (X : List ℕ) (r' : Typing) (line' : ℕ) (at : line' ≡ suc line + a)
+      module _ (X : List ℕ) (r' : Result Typed Refusal) (line' : ℕ) (at : line' ≡ suc line + a)
           (G : (u : DataType) → TypeStands (part (1 + a) ks) (part (1 + a) ns) u
           → Found U l X (l + length (type_rows u)) (length (type_rows u)) (check_type u line') r') where
-        pub refused_second : (t : DataType) (q : Refusal) → TypeStands ks ns t → NotFlat (get_or ks 0 0) → (get_or ks 0 0 ≡ word_arr → ⊥) → r' ≡ Refused q
+        pub refused_second : (t : DataType) (q : Refusal) → TypeStands ks ns t → NotFlat (get_or ks 0 0) → (get_or ks 0 0 ≡ word_arr → ⊥) → r' ≡ Err q
             → check_type t line ≡ refused q
         unfolding check_type
         refused_second number q S f g h = absurd (f.0 (its_kind ks ns number S))
@@ -238,7 +239,7 @@ module _ (ks : List ℕ) (ns : List ℤ) (T : List ℕ) (m line : ℕ) where
             ∙ was_refused U l X (l + length (type_rows t)) (length (type_rows t)) (check_type t line') h (G t (second_stands ks ns s t a S w.2)))
         refused_second (vector w) q S f g h = absurd (f.1 (its_kind ks ns (vector w) S))
 
-        module _ (p' b l' : ℕ) (h : r' ≡ Typed p' b l') where
+        module _ (p' b l' : ℕ) (h : r' ≡ type_found p' b l') where
           second_typed : (u : DataType) → TypeStands (part (1 + a) ks) (part (1 + a) ns) u
               → (u ≡ type_at X p') × (check_type u line' ≡ typed (type_at X p')) × (b ≡ length (type_rows u)) × (p' < l') × (l' ≤ l + length (type_rows u)) × Grown U l X l'
           second_typed u S =
@@ -254,7 +255,7 @@ module _ (ks : List ℕ) (ns : List ℤ) (T : List ℕ) (m line : ℕ) where
               let k = rows_within (part (1 + a) ks) (part (1 + a) ns) o.0 o.1 in
               (omega (arith, w.2, k, part_length (1 + a) ks, c.0), omega (arith, c.1, w.5.more), w.3, omega (arith, w.2, w.4, c.2), grown_on c.3 w.5)
 
-          pub pair_row : (t : DataType) (Y : List ℕ) (r'' : Typing) → TypeStands ks ns t → NotFlat (get_or ks 0 0) → (get_or ks 0 0 ≡ word_arr → ⊥)
+          pub pair_row : (t : DataType) (Y : List ℕ) (r'' : Result Typed Refusal) → TypeStands ks ns t → NotFlat (get_or ks 0 0) → (get_or ks 0 0 ≡ word_arr → ⊥)
               → Found X l' Y (l' + 1) (1 + a + b) (sized line (DataType.pair (type_at X p) (type_at X p'))) r''
               → Found T m Y (m + length (type_rows t)) (length (type_rows t)) (check_type t line) r''
           unfolding type_rows check_type
@@ -273,3 +274,7 @@ module _ (ks : List ℕ) (ns : List ℤ) (T : List ℕ) (m line : ℕ) where
               ∙ ap₂ (λ (x y : DataType). sized line (DataType.pair x y)) (v.0 ∙ sym (w.5.kept p v.3)) w.0)
               F')
           pair_row (vector w) Y r'' S f g F' = absurd (f.1 (its_kind ks ns (vector w) S))
+
+-- the rows in front are a type's
+pub type_there : {ks : List ℕ} {ns : List ℤ} → (t : DataType) × TypeStands ks ns t → (1 ≤ length ks) × (length ks ≡ length ns)
+type_there {ks} {ns} s = (some_row ks ns s.0 s.1, s.1.sizes)

@@ -1,6 +1,6 @@
 -- Rows that stand in front, those of a type or of a term, and what it is that their types were found. Definitions only; assumes
 -- nothing.
-use Rattle.std.specs.Prelude.{◌≡◌, cond, List, ◌++◌, ℕ, ◌+◌, ◌-◌, ◌≤◌, ◌<◌, eqb, ℤ, length, get_or, set, drop}
+use Rattle.std.specs.Prelude.{◌≡◌, cond, List, ◌++◌, ℕ, ◌+◌, ◌-◌, ◌≤◌, ◌<◌, eqb, ℤ, length, get_or, set, drop, Result, Ok, Err}
 use Rattle.words.specs.Kinds.{Row, rows_of, word_kind_in, word_var}
 use Rattle.meaning.specs.Types.{DataType, number}
 use Rattle.meaning.specs.Terms.{Term}
@@ -10,10 +10,10 @@ use Rattle.syntax.specs.Standing.{TermStands, operand_count, first_operand, seco
 use Rattle.type_table.specs.Table.{type_at}
 use Rattle.type_table.specs.Columns.{Noted, behind_term}
 use Rattle.typing.specs.Check.{Verdict, typed, refused, check}
+use Rattle.refusals.specs.declared.Refusal.{Refusal}
 use Rattle.type_rules.specs.Rules.{Room, Found}
 use Rattle.type_rules.specs.Scopes.{InForce}
-use Rattle.type_rules.specs.declared.Typing.{Typing}
-use Rattle.type_rules.specs.declared.Typing.TheVariants.{Typed, Refused}
+use Rattle.type_rules.specs.declared.Typed.{Typed}
 use Rattle.type_rules.specs.declared.scope.Scope.{Scope}
 
 -- the rows of the type t stand in front of kinds and numbers
@@ -39,14 +39,14 @@ pub record Place (ks T : List ℕ) (m : ℕ) (C : List ℕ) (row n : ℕ) : Type
 -- ---- what was found
 
 -- the place of the type that was found
-abbrev pub place_found : Typing → ℕ
-place_found (Typed p a l) = p
-place_found (Refused q) = 0
+abbrev pub place_found : Result Typed Refusal → ℕ
+place_found (Ok t) = t.place
+place_found (Err q) = 0
 
 -- the column with the type that was found noted at a row
-abbrev pub with_type : List ℕ → ℕ → Typing → List ℕ
-with_type C row (Typed p a l) = set C row p
-with_type C row (Refused q) = C
+abbrev pub with_type : List ℕ → ℕ → Result Typed Refusal → List ℕ
+with_type C row (Ok t) = set C row t.place
+with_type C row (Err q) = C
 
 -- D is C but in the rows from `row` on, `rows` of them
 pub record Kept (C D : List ℕ) (row rows : ℕ) : Type 0 where
@@ -56,10 +56,10 @@ pub record Kept (C D : List ℕ) (row rows : ℕ) : Type 0 where
 
 -- The code's answer on the term e, whose rows begin at a row, is the verdict v, the table having been T and the column C; and if it is a
 -- type, the types of all the term's rows are noted in the column, D, which is otherwise as it was.
-abbrev pub TermFound : List ℕ → ℕ → List ℕ → List ℕ → List ℕ → ℕ → List DataType → List DataType → Term → ℕ → Verdict → Typing → Type 0
-TermFound T m C U D row I Γ e n v (Typed p a l) =
-    Found T m U n (length (term_rows e)) v (Typed p a l) × Noted U l I Γ e (drop row D) × Kept C D row (length (term_rows e))
-TermFound T m C U D row I Γ e n v (Refused q) = v ≡ refused q
+abbrev pub TermFound : List ℕ → ℕ → List ℕ → List ℕ → List ℕ → ℕ → List DataType → List DataType → Term → ℕ → Verdict → Result Typed Refusal → Type 0
+TermFound T m C U D row I Γ e n v (Ok t) =
+    Found T m U n (length (term_rows e)) v (Ok t) × Noted U t.len I Γ e (drop row D) × Kept C D row (length (term_rows e))
+TermFound T m C U D row I Γ e n v (Err q) = v ≡ refused q
 
 -- The term e has two operands or three; the type of the first was found, at place p, and noted. The second begins at the row `at` of e's.
 pub record FirstTyped (T : List ℕ) (m : ℕ) (C : List ℕ) (row : ℕ) (I Γ : List DataType) (e : Term) (p at : ℕ) : Type 0 where

@@ -1,6 +1,6 @@
 -- What the types of a plan ([5.1]) are in the table of types and in the column beside its rows: what `type_plan` finds. The translator
 -- goes by it. Definitions only; assumes nothing.
-use Rattle.std.specs.Prelude.{◌≡◌, List, [], ℕ, ◌+◌, ◌≤◌, ◌<◌, ℤ, length, get_or, take, drop}
+use Rattle.std.specs.Prelude.{◌≡◌, List, [], ℕ, ◌+◌, ◌≤◌, ◌<◌, ℤ, length, get_or, take, drop, Result, Ok, Err}
 use Rattle.refusals.specs.declared.Refusal.{Refusal}
 use Rattle.words.specs.Kinds.{rows_of}
 use Rattle.meaning.specs.Types.{DataType, number}
@@ -11,8 +11,7 @@ use Rattle.type_table.specs.Table.{type_at, Sound}
 use Rattle.type_table.specs.Columns.{Names, Noted}
 use Rattle.typing.specs.Check.{Verdict, typed, refused, check_types, check_plan}
 use Rattle.row_typing.specs.declared.TypedPlan.{TypedPlan}
-use Rattle.type_rules.specs.declared.Typing.{Typing}
-use Rattle.type_rules.specs.declared.Typing.TheVariants.{Typed, Refused}
+use Rattle.row_typing.specs.declared.inputs.TypedInputs.{TypedInputs}
 
 -- kinds and numbers are the rows of the plan P, whose numbers are in range
 abbrev pub PlanStands : List ℕ → List ℤ → Plan → Type 0
@@ -41,10 +40,10 @@ pub record PlanRoom (ks : List ℕ) (ns : List ℤ) (T C : List ℕ) : Type 0 wh
 
 -- `type_plan(kinds, numbers, nodes, types)` answers r: it requires PlanRoom (now kinds) (now numbers) (now nodes) (now types), and
 -- ensures this of ks = kinds.now, ns = numbers.now, T and U = now nodes at entry and exit, C and D = now types so.
-pub record PlanAnswered (ks : List ℕ) (ns : List ℤ) (T C U D : List ℕ) (r : TypedPlan) : Type 0 where
-  pub no : (P : Plan) (q : Refusal) → PlanStands ks ns P → check_plan P ≡ refused q → r.typing ≡ Refused q
+pub record PlanAnswered (ks : List ℕ) (ns : List ℤ) (T C U D : List ℕ) (r : Result TypedPlan Refusal) : Type 0 where
+  pub no : (P : Plan) (q : Refusal) → PlanStands ks ns P → check_plan P ≡ refused q → r ≡ Err q
   pub yes : (P : Plan) (t : DataType) → PlanStands ks ns P → check_plan P ≡ typed t
-      → (p : ℕ) × (a : ℕ) × (l : ℕ) × (r.typing ≡ Typed p a l) × PlanTyped T C U D P t r.inputs r.row p l
+      → (f : TypedPlan) × (r ≡ Ok f) × PlanTyped T C U D P t f.inputs f.row f.term.place f.term.len
 
 -- ---- on the way there
 
@@ -61,6 +60,7 @@ pub record InputsTyped (T U D : List ℕ) (J : List DataType) (i row len : ℕ) 
   pub places : length D ≡ 8
 
 -- the answer on the inputs' types, whatever the check of the term says
-abbrev pub InputsFound : List ℕ → List ℕ → List ℕ → Plan → Typing → Type 0
-InputsFound T U D P (Typed p row len) = InputsTyped T U D P.inputs (length P.inputs) row len × ((v : Verdict) → check_types P.inputs 2 v ≡ v)
-InputsFound T U D P (Refused q) = (v : Verdict) → check_types P.inputs 2 v ≡ refused q
+abbrev pub InputsFound : List ℕ → List ℕ → Plan → Result TypedInputs Refusal → Type 0
+InputsFound T U P (Ok f) =
+    InputsTyped T U f.places P.inputs (length P.inputs) f.row f.len × ((v : Verdict) → check_types P.inputs 2 v ≡ v)
+InputsFound T U P (Err q) = (v : Verdict) → check_types P.inputs 2 v ≡ refused q

@@ -4,38 +4,31 @@ ghost use Rattle.meaning.specs.Terms.{Plan};
 ghost use Rattle.row_typing.specs.Typed.{PlanStands, InputsFound};
 
 use crate::terms;
-use type_rules::Typing;
+use refusals::Refusal;
 
-// The inputs' types: their places are put in `places`. As rows are told those up to the term's first.
-pub fn type_inputs(kinds: &[u8], numbers: &[i32], types: &mut [u64], places: &mut [u16]) -> Typing
-    requires { (length kinds.now ≡ length numbers.now) × (length kinds.now ≤ 256) × (512 ≤ length types.old) × (length places.old ≡ 8)
+// The places of the inputs' types, the term's first row, and the types that the table has.
+#[derive(Clone, Copy, Debug, PartialEq, Eq)]
+pub struct TypedInputs {
+    pub places: [u16; 8],
+    pub row: usize,
+    pub len: usize,
+}
+
+// The inputs' types.
+pub fn type_inputs(kinds: &[u8], numbers: &[i32], types: &mut [u64]) -> Result<TypedInputs, Refusal>
+    requires { (length kinds.now ≡ length numbers.now) × (length kinds.now ≤ 256) × (512 ≤ length types.old)
         × ((P : Plan) × PlanStands kinds.now numbers.now P) }
-    ensures { (P : Plan) → PlanStands kinds.now numbers.now P
-        → InputsFound types.old types.new places.new P result }
+    ensures { (P : Plan) → PlanStands kinds.now numbers.now P → InputsFound types.old types.new P result }
 {
     type_table::put_number(types);
-    let count = syntax::ranges::natural(numbers[0]);
+    let mut places = [0u16; 8];
     let mut row = 1;
     let mut len = 1;
-    let mut i = 0;
-    while i < count {
-        let input = terms::type_rows(&kinds[row..], &numbers[row..], row, types, len);
-        let Typing::Typed {
-            place,
-            rows,
-            len: more,
-        } = input
-        else {
-            return input;
-        };
-        places[i] = place as u16;
-        row += rows;
-        len = more;
-        i += 1;
+    for i in 0..syntax::ranges::natural(numbers[0]) {
+        let input = terms::type_rows(&kinds[row..], &numbers[row..], row, types, len)?;
+        places[i] = input.place as u16;
+        row += input.rows;
+        len = input.len;
     }
-    Typing::Typed {
-        place: type_table::NUMBER_TYPE,
-        rows: row,
-        len,
-    }
+    Ok(TypedInputs { places, row, len })
 }

@@ -1,8 +1,7 @@
 -- What the entries of `run` promise for every input: each name stands in the `ensures` of its entries, and the demands are drawn from it. A
 -- store is cells and bytes, as lent and as left.
-use Rattle.std.specs.Prelude.{◌≡◌, List, ℕ, ℤ}
-use Rattle.refusals.specs.declared.Answer.{Answer}
-use Rattle.refusals.specs.declared.Answer.TheVariants.{Refused}
+use Rattle.std.specs.Prelude.{◌≡◌, List, ℕ, ℤ, Err}
+use Rattle.refusals.specs.Answers.{Answer}
 use Rattle.own_words.specs.Under.{Under}
 use Rattle.words.specs.Kinds.{rows_of}
 use Rattle.store.specs.Store.{store_of, frame_of}
@@ -24,4 +23,4 @@ RunsText ws t order cells bytes r cells' bytes' = outcome r (store_of cells' byt
 -- [16.6], [16.7] `run_text_in`, which is given a words text w: the same with its own words, or its refusal
 abbrev pub RunsTextIn : List ℕ → List ℕ → ℕ → List ℤ → List ℕ → Answer → List ℤ → List ℕ → Type 0
 RunsTextIn w t order cells bytes r cells' bytes' =
-    Under w (λ ws. RunsText ws t order cells bytes r cells' bytes') (λ q. (r ≡ Refused q) × (cells' ≡ cells) × (bytes' ≡ bytes))
+    Under w (λ ws. RunsText ws t order cells bytes r cells' bytes') (λ q. (r ≡ Err q) × (cells' ≡ cells) × (bytes' ≡ bytes))

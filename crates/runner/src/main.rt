@@ -5,7 +5,6 @@
 
 ghost use Rattle.std.specs.Prelude.{◌≡◌, ◌≤◌, length, take};
 
-use files::File;
 use std::rt::Files;
 
 fn main(rt: HostRuntime) {
@@ -19,38 +18,29 @@ fn main(rt: HostRuntime) {
     let mut store = [0i32; 16384];
     // [13.17] Room for the longest output.
     let mut text = [0u8; 69648];
-    match own {
-        File::Read(bytes) => {
-            let put = programs::runner_in(
-                &words[..bytes],
-                &loops[..loops_size],
-                &values[..values_size],
-                &mut store,
-                &mut text,
-            );
-            files::print(&rt, put, &text);
-        }
-        File::NotOpened => {
-            let put = programs::runner(
-                &loops[..loops_size],
-                &values[..values_size],
-                &mut store,
-                &mut text,
-            );
-            files::print(&rt, put, &text);
-        }
-    }
+    let put = match own {
+        Some(bytes) => programs::runner_in(
+            &words[..bytes],
+            &loops[..loops_size],
+            &values[..values_size],
+            &mut store,
+            &mut text,
+        ),
+        None => programs::runner(
+            &loops[..loops_size],
+            &values[..values_size],
+            &mut store,
+            &mut text,
+        ),
+    };
+    files::print(&rt, put, &text);
 }
 
 // [11.2] The bytes of a file; none where it cannot be opened.
 fn read_file<R: Files>(rt: &R, path: &str, text: &mut [u8; 65537]) -> usize
     ensures { (result ≤ length text.new) × (result ≡ length (take result text.new)) }
 {
-    let file = files::read(rt, path, text);
-    match file {
-        File::Read(bytes) => bytes,
-        File::NotOpened => 0,
-    }
+    files::read(rt, path, text).unwrap_or(0)
 }
 
 // The bytes of the values file, where these loops want it read.

@@ -1,7 +1,7 @@
 -- What reading and putting a cell do to the lists. Assumes nothing.
-use mathlib.Core.Path.{◌≡◌, sym, ap, ap₂, ◌∙◌}
+use mathlib.Core.Path.{◌≡◌, refl, sym, ap, ap₂, ◌∙◌}
 use mathlib.Core.List.{List, [], ◌∷◌, ◌++◌}
-use Prim.Native.Nat.{ℕ, zero, suc, ◌+◌, ◌-◌, ◌*◌, ◌/◌, ◌%◌, ◌≤◌, ◌<◌}
+use Prim.Native.Nat.{ℕ, zero, suc, ◌+◌, ◌-◌, ◌*◌, ◌/◌, ◌≤◌, ◌<◌}
 use native.Mathlib.Omega.{arith}
 use lib.IntN.{ℤ, pos}
 use lib.ListN.{length, get_or, set, length-set, get_or-append, get_or-eq_default}
@@ -9,6 +9,8 @@ use lib.Seq.{get_or-append-add, set-append_left, set_out}
 use mir.Syntax.{w32}
 use mir.Val.{SFits, to_z, of_z}
 use mir.ValLaws.{to_z-of_z}
+use Rattle.std.specs.Int.{to_le_bytes, from_le_bytes}
+use Rattle.store.proofs.Signs.{signed_is, bits_is}
 use Rattle.store.specs.Cells.{signed_of, bits_of, cell_of, cells_of, left_over}
 use Rattle.store.specs.Store.{store_of, frame_of}
 use Rattle.store.specs.Laws.{reads_back, cells_length, cell_read, four_at, cell_put, left_over_put}
@@ -22,30 +24,25 @@ module _ (l : List ℕ) (k : ℕ) (h : k < length l / 4) where
   last_below : 4 * k + 3 < length l
   last_below = omega arith
 
-  pub cell_inside : (a b c d : ℕ) (r : ℤ) → a ≡ get_or l (4 * k) 0 → b ≡ get_or l (4 * k + 1) 0 → c ≡ get_or l (4 * k + 2) 0 → d ≡ get_or l (4 * k + 3) 0
-      → SFits w32 r → r ≡ cell_of a b c d → to_z w32 (of_z w32 r) ≡ get_or (cells_of l) k (pos 0)
-  cell_inside a b c d r e₀ e₁ e₂ e₃ f q = to_z-of_z w32 r f ∙ q ∙ ap signed_of (omega (arith, e₀, e₁, e₂, e₃)) ∙ sym (cell_read l k last_below)
+  pub cell_inside : (r : ℤ) → SFits w32 r
+      → r ≡ to_z w32 (from_le_bytes w32 (get_or l (4 * k) 0 ∷ get_or l (4 * k + 1) 0 ∷ get_or l (4 * k + 2) 0 ∷ get_or l (4 * k + 3) 0 ∷ []))
+      → to_z w32 (of_z w32 r) ≡ get_or (cells_of l) k (pos 0)
+  cell_inside r f e = to_z-of_z w32 r f ∙ e ∙ signed_is _ ∙ ap signed_of (omega arith) ∙ sym (cell_read l k last_below)
 
-  pub put_inside : (z : ℤ) (n a b c d : ℕ) → SFits w32 z → n ≡ bits_of (to_z w32 (of_z w32 z))
-      → a ≡ n % 256 → b ≡ n / 256 % 256 → c ≡ n / 65536 % 256 → d ≡ n / 16777216 % 256
-      → (cells_of (four_at l k a b c d) ≡ set (cells_of l) k z) × ((length (four_at l k a b c d) ≡ length l) × (left_over (four_at l k a b c d) ≡ left_over l))
-  put_inside z n a b c d f e e₀ e₁ e₂ e₃ =
-      let g : n ≡ bits_of z = e ∙ ap bits_of (to_z-of_z w32 z f) in
+  pub put_inside : (z : ℤ) (bs : List ℕ) → SFits w32 z → bs ≡ to_le_bytes w32 (of_z w32 (to_z w32 (of_z w32 z)))
+      → (cells_of (four_at l k (get_or bs 0 0) (get_or bs 1 0) (get_or bs 2 0) (get_or bs 3 0)) ≡ set (cells_of l) k z)
+      × ((length (four_at l k (get_or bs 0 0) (get_or bs 1 0) (get_or bs 2 0) (get_or bs 3 0)) ≡ length l)
+      × (left_over (four_at l k (get_or bs 0 0) (get_or bs 1 0) (get_or bs 2 0) (get_or bs 3 0)) ≡ left_over l))
+  put_inside z bs f e =
+      let a = get_or bs 0 0 in
+      let b = get_or bs 1 0 in
+      let c = get_or bs 2 0 in
+      let d = get_or bs 3 0 in
+      let g : bs ≡ to_le_bytes w32 (bits_of z) = e ∙ ap (to_le_bytes w32) (ap (of_z w32) (to_z-of_z w32 z f) ∙ bits_is z) in
       let v : cell_of a b c d ≡ z =
-      ap signed_of
-      (ap₂ ◌+◌ (ap₂ ◌+◌ (ap₂ ◌+◌ (e₀ ∙ ap (λ (x : ℕ). x % 256) g) (ap (λ (x : ℕ). 256 * x)
-      (e₁ ∙ ap (λ (x : ℕ). x / 256 % 256) g))) (ap (λ (x : ℕ). 65536 * x)
-      (e₂ ∙ ap (λ (x : ℕ). x / 65536 % 256) g))) (ap (λ (x : ℕ). 16777216 * x)
-      (e₃ ∙ ap (λ (x : ℕ). x / 16777216 % 256) g)))
-      ∙ reads_back z f.sfits in (
+      ap (λ (x : List ℕ). cell_of (get_or x 0 0) (get_or x 1 0) (get_or x 2 0) (get_or x 3 0)) g ∙ reads_back z f.sfits in (
         cell_put a b c d l k last_below ∙ ap (set (cells_of l) k) v,
-        (
-          length-set (set (set (set l (4 * k) a) (4 * k + 1) b) (4 * k + 2) c) (4 * k + 3) d
-              ∙ length-set (set (set l (4 * k) a) (4 * k + 1) b) (4 * k + 2) c
-              ∙ length-set (set l (4 * k) a) (4 * k + 1) b
-              ∙ length-set l (4 * k) a,
-          left_over_put a b c d l k last_below,
-        ),
+        (simp length-set refl, left_over_put a b c d l k last_below),
       )
 
 pub put_outside : (l : List ℕ) (k : ℕ) (z : ℤ) → length l / 4 ≤ k → cells_of l ≡ set (cells_of l) k z

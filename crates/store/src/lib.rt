@@ -1,5 +1,5 @@
 // [9.1] A store lent as two slices, either of which may be empty: first cells, then bytes, four to a cell. Every place is answered:
-// past the end a cell reads as 0, and nothing is put.
+// past the end a cell reads as 0, and nothing is put. No struct holds both: the entries for C lend them as two slices.
 #![tactic(auto)]
 
 ghost use Rattle.std.specs.Prelude.{◌≡◌, pos, length, get_or, set};

@@ -1,12 +1,11 @@
--- Rows at the front of a table: the first row, and the parts behind it; and the names in force. Assumes nothing.
-use mathlib.Core.Path.{◌≡◌, refl, sym, ap, ap₂, ◌∙◌, subst}
-use mathlib.Core.Bool.{Bool, true, false}
+-- Rows at the front of a table: the first row, and the parts behind it. Assumes nothing.
+use mathlib.Core.Path.{◌≡◌, refl, sym, ap, ◌∙◌}
 use mathlib.Core.List.{List, [], ◌∷◌, ◌++◌, append_assoc}
-use Prim.Native.Nat.{ℕ, suc, ◌+◌, ◌-◌, ◌≤◌, ◌<◌}
+use Prim.Native.Nat.{ℕ, suc, ◌-◌}
 use native.Mathlib.Omega.{arith}
 use lib.IntN.{ℤ, pos}
-use lib.ListN.{length, get_or, take, drop, length-drop, length-set, set as put}
-use lib.Seq.{drop_at, drop-cons, drop-set-lt, get_or-set_same, drop-drop}
+use lib.ListN.{length, get_or, take, drop, length-drop}
+use lib.Seq.{drop_at}
 use Rattle.words.specs.Kinds.{Row, rows_of}
 use Rattle.syntax.specs.Standing.{Begins}
 use Rattle.syntax.proofs.WalkSteps.{rows_part, part_all as part-whole}
@@ -58,32 +57,3 @@ hind {ks} {ns} xs ys m e b = record {
   behind = b.behind;
   front = rows_behind m ks ns xs (ys ++ b.behind) (b.front ∙ append_assoc xs ys b.behind) (sym e);
 }
-
--- ---- names in force: the entries of a frame from its top on
-
-pub pushed : (l : List ℕ) (top n : ℕ) → 0 < top → top ≤ length l → drop (top - 1) (put l (top - 1) n) ≡ n ∷ drop top l
-pushed l top n h f =
-    let j : ℕ = top - 1 in
-    let e : suc j ≡ top = omega arith in
-    drop-cons (put l j n) j 0 (subst (λ (m : ℕ). j < m) (sym (length-set l j n)) (omega arith))
-    ∙ ap₂ (λ (x : ℕ) (r : List ℕ). x ∷ r) (get_or-set_same l j n 0 (omega arith)) (drop-set-lt (suc j) l j n (omega arith) ∙ ap (λ (m : ℕ). drop m l) e)
-
--- what is kept from a top on is kept from a later one on
-pub kept_later : (l m : List ℕ) (i j : ℕ) → i ≤ j → drop i l ≡ drop i m → drop j l ≡ drop j m
-kept_later l m i j h e =
-    let d : ℕ = j - i in
-    let f : i + d ≡ j = omega arith in
-    ap (λ (k : ℕ). drop k l) (sym f) ∙ sym (drop-drop d i l) ∙ ap (drop d) e ∙ drop-drop d i m ∙ ap (λ (k : ℕ). drop k m) f
-
--- a frame before a row and after it, on top of which the row may have put its number
-module _ (L L' : List ℕ) (top top' n : ℕ) (opens b : Bool) (e : opens ≡ b) (kept : (top' ≤ top) × (drop top L' ≡ drop top L)) where
-  pub frame_same : (opens ≡ false → top' ≡ top) → b ≡ false → (drop top' L' ≡ drop top L) × (top' ≡ top)
-  frame_same f h = let t = f (e ∙ h) in (ap (λ (i : ℕ). drop i L') t ∙ kept.1, t)
-
-  pub frame_more : (opens ≡ true → 1 ≤ top → (top' + 1 ≡ top) × (drop top' L' ≡ n ∷ drop top L)) → b ≡ true → 1 ≤ top
-      → (drop top' L' ≡ n ∷ drop top L) × (top' ≡ top - 1)
-  frame_more f h l = let t = f (e ∙ h) l in (t.1, omega (arith, t.0))
-
--- a frame that is kept from the new top on is kept from the old one on
-pub frame_kept : (L L' M : List ℕ) (top top' : ℕ) → (top' ≤ top) × (drop top L' ≡ drop top L) → drop top' M ≡ drop top' L' → drop top M ≡ drop top L
-frame_kept L L' M top top' h e = kept_later M L' top' top h.0 e ∙ h.1

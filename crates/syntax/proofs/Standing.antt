@@ -1,4 +1,5 @@
 -- A term whose rows stand in front: its first row, and where its operands stand. Assumes nothing.
+use Rattle.std.specs.Prelude.{Some}
 use mathlib.Core.Path.{◌≡◌, refl, ap, sym, ◌∙◌}
 use mathlib.Core.Bool.{true, false}
 use mathlib.Core.List.{List, ◌∷◌, ◌++◌, append_assoc}
@@ -15,7 +16,6 @@ use Rattle.words.specs.Kinds.{Row, word_lit, word_redseq}
 use Rattle.words.specs.Words.{table, operands_of}
 use Rattle.words.specs.Groups.{counted, is_leaf, has_one_operand}
 use Rattle.words.specs.declared.Sort.TheVariants as sort
-use Rattle.words.specs.declared.Operands.TheVariants.{Count}
 use Rattle.words.proofs.Laws.{rows_length}
 use Rattle.meaning.specs.Types.{Series}
 use Rattle.meaning.specs.Terms.{LoopKind, Term}
@@ -31,7 +31,7 @@ use Rattle.syntax.proofs.TermRows.{rows_in, term_head, behind_first, first_rows,
 
 -- ---- how many operands a term has: as many as the table lists for its first row's word
 
-operation_listed : (o : Operation) → operands_of (operation_word o) sort.Term ≡ Count 2
+operation_listed : (o : Operation) → operands_of (operation_word o) sort.Term ≡ Some 2
 unfolding operands_of table
 operation_listed Operation.addition = refl
 operation_listed Operation.subtraction = refl
@@ -40,28 +40,28 @@ operation_listed Operation.division = refl
 operation_listed Operation.minimum = refl
 operation_listed Operation.maximum = refl
 
-map_listed : (kind : LoopKind) → operands_of (map_word kind) sort.Term ≡ Count 2
+map_listed : (kind : LoopKind) → operands_of (map_word kind) sort.Term ≡ Some 2
 unfolding operands_of table
 map_listed LoopKind.parallel = refl
 map_listed LoopKind.sequential = refl
 map_listed LoopKind.lanes = refl
 
-split_listed : (series : Series) → operands_of (split_word series) sort.Term ≡ Count 1
+split_listed : (series : Series) → operands_of (split_word series) sort.Term ≡ Some 1
 unfolding operands_of table
 split_listed Series.arrays = refl
 split_listed Series.vectors = refl
 
-join_listed : (series : Series) → operands_of (join_word series) sort.Term ≡ Count 1
+join_listed : (series : Series) → operands_of (join_word series) sort.Term ≡ Some 1
 unfolding operands_of table
 join_listed Series.arrays = refl
 join_listed Series.vectors = refl
 
-index_listed : (series : Series) → operands_of (index_word series) sort.Term ≡ Count 1
+index_listed : (series : Series) → operands_of (index_word series) sort.Term ≡ Some 1
 unfolding operands_of table
 index_listed Series.arrays = refl
 index_listed Series.vectors = refl
 
-pub operands_listed : (e : Term) → operands_of (term_kind e) sort.Term ≡ Count (operand_count e)
+pub operands_listed : (e : Term) → operands_of (term_kind e) sort.Term ≡ Some (operand_count e)
 unfolding operands_of table
 operands_listed (Term.input k) = refl
 operands_listed (Term.variable d) = refl
@@ -92,7 +92,7 @@ module _ (e : Term) where
   pub no_literal : 1 ≤ operand_count e → term_kind e ≡ word_lit → ⊥
   unfolding operands_of table
   no_literal h q =
-      let c : Count (operand_count e) ≡ Count 0 = sym (operands_listed e) ∙ ap (λ (k : ℕ). operands_of k sort.Term) q in
+      let c : Some (operand_count e) ≡ Some 0 = sym (operands_listed e) ∙ ap (λ (k : ℕ). operands_of k sort.Term) q in
       let n : operand_count e ≡ 0 = cc in
       omega arith
 
@@ -108,7 +108,7 @@ module _ (e : Term) where
   pub three_operands : term_kind e ≡ word_redseq → 3 ≤ operand_count e
   unfolding operands_of table
   three_operands h =
-      let q : Count (operand_count e) ≡ Count 3 = sym (operands_listed e) ∙ ap (λ (k : ℕ). operands_of k sort.Term) h in
+      let q : Some (operand_count e) ≡ Some 3 = sym (operands_listed e) ∙ ap (λ (k : ℕ). operands_of k sort.Term) h in
       let n : operand_count e ≡ 3 = cc in
       omega arith
 

@@ -1,89 +1,58 @@
 -- A whole table: its rows are as many as the shorter slice has, and each kind is a word's. Assumes nothing.
-use mathlib.Core.Path.{◌≡◌, refl, sym, ap, ◌∙◌}
+use Rattle.std.specs.Prelude.{Ok, Err, Option, Some, None, not, position}
+use Rattle.std.specs.List.{position_from}
+use Rattle.std.proofs.lemmas.Iterator.Adapters.{position_from-zero}
+use Rattle.refusals.specs.Answers.{Answer}
+use mathlib.Core.Path.{◌≡◌, refl, sym, ap, ap₂, ◌∙◌}
 use mathlib.Core.Bool.{Bool, true, false, cond}
 use mathlib.Core.List.{List, [], ◌∷◌}
 use Prim.Native.Nat.{ℕ, zero, suc, ◌+◌, ◌≤◌, ◌<◌, min}
 use native.Mathlib.Omega.{arith}
-use native.Mathlib.Nat.{zero-add}
 use native.Mathlib.Numerals.{add-one}
 use lib.IntN.{ℤ}
-use lib.ListN.{length, get_or, take, drop}
-use lib.Seq.{drop-cons, drop-length, length-take-le}
+use lib.ListN.{length, take, drop}
+use lib.Seq.{length-take-le}
 use Rattle.refusals.specs.declared.Refusal.{Refusal}
 use Rattle.refusals.specs.declared.Refusal.TheVariants.{LineForm, RowDue}
 use Rattle.words.specs.Kinds.{Row, rows_of}
 use Rattle.words.specs.Groups.{is_listed}
-use Rattle.refusals.specs.declared.Answer.{Answer}
-use Rattle.refusals.specs.declared.Answer.TheVariants.{Told, Refused}
 use Rattle.words.proofs.Laws.{rows_length}
 use Rattle.words.specs.declared.Sort.{Sort}
 use Rattle.syntax.specs.declared.operands.Due.{Due}
 use Rattle.syntax.specs.Names.{no_names}
 use Rattle.syntax.specs.Operands.{due}
-use Rattle.syntax.specs.Walk.{walk_from, resume, listed_from, first_unlisted, walk_table}
+use Rattle.syntax.specs.Walk.{walk_from, walk_on, listed_from, walk_table}
+use Rattle.syntax.proofs.WalkSteps.{drop_none}
 use Rattle.syntax.specs.Laws.Listed.{listed_walk, all_listed, one_unlisted}
 
--- ---- the loop of question 2
+-- ---- question 2 of rows is that of their kinds: a search for the first that is no word
 
-pub unlisted_start : (l : List ℕ) → first_unlisted l ≡ 0 + first_unlisted (drop 0 l)
-unfolding first_unlisted
-unlisted_start [] = refl
-unlisted_start (k ∷ l) = sym (zero-add _)
+abbrev found : Option ℕ → Answer → Answer
+found (Some i) next = Err (LineForm (i + 1))
+found None next = next
 
-module _ (l : List ℕ) (i : ℕ) (inv : first_unlisted l ≡ i + first_unlisted (drop i l)) where
-  pub unlisted_here : i < length l → is_listed (get_or l i 0) ≡ false → i ≡ first_unlisted l
-  unfolding first_unlisted
-  unlisted_here h g =
-      let e : first_unlisted (drop i l) ≡ 0 = rw (drop-cons l i 0) (simp g) in
-      omega (arith, inv, e)
-
-  pub unlisted_next : i < length l → is_listed (get_or l i 0) ≡ true → first_unlisted l ≡ (i + 1) + first_unlisted (drop (i + 1) l)
-  unfolding first_unlisted
-  unlisted_next h g =
-      let e : first_unlisted (drop i l) ≡ suc (first_unlisted (drop (i + 1) l)) = rw (add-one, drop-cons l i 0) (simp g) in
-      omega (arith, inv, e)
-
-  pub unlisted_end : i ≡ length l → i ≡ first_unlisted l
-  unfolding first_unlisted
-  unlisted_end h =
-      let e : first_unlisted (drop i l) ≡ 0 = rw (h, drop-length) in
-      omega (arith, inv, e)
-
--- ---- question 2 of rows, and of their kinds
-
-listed_no : (ks : List ℕ) (ns : List ℤ) (p : ℕ) (v : Answer) → length ks ≡ length ns → first_unlisted ks < length ks
-    → listed_from p (rows_of ks ns) v ≡ Refused (LineForm (suc (p + first_unlisted ks)))
-unfolding rows_of listed_from first_unlisted
-listed_no [] ns p v e h = absurd (omega arith)
-listed_no (k ∷ ks) [] p v e h = absurd (omega arith)
-listed_no (k ∷ ks) (n ∷ ns) p v e h = go (is_listed k) (λ g. listed_no ks ns (suc p) v (omega arith) g) h
+listed_found : (ks : List ℕ) (ns : List ℤ) (p : ℕ) (v : Answer) → length ks ≡ length ns
+    → found (position_from (λ k. not (is_listed k)) p ks) v ≡ listed_from p (rows_of ks ns) v
+unfolding rows_of listed_from
+listed_found [] ns p v e = refl
+listed_found (k ∷ ks) [] p v e = absurd (omega arith)
+listed_found (k ∷ ks) (n ∷ ns) p v e = go (is_listed k) (listed_found ks ns (suc p) v (omega arith))
   where
-    go : (b : Bool) → (first_unlisted ks < length ks → listed_from (suc p) (rows_of ks ns) v ≡ Refused (LineForm (suc (suc p + first_unlisted ks))))
-        → cond b (suc (first_unlisted ks)) 0 < suc (length ks)
-        → cond b (listed_from (suc p) (rows_of ks ns) v) (Refused (LineForm (suc p))) ≡ Refused (LineForm (suc (p + cond b (suc (first_unlisted ks)) 0)))
-    go true f h = f (omega arith) ∙ ap (λ (l : ℕ). Refused (LineForm l)) (omega arith)
-    go false f h = ap (λ (l : ℕ). Refused (LineForm l)) (omega arith)
-
-listed_yes : (ks : List ℕ) (ns : List ℤ) (p : ℕ) (v : Answer) → length ks ≡ length ns → length ks ≤ first_unlisted ks → listed_from p (rows_of ks ns) v ≡ v
-unfolding rows_of listed_from first_unlisted
-listed_yes [] ns p v e h = refl
-listed_yes (k ∷ ks) [] p v e h = absurd (omega arith)
-listed_yes (k ∷ ks) (n ∷ ns) p v e h = go (is_listed k) (λ g. listed_yes ks ns (suc p) v (omega arith) g) h
-  where
-    go : (b : Bool) → (length ks ≤ first_unlisted ks → listed_from (suc p) (rows_of ks ns) v ≡ v) → suc (length ks) ≤ cond b (suc (first_unlisted ks)) 0
-        → cond b (listed_from (suc p) (rows_of ks ns) v) (Refused (LineForm (suc p))) ≡ v
-    go true f h = f (omega arith)
-    go false f h = absurd (omega arith)
+    go : (b : Bool) → found (position_from (λ k. not (is_listed k)) (suc p) ks) v ≡ listed_from (suc p) (rows_of ks ns) v
+        → found (cond (not b) (Some p) (position_from (λ k. not (is_listed k)) (p + 1) ks)) v
+        ≡ cond b (listed_from (suc p) (rows_of ks ns) v) (Err (LineForm (suc p)))
+    go true f = rw add-one f
+    go false f = ap (λ (l : ℕ). Err (LineForm l)) (add-one p)
 
 -- ---- the end of the walk
 
-rows_left : (R : List Row) (r p : ℕ) → r < length R → walk_from p [] (drop r R) ≡ Refused (RowDue (suc p))
+rows_left : (R : List Row) (r p : ℕ) → r < length R → walk_from p [] (drop r R) ≡ Err (RowDue (suc p))
 unfolding walk_from
 rows_left [] r p h = absurd (omega arith)
 rows_left (x ∷ R) zero p h = refl
 rows_left (x ∷ R) (suc r) p h = rows_left R r p (omega arith)
 
-none_left : (R : List Row) (r p : ℕ) → length R ≤ r → walk_from p [] (drop r R) ≡ Told p
+none_left : (R : List Row) (r p : ℕ) → length R ≤ r → walk_from p [] (drop r R) ≡ Ok p
 unfolding walk_from
 none_left [] zero p h = refl
 none_left [] (suc r) p h = refl
@@ -108,37 +77,22 @@ module _ (ks : List ℕ) (ns : List ℤ) {m : ℕ} (em : m ≡ min (length ks) (
   pub numbers_length : length (take m ns) ≡ m
   numbers_length = length-take-le m ns (omega arith)
 
-  abbrev R : List Row
-  R = rows_of (take m ks) (take m ns)
+  pub rows_found : {o : Option ℕ} → o ≡ position (λ k. not (is_listed k)) (take m ks)
+      → found o (Ok m) ≡ listed_from 0 (rows_of ks ns) (Ok (length (rows_of ks ns)))
+  rows_found {o} e =
+      ap₂ found (e ∙ position_from-zero (λ k. not (is_listed k)) (take m ks)) (ap Ok (em ∙ sym (rows_length ks ns)))
+      ∙ listed_found (take m ks) (take m ns) 0 (Ok (length (rows_of ks ns))) (kinds_length ∙ sym numbers_length)
+      ∙ ap (λ (R : List Row). listed_from 0 R (Ok (length (rows_of ks ns)))) (rows_take m ks ns em)
 
-  asked_part : (v w : Answer) → v ≡ listed_from 0 R w → v ≡ listed_from 0 (rows_of ks ns) w
-  asked_part v w e = e ∙ ap (λ (R : List Row). listed_from 0 R w) (rows_take m ks ns em)
-
-  module _ {at : ℕ} (ea : at ≡ first_unlisted (take m ks)) where
-    abbrev asked : Answer
-    asked = listed_from 0 (rows_of ks ns) (Told (length (rows_of ks ns)))
-
-    pub rows_unlisted : at < m → Refused (LineForm (at + 1)) ≡ asked
-    rows_unlisted h =
-        let z : suc (0 + first_unlisted (take m ks)) ≡ at + 1 = omega arith in
-        asked_part (Refused (LineForm (at + 1))) (Told (length (rows_of ks ns)))
-        (sym (listed_no (take m ks) (take m ns) 0 (Told (length (rows_of ks ns))) (kinds_length ∙ sym numbers_length) (omega (arith, kinds_length)) ∙ rw z))
-
-    pub rows_listed : m ≤ at → Told m ≡ asked
-    rows_listed h =
-        ap Told (em ∙ sym (rows_length ks ns))
-        ∙ asked_part (Told (length (rows_of ks ns))) (Told (length (rows_of ks ns)))
-        (sym (listed_yes (take m ks) (take m ns) 0 (Told (length (rows_of ks ns))) (kinds_length ∙ sym numbers_length) (omega (arith, kinds_length))))
-
-module _ (ks : List ℕ) (ns : List ℤ) {l : Answer} (el : l ≡ listed_from 0 (rows_of ks ns) (Told (length (rows_of ks ns)))) where
-  pub table_unlisted : (s : Sort) (q : Refusal) → l ≡ Refused q → l ≡ walk_table s (rows_of ks ns)
+module _ (ks : List ℕ) (ns : List ℤ) {l : Answer} (el : l ≡ listed_from 0 (rows_of ks ns) (Ok (length (rows_of ks ns)))) where
+  pub table_unlisted : (s : Sort) (q : Refusal) → l ≡ Err q → Err q ≡ walk_table s (rows_of ks ns)
   unfolding walk_table
-  table_unlisted s q e = e ∙ sym (one_unlisted (rows_of ks ns) 0 (length (rows_of ks ns)) q _ (sym el ∙ e))
+  table_unlisted s q e = sym (one_unlisted (rows_of ks ns) 0 (length (rows_of ks ns)) q _ (sym el ∙ e))
 
-  module _ (m : ℕ) (is : l ≡ Told m) where
+  module _ (m : ℕ) (is : l ≡ Ok m) where
     pub rows_shorter : m ≡ min (length ks) (length ns)
     rows_shorter =
-        let e : Told (length (rows_of ks ns)) ≡ Told m = listed_walk (rows_of ks ns) 0 m _ (sym el ∙ is) in
+        let e : Ok (length (rows_of ks ns)) ≡ Ok m = listed_walk (rows_of ks ns) 0 m _ (sym el ∙ is) in
         let n : length (rows_of ks ns) ≡ m = cc in
         sym n ∙ rows_length ks ns
 
@@ -148,24 +102,19 @@ module _ (ks : List ℕ) (ns : List ℤ) {l : Answer} (el : l ≡ listed_from 0 
     part_length : length S ≡ m
     part_length = rows_length (take m ks) (take m ns) ∙ omega (arith, kinds_length ks ns rows_shorter, numbers_length ks ns rows_shorter)
 
-    module _ (s : Sort) (a : Answer) (h : (ds : List Due) → walk_from 0 (due s no_names ∷ ds) S ≡ resume a 0 ds S) where
-      table_walked : (v : Answer) → v ≡ resume a 0 [] S → v ≡ walk_table s (rows_of ks ns)
+    module _ (s : Sort) (a : Answer) (h : (ds : List Due) → walk_from 0 (due s no_names ∷ ds) (drop 0 S) ≡ walk_on a ds S) where
+      table_walked : (v : Answer) → v ≡ walk_on a [] S → v ≡ walk_table s (rows_of ks ns)
       unfolding walk_table
       table_walked v e =
           e ∙ sym (h [])
-          ∙ ap (walk_from 0 (due s no_names ∷ [])) (rows_take m ks ns rows_shorter)
+          ∙ ap (walk_from 0 (due s no_names ∷ [])) (drop_none S ∙ rows_take m ks ns rows_shorter)
           ∙ sym (all_listed (rows_of ks ns) 0 m _ _ (sym el ∙ is))
 
-      pub table_no : (q : Refusal) → a ≡ Refused q → a ≡ walk_table s (rows_of ks ns)
-      table_no q e = table_walked a (rw e)
+      pub table_no : (q : Refusal) → a ≡ Err q → Err q ≡ walk_table s (rows_of ks ns)
+      table_no q e = table_walked (Err q) (rw e)
 
-      pub table_more : (end : ℕ) → a ≡ Told end → end < m → Refused (RowDue (end + 1)) ≡ walk_table s (rows_of ks ns)
-      table_more end e l =
-          let z : suc (0 + end) ≡ end + 1 = omega arith in
-          let o : walk_from (0 + end) [] (drop end S) ≡ Refused (RowDue (end + 1)) = rows_left S end (0 + end) (omega (arith, part_length)) ∙ rw z in
-          table_walked (Refused (RowDue (end + 1))) (sym (rw e o))
+      pub table_more : (end : ℕ) → a ≡ Ok end → end < m → Err (RowDue (end + 1)) ≡ walk_table s (rows_of ks ns)
+      table_more end e l = table_walked (Err (RowDue (end + 1))) (rw (e, add-one) (sym (rows_left S end end (omega (arith, part_length)))))
 
-      pub table_passed : (end : ℕ) → a ≡ Told end → m ≤ end → Told end ≡ walk_table s (rows_of ks ns)
-      table_passed end e l =
-          let o : walk_from (0 + end) [] (drop end S) ≡ Told end = none_left S end (0 + end) (omega (arith, part_length)) ∙ rw zero-add in
-          table_walked (Told end) (sym (rw e o))
+      pub table_passed : (end : ℕ) → a ≡ Ok end → m ≤ end → Ok end ≡ walk_table s (rows_of ks ns)
+      table_passed end e l = table_walked (Ok end) (rw e (sym (none_left S end end (omega (arith, part_length)))))

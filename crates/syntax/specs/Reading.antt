@@ -1,6 +1,6 @@
 -- The tree of rows [1.7]: the rows are read from the last to the first, each over the trees that stand behind it. What this gives is
 -- said by `Theorems`. Definitions only; assumes nothing.
-use Rattle.std.specs.Prelude.{cond, List, [], ◌∷◌, map, ℕ, suc, eqb, ℤ, pos, get_or, take, drop}
+use Rattle.std.specs.Prelude.{cond, List, [], ◌∷◌, map, ℕ, suc, eqb, ℤ, pos, get_or, take, drop, Option, Some, None}
 use Rattle.arithmetic.specs.Arithmetic.{Operation}
 use Rattle.words.specs.Kinds.{Row, word_num, word_arr, word_two, word_kind_in, word_var, word_lit, word_neg, word_add, word_sub, word_mul}
 use Rattle.words.specs.Kinds.{word_div, word_min, word_max, word_mappar, word_mapseq, word_redseq, word_zip, word_pair, word_split}
@@ -8,8 +8,6 @@ use Rattle.words.specs.Kinds.{word_join, word_fst, word_snd, word_idx, word_set,
 use Rattle.words.specs.Kinds.{word_ctr, word_plus, word_times, word_over, word_rest, word_vec, word_asvec, word_asscal, word_mapvec, word_kind_at}
 use Rattle.words.specs.Kinds.{word_lanes}
 use Rattle.words.specs.Words.{operands_of}
-use Rattle.words.specs.declared.Operands.{Operands}
-use Rattle.words.specs.declared.Operands.TheVariants.{Count, NotOfSort}
 use Rattle.words.specs.declared.Sort.{Sort}
 use Rattle.words.specs.declared.Sort.TheVariants as sort
 use Rattle.meaning.specs.Types.{DataType, Series, number, array, vector}
@@ -18,9 +16,9 @@ use Rattle.meaning.specs.Loops.{Offset, Place, Value, Command, Loops, plus, time
 use Rattle.syntax.specs.Ranges.{as_natural}
 
 -- the operands of a word as a row of the first of these sorts that it makes
-abbrev count_or : Operands → ℕ → ℕ
-count_or (Count m) n = m
-count_or NotOfSort n = n
+abbrev count_or : Option ℕ → ℕ → ℕ
+count_or (Some m) n = m
+count_or None n = n
 
 unfoldable pub operands_among : List Sort → ℕ → ℕ
 operands_among [] k = 0

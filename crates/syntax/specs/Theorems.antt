@@ -1,9 +1,8 @@
 -- What it means that a table walks well, that is, passes [10.4] to [10.6] and [18.15]. It rests on `walk_table` of Walk, on InRange, and on the rows
 -- of trees in `meaning`; the proofs stand in Laws. Assumes nothing.
-use Rattle.std.specs.Prelude.{◌≡◌, false, List, [], ◌∷◌, ◌↔◌, ℕ, ◌≤◌, length}
+use Rattle.std.specs.Prelude.{◌≡◌, false, List, [], ◌∷◌, ◌↔◌, ℕ, ◌≤◌, length, Ok, Err}
 use Rattle.std.proofs.Common.{sym, ap, ◌∙◌, subst, append-nil, ⊎_elim, zero-add, arith}
 use Rattle.refusals.specs.declared.Refusal.TheVariants.{LanesInside}
-use Rattle.refusals.specs.declared.Answer.TheVariants.{Told, Refused}
 use Rattle.words.specs.Kinds.{Row}
 use Rattle.words.specs.declared.Sort.{Sort}
 use Rattle.words.specs.declared.Sort.TheVariants as sort
@@ -27,17 +26,17 @@ use Rattle.syntax.specs.Laws.LanesInside.{lanes_asked}
 
 -- [10.2], of the kinds, [10.4], [10.5], [10.6] and [18.15] are answered "yes" on every row
 abbrev pub WalksWell : Sort → List Row → Type 0
-WalksWell s R = walk_table s R ≡ Told (length R)
+WalksWell s R = walk_table s R ≡ Ok (length R)
 
 -- a walk that answers how many rows it passed has passed them all
-pub all_passed : (s : Sort) (R : List Row) (m : ℕ) → walk_table s R ≡ Told m → WalksWell s R
-all_passed s R m e = e ∙ ap Told (table_passed s R m e)
+pub all_passed : (s : Sort) (R : List Row) (m : ℕ) → walk_table s R ≡ Ok m → WalksWell s R
+all_passed s R m e = e ∙ ap Ok (table_passed s R m e)
 
 whole : (s : Sort) (a : List Row) → Passes (due s no_names ∷ []) a → WalksWell s a
 unfolding walk_from
 whole s a f =
     walk_table_holds s a (length a)
-    (ap (walk_from 0 (due s no_names ∷ [])) (sym (append-nil a)) ∙ f 0 [] [] ∙ ap Told (zero-add (length a)))
+    (ap (walk_from 0 (due s no_names ∷ [])) (sym (append-nil a)) ∙ f 0 [] [] ∙ ap Ok (zero-add (length a)))
 
 -- ---- plans
 
@@ -86,7 +85,7 @@ loops_tree R e =
 -- [18.15] Loops that are in range but for a `lanes` inside another are turned away, and by question 18.
 pub lanes_refused : (L : Loops) → length L.inputs ≤ 8 → AllCounts L.inputs → IsCount L.output
     → CommandInRange (length L.inputs) 0 0 L.command → lanes_apart L.command ≡ false
-    → (l : ℕ) × (walk_table sort.Loops (loops_rows L) ≡ Refused (LanesInside l))
+    → (l : ℕ) × (walk_table sort.Loops (loops_rows L) ≡ Err (LanesInside l))
 lanes_refused L few cells out command nested =
     ⊎_elim
     (λ e.

@@ -1,12 +1,12 @@
 // The names that rows open, and how many may be in force: [10.6].
-ghost use Rattle.std.specs.Prelude.{◌≡◌, ◌≤◌};
-ghost use Rattle.syntax.specs.Names.{names as names_of, lanes_with, opened_by, names_fit, lanes_fit, Bounded};
+ghost use Rattle.std.specs.Prelude.{◌≡◌};
+ghost use Rattle.syntax.specs.Names.{opened_by, names_fit, lanes_fit, Bounded};
 
 use words::groups::{is_loop, is_map};
 use words::kinds::*;
 
-// How many names of each kind are in force.
-#[derive(Clone, Copy)]
+// How many names of each kind are in force. `Bounded` is no invariant of the type: question 6 is put to what a row opens, which may pass it (`ask_row`).
+#[derive(Clone, Copy, Debug, PartialEq, Eq)]
 pub struct Names {
     pub inputs: usize,
     pub variables: usize,
@@ -15,81 +15,54 @@ pub struct Names {
     pub lanes: usize,
 }
 
-pub fn in_force(
-    inputs: usize,
-    variables: usize,
-    counters: usize,
-    regions: usize,
-    lanes: usize,
-) -> Names
-    ensures { result ≡ names_of inputs variables counters regions lanes }
-{
-    Names {
-        inputs,
-        variables,
-        counters,
-        regions,
-        lanes,
+impl Names {
+    // The names in force and those that a row opens for its last operand; [18.15] a `lanes` counts among the `lanes` around.
+    #[tactic(auto, unfolding(crate::specs::Names::opened_by, words::specs::Groups::one_of))]
+    pub fn opened(self, kind: u8, number: usize) -> Names
+        requires { Bounded self }
+        ensures { result ≡ opened_by kind number self }
+    {
+        match kind {
+            WORD_PLAN | WORD_LOOPS => Names {
+                inputs: number,
+                ..self
+            },
+            WORD_REDSEQ => Names {
+                variables: self.variables + 2,
+                ..self
+            },
+            WORD_NEW => Names {
+                regions: self.regions + 1,
+                ..self
+            },
+            WORD_LANES => Names {
+                counters: self.counters + 1,
+                lanes: self.lanes + 1,
+                ..self
+            },
+            _ if is_loop(kind) => Names {
+                counters: self.counters + 1,
+                ..self
+            },
+            _ if is_map(kind) => Names {
+                variables: self.variables + 1,
+                ..self
+            },
+            _ => self,
+        }
     }
-}
 
-// [18.15] The `lanes` around, and a row's own.
-fn lanes_with(kind: u8, lanes: usize) -> usize
-    requires { lanes ≤ 1 }
-    ensures { result ≡ lanes_with kind lanes }
-{
-    if kind == WORD_LANES {
-        return lanes + 1;
+    // [13.9] [13.10] [13.11] At most 16 variables, 32 counters and 256 regions?
+    pub fn names_fit(self) -> bool
+        ensures { result ≡ names_fit self }
+    {
+        self.variables <= 16 && self.counters <= 32 && self.regions <= 256
     }
-    lanes
-}
 
-// The names in force and those that a row opens for its last operand.
-pub fn opened(names: Names, kind: u8, number: usize) -> Names
-    requires { Bounded names }
-    ensures { result ≡ opened_by kind number names }
-{
-    let inputs = names.inputs;
-    let variables = names.variables;
-    let counters = names.counters;
-    let regions = names.regions;
-    let lanes = names.lanes;
-    if is_map(kind) {
-        return in_force(inputs, variables + 1, counters, regions, lanes);
+    // [18.15] At most one `lanes`?
+    pub fn lanes_fit(self) -> bool
+        ensures { result ≡ lanes_fit self }
+    {
+        self.lanes <= 1
     }
-    if is_loop(kind) {
-        return in_force(
-            inputs,
-            variables,
-            counters + 1,
-            regions,
-            lanes_with(kind, lanes),
-        );
-    }
-    match kind {
-        WORD_PLAN | WORD_LOOPS => in_force(number, variables, counters, regions, lanes),
-        WORD_REDSEQ => in_force(inputs, variables + 2, counters, regions, lanes),
-        WORD_NEW => in_force(inputs, variables, counters, regions + 1, lanes),
-        _ => names,
-    }
-}
-
-// [13.9] [13.10] [13.11] At most 16 variables, 32 counters and 256 regions?
-pub fn names_fit(names: Names) -> bool
-    ensures { result ≡ names_fit names }
-{
-    if 16 < names.variables {
-        return false;
-    }
-    if 32 < names.counters {
-        return false;
-    }
-    names.regions <= 256
-}
-
-// [18.15] At most one `lanes`?
-pub fn lanes_fit(names: Names) -> bool
-    ensures { result ≡ lanes_fit names }
-{
-    names.lanes <= 1
 }

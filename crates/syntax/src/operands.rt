@@ -3,13 +3,12 @@ ghost use Rattle.std.specs.Prelude.{◌≡◌, ◌≤◌};
 ghost use Rattle.syntax.specs.Names.{Bounded};
 ghost use Rattle.syntax.specs.Operands.{inputs_counted, operand_sort, operand_of};
 
-use crate::names;
 use crate::names::Names;
 use words::Sort;
 use words::kinds::*;
 
 // What is due: a row of a sort, and the names in force there.
-#[derive(Clone, Copy)]
+#[derive(Clone, Copy, Debug, PartialEq, Eq)]
 pub struct Due {
     pub sort: Sort,
     pub names: Names,
@@ -20,69 +19,40 @@ pub fn inputs_counted(sort: Sort, number: usize) -> usize
     ensures { (result ≡ inputs_counted sort number) × (result ≤ number) }
 {
     match sort {
-        Sort::Plan => number,
-        Sort::DataType => 0,
-        Sort::Term => 0,
-        Sort::Loops => number,
-        Sort::Cells => 0,
-        Sort::Command => 0,
-        Sort::Place => 0,
-        Sort::Value => 0,
-        Sort::Offset => 0,
+        Sort::Plan | Sort::Loops => number,
+        _ => 0,
     }
 }
 
 // The sort of a row's operand, the last one or another.
+#[tactic(auto, unfolding(words::specs::Groups::one_of))]
 fn operand_sort(sort: Sort, kind: u8, last: bool) -> Sort
     ensures { result ≡ operand_sort sort kind last }
 {
-    match sort {
-        Sort::Plan => {
-            if last {
-                return Sort::Term;
-            }
-            Sort::DataType
-        }
-        Sort::DataType => Sort::DataType,
-        Sort::Term => Sort::Term,
-        Sort::Loops => {
-            if last {
-                return Sort::Command;
-            }
-            Sort::Cells
-        }
-        Sort::Cells => Sort::Cells,
-        Sort::Command => {
-            if kind != WORD_SET {
-                return Sort::Command;
-            }
-            if last {
-                return Sort::Value;
-            }
-            Sort::Place
-        }
-        Sort::Place => Sort::Offset,
-        Sort::Value => match kind {
-            WORD_IN | WORD_LOC => Sort::Offset,
-            _ => Sort::Value,
-        },
-        Sort::Offset => Sort::Offset,
+    match (sort, kind, last) {
+        (Sort::Plan, _, false) => Sort::DataType,
+        (Sort::Plan, _, true) => Sort::Term,
+        (Sort::Loops, _, false) => Sort::Cells,
+        (Sort::Loops, _, true) => Sort::Command,
+        (Sort::Command, WORD_SET, false) => Sort::Place,
+        (Sort::Command, WORD_SET, true) => Sort::Value,
+        (Sort::Place, _, _) | (Sort::Value, WORD_IN | WORD_LOC, _) => Sort::Offset,
+        _ => sort,
     }
 }
 
-// What is due as a row's operand: the names that the row opens are in force in the last one.
-pub fn operand(due: Due, kind: u8, number: usize, last: bool) -> Due
-    requires { Bounded due.names }
-    ensures { result ≡ operand_of due kind number last }
-{
-    let whole = due.sort;
-    let names = due.names;
-    let sort = operand_sort(whole, kind, last);
-    if last {
-        return Due {
-            sort,
-            names: names::opened(names, kind, number),
-        };
+impl Due {
+    // What is due as a row's operand: the names that the row opens are in force in the last one.
+    #[tactic(auto, unfolding(crate::specs::Operands::operand_of))]
+    pub fn operand(self, kind: u8, number: usize, last: bool) -> Due
+        requires { Bounded self.names }
+        ensures { result ≡ operand_of self kind number last }
+    {
+        let sort = operand_sort(self.sort, kind, last);
+        if last {
+            let names = self.names.opened(kind, number);
+            return Due { sort, names };
+        }
+        Due { sort, ..self }
     }
-    Due { sort, names }
 }

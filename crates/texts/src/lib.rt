@@ -8,14 +8,7 @@ ghost use Rattle.texts.specs.Texts.{place_of};
 fn place_of(byte: u8, bytes: &[u8]) -> usize
     ensures { (result ≡ place_of byte bytes.now) × (result ≤ length bytes.now) }
 {
-    let mut i = 0;
-    while i < bytes.len() {
-        if bytes[i] == byte {
-            return i;
-        }
-        i += 1;
-    }
-    i
+    bytes.iter().position(|b| *b == byte).unwrap_or(bytes.len())
 }
 
 // [1.1] How many bytes stand before the end of a text's first line.

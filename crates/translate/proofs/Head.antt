@@ -6,7 +6,8 @@ use Prim.Native.Nat.{ℕ, suc, ◌+◌, ◌-◌, ◌≤◌, ◌<◌}
 use native.Mathlib.Omega.{arith}
 use lib.IntN.{ℤ, pos}
 use lib.ListN.{length, get_or, take, drop, length-append, length-map}
-use lib.Seq.{drop_at, length-take-le, get_or-take, get_or-drop}
+use lib.Seq.{drop_at, length-take-le, get_or-take, take-length}
+use Rattle.std.proofs.lemmas.List.{map_more}
 use Rattle.words.specs.Kinds.{Row, rows_of, word_plan, word_loops, word_cells, word_out}
 use Rattle.words.proofs.Laws.{rows_length}
 use Rattle.meaning.specs.Types.{DataType, number, cells}
@@ -43,28 +44,30 @@ same_cells Y (p ∷ ps) (t ∷ I) h f =
     ap₂ (λ (c : ℕ) (cs : List ℕ). c ∷ cs) (ap cells (f 0 (omega arith)))
     (same_cells Y ps I (omega arith) (λ k g. f (suc k) (omega arith)))
 
--- the rows `cells` of places: none, or the first and then the rest
-pub cells_none : (Y ps : List ℕ) (o : Table) → length ps ≡ 0 → o ≡ put_rows (all_cells_rows (cells_at Y ps)) o
-unfolding put_rows all_cells_rows
-cells_none Y [] o h = refl
-cells_none Y (p ∷ ps) o h = absurd (omega arith)
+-- one row `cells` more
+cells_joined : (xs ys : List ℕ) → all_cells_rows (xs ++ ys) ≡ all_cells_rows xs ++ all_cells_rows ys
+unfolding all_cells_rows
+cells_joined [] ys = refl
+cells_joined (x ∷ xs) ys = ap (λ (l : List Row). (word_cells, pos x) ∷ l) (cells_joined xs ys)
 
-pub cells_more : (Y ps : List ℕ) (o o' o'' : Table) → (length ps ≡ 0 → ⊥)
-    → o' ≡ put_row o (word_cells, pos (cells (type_at Y (get_or ps 0 0))))
-    → o'' ≡ put_rows (all_cells_rows (cells_at Y (part 1 ps))) o' → o'' ≡ put_rows (all_cells_rows (cells_at Y ps)) o
+-- the rows `cells` of places: none yet, and one more
+pub cells_none : (Y ps : List ℕ) (o : Table) → o ≡ put_rows (all_cells_rows (cells_at Y (take 0 ps))) o
 unfolding put_rows all_cells_rows
-cells_more Y [] o o' o'' h p q = absurd (h refl)
-cells_more Y (x ∷ ps) o o' o'' h p q =
-    q ∙ ap (λ (l : List ℕ). put_rows (all_cells_rows (cells_at Y l)) o') (part_all (x ∷ ps) 1)
-    ∙ ap (put_rows (all_cells_rows (cells_at Y ps))) p
+cells_none Y ps o = refl
 
--- the places behind the first are places too
-pub places_behind : (Y ps : List ℕ) → ((k : ℕ) → k < length ps → get_or ps k 0 < length Y)
-    → (k : ℕ) → k < length (part 1 ps) → get_or (part 1 ps) k 0 < length Y
-places_behind Y ps h k g =
-    let e : get_or (part 1 ps) k 0 ≡ get_or ps (1 + k) 0 = ap (λ (l : List ℕ). get_or l k 0) (part_all ps 1) ∙ get_or-drop 1 ps k 0 in
-    let l = part_length 1 ps in
-    omega (arith, e, h (1 + k) (omega (arith, g, l)))
+pub cells_more : (Y ps : List ℕ) (i : ℕ) (o o' o'' : Table) → i < length ps → o' ≡ put_rows (all_cells_rows (cells_at Y (take i ps))) o
+    → o'' ≡ put_row o' (word_cells, pos (cells (type_at Y (get_or ps i 0)))) → o'' ≡ put_rows (all_cells_rows (cells_at Y (take (i + 1) ps))) o
+unfolding put_rows all_cells_rows
+cells_more Y ps i o o' o'' h p q =
+    let x : ℕ = cells (type_at Y (get_or ps i 0)) in
+    q ∙ ap (λ (u : Table). put_row u (word_cells, pos x)) p
+    ∙ sym (put_append (all_cells_rows (cells_at Y (take i ps))) ((word_cells, pos x) ∷ []) o)
+    ∙ ap (λ (l : List Row). put_rows l o) (sym (cells_joined (cells_at Y (take i ps)) (x ∷ [])))
+    ∙ ap (λ (l : List ℕ). put_rows (all_cells_rows l) o) (sym (map_more (λ (k : ℕ). cells (type_at Y k)) ps i 0 h))
+
+pub cells_all : (Y ps : List ℕ) (i : ℕ) (o o' : Table) → i ≡ length ps → o' ≡ put_rows (all_cells_rows (cells_at Y (take i ps))) o
+    → o' ≡ put_rows (all_cells_rows (cells_at Y ps)) o
+cells_all Y ps i o o' e p = p ∙ ap (λ (l : List ℕ). put_rows (all_cells_rows (cells_at Y l)) o) (ap (λ (n : ℕ). take n ps) e ∙ take-length ps)
 
 -- the output, as node 1
 pub output_node : (Y T U : List ℕ) (place : ℕ) → place < 65536 → Pushed T U 1 (node_of word_out place 0 0 0)
@@ -191,9 +194,6 @@ module _ {ks : List ℕ} {ns : List ℤ} {C Y places : List ℕ} {row place : �
 
   pub column_there : row ≤ length C
   column_there = omega (arith, rows_there, S.few, S.column)
-
-  pub row_few : row ≤ 256
-  row_few = omega (arith, rows_there, S.few)
 
   pub place_below : place < length Y
   place_below = S.noted.type.0

@@ -1,4 +1,5 @@
 -- What is lent: what each way out of the entries knows. Assumes nothing.
+use Rattle.std.specs.Prelude.{Ok, Err}
 use mathlib.Core.Bool.{Bool, true, false, cond}
 use mathlib.Core.Path.{◌≡◌, refl, sym, ap, ◌∙◌, subst}
 use mathlib.Core.List.{List}
@@ -9,9 +10,7 @@ use lib.IntN.{ℤ}
 use lib.ListN.{length, take}
 use Rattle.refusals.specs.declared.Refusal.{Refusal}
 use Rattle.refusals.specs.declared.Refusal.TheVariants.{LentSize}
-use Rattle.refusals.specs.declared.Answer.{Answer}
-use Rattle.refusals.specs.declared.Answer.TheVariants.{Told, Refused}
-use Rattle.refusals.specs.Answers.{unless_refused, is_told}
+use Rattle.refusals.specs.Answers.{unless_refused, is_told, Answer}
 use Rattle.words.specs.Kinds.{Row, rows_of}
 use Rattle.lines.specs.Reading.{filled}
 use Rattle.lines.proofs.TableLaws.{rows_in_front}
@@ -29,20 +28,20 @@ module _ (ws : List (List ℕ)) (t : List ℕ) (r : Answer) (ks ks' : List ℕ) 
   own_answer = go (make_text ws t) refl I.answer
     where
       go : (v : Answer) → make_text ws t ≡ v → r ≡ unless_refused v (ask_room (length (rows_made ws t)) (length ks) (length ns)) → r ≡ v
-      go (Refused q) f e = e
-      go (Told m) f e =
+      go (Err q) f e = e
+      go (Ok m) f e =
           let c = text_count ws t m f in
           let n : ℕ = length (rows_made ws t) in
-          e ∙ simp (le-leb n (length ks) (omega (arith, c.0, c.1, lk)), le-leb n (length ns) (omega (arith, c.0, c.1, ln))) (ap Told c.0)
+          e ∙ simp (le-leb n (length ks) (omega (arith, c.0, c.1, lk)), le-leb n (length ns) (omega (arith, c.0, c.1, ln))) (ap Ok c.0)
 
   module _ (text : List ℕ) where
-    pub text_refused : {q : Refusal} → r ≡ Refused q → TextInto ws (make_text ws t) (rows_made ws t) text r text
+    pub text_refused : {q : Refusal} → r ≡ Err q → TextInto ws (make_text ws t) (rows_made ws t) text r text
     text_refused f = record {
       answer = f ∙ ap (λ (v : Answer). unless_refused v (printing (text_of ws (rows_made ws t)) (length text))) (sym f ∙ own_answer);
       text_left = ap (λ (v : Answer). filled (is_told v) (text_of ws (rows_made ws t)) text) (sym f);
     }
 
-    module _ (m : ℕ) (f : r ≡ Told m) where
+    module _ (m : ℕ) (f : r ≡ Ok m) where
       abbrev R : List Row
       R = rows_made ws t
 
@@ -63,6 +62,6 @@ module _ (ws : List (List ℕ)) (t : List ℕ) (r : Answer) (ks ks' : List ℕ) 
             text_left = K.text_left ∙ ap (λ (b : Bool). filled b (text_of ws R) text) (sym (ap is_told K.answer ∙ fits (fitting (text_of ws R) (length text))));
           }
         where
-          fits : (b : Bool) → is_told (cond b (Told (length (text_of ws R))) (Refused LentSize)) ≡ b
+          fits : (b : Bool) → is_told (cond b (Ok (length (text_of ws R))) (Err LentSize)) ≡ b
           fits true = refl
           fits false = refl

@@ -1,12 +1,11 @@
 -- A plan's text that was read: the table that was lent to the reader holds its rows. Assumes nothing.
+use Rattle.std.specs.Prelude.{Ok, Err}
 use mathlib.Core.Path.{◌≡◌, sym, ap, ◌∙◌}
 use mathlib.Core.List.{List}
 use Prim.Native.Nat.{ℕ}
 use lib.IntN.{ℤ}
 use Rattle.refusals.specs.declared.Refusal.{Refusal}
-use Rattle.refusals.specs.declared.Answer.{Answer}
-use Rattle.refusals.specs.declared.Answer.TheVariants.{Told, Refused}
-use Rattle.refusals.specs.Answers.{unless_refused}
+use Rattle.refusals.specs.Answers.{unless_refused, Answer}
 use Rattle.words.specs.Kinds.{Row}
 use Rattle.words.specs.Words.{look_up}
 use Rattle.texts.specs.Texts.{lines_of}
@@ -25,10 +24,10 @@ module _ (ws : List (List ℕ)) (t : List ℕ) (r : Answer) (e : r ≡ reading (
   abbrev R : List Row
   R = rows_in (look_up ws) (lines_of t)
 
-  pub text_unread : {q : Refusal} (lk : List ℕ) (ln : List ℤ) → r ≡ Refused q → TableInto (make_text ws t) (rows_made ws t) lk ln r lk ln
+  pub text_unread : {q : Refusal} (lk : List ℕ) (ln : List ℤ) → r ≡ Err q → TableInto (make_text ws t) (rows_made ws t) lk ln r lk ln
   text_unread {q} lk ln f = refused_into (rows_made ws t) lk ln (f ∙ sym (text_refused ws t q (unread_text ws t q (sym e ∙ f)))) f
 
-  pub text_made : {m : ℕ} {S : List Row} {lk lk' : List ℕ} {ln ln' : List ℤ} {v : Answer} → r ≡ Told m → S ≡ R
+  pub text_made : {m : ℕ} {S : List Row} {lk lk' : List ℕ} {ln ln' : List ℤ} {v : Answer} → r ≡ Ok m → S ≡ R
       → TableInto (unless_refused (check_plan_rows S) (make_plan (plan_of S))) (made_rows (plan_of S)) lk ln v lk' ln'
       → TableInto (make_text ws t) (rows_made ws t) lk ln v lk' ln'
   unfolding make_text

@@ -1,10 +1,8 @@
 -- The translation of a plan's text: [10.1] to [10.8], [10.10], [18.15], [10.11] and [10.12], in this order ([10.16]). The table of
 -- words is an argument. Definitions only; assumes nothing.
-use Rattle.std.specs.Prelude.{cond, ◌≡◌, List, ℕ, leb, length}
+use Rattle.std.specs.Prelude.{cond, ◌≡◌, List, ℕ, leb, length, Ok, Err}
 use Rattle.refusals.specs.declared.Refusal.TheVariants.{LoopsLength, WriteCount, LanesInside}
-use Rattle.refusals.specs.declared.Answer.{Answer}
-use Rattle.refusals.specs.declared.Answer.TheVariants.{Told, Refused}
-use Rattle.refusals.specs.Answers.{unless_refused, is_told}
+use Rattle.refusals.specs.Answers.{unless_refused, is_told, Answer}
 use Rattle.words.specs.Kinds.{Row}
 use Rattle.words.specs.Words.{look_up}
 use Rattle.texts.specs.Texts.{lines_of}
@@ -30,9 +28,9 @@ unfoldable pub make_plan : Plan → Answer
 make_plan P =
     cond (leb (length (made_rows P)) 4096)
     (cond (lanes_apart (translation P).command)
-    (cond (leb (plan_writes P) 16777216) (Told (length (made_rows P))) (Refused WriteCount))
-    (Refused (LanesInside 0)))
-    (Refused LoopsLength)
+    (cond (leb (plan_writes P) 16777216) (Ok (length (made_rows P))) (Err WriteCount))
+    (Err (LanesInside 0)))
+    (Err LoopsLength)
 
 -- ---- texts
 

@@ -1,19 +1,16 @@
 -- What the contracts of the entries' parts say besides: a plan's rows with the types that were found.
 -- Definitions only; assumes nothing.
-use Rattle.std.specs.Prelude.{cond, ◌≡◌, List, [], map, ℕ, ◌+◌, ◌≤◌, ◌<◌, eqb, ℤ, length, get_or, drop}
+use Rattle.std.specs.Prelude.{cond, ◌≡◌, List, [], map, ℕ, ◌+◌, ◌≤◌, ◌<◌, eqb, ℤ, length, get_or, drop, Ok, Err}
+use Rattle.loops.specs.Checked.{Checked}
+use Rattle.refusals.specs.Answers.{Answer}
 use Rattle.refusals.specs.Refusals.{refusal_number}
 use Rattle.refusals.specs.declared.Refusal.TheVariants.{LanesInside}
-use Rattle.refusals.specs.declared.Answer.{Answer}
-use Rattle.refusals.specs.declared.Answer.TheVariants.{Told, Refused}
 use Rattle.meaning.specs.Types.{number, cells}
 use Rattle.meaning.specs.Terms.{Plan}
 use Rattle.meaning.specs.Rows.{all_type_rows}
 use Rattle.meaning.specs.Translation.{plan_type}
 use Rattle.type_table.specs.Table.{type_at, Sound}
 use Rattle.type_table.specs.Columns.{Names, Noted}
-use Rattle.loops.specs.declared.Checked.{Checked}
-use Rattle.loops.specs.declared.Checked.TheVariants as check
-use Rattle.loops.specs.declared.Checked.TheVariants.{Passes}
 use Rattle.row_typing.specs.Typed.{PlanStands}
 
 -- the cells of the types at places of the table Y
@@ -40,5 +37,5 @@ pub record SomePlanNoted (ks : List ℕ) (ns : List ℤ) (C Y I : List ℕ) (row
 
 -- So many rows, if the check of loops lets them pass; [18.15] question 18 names no line of loops that are made.
 abbrev pub by_check : ℕ → Checked → Answer
-by_check n (Passes writes need) = Told n
-by_check n (check.Refused q) = Refused (cond (eqb (refusal_number q) 18) (LanesInside 0) q)
+by_check n (Ok p) = Ok n
+by_check n (Err q) = Err (cond (eqb (refusal_number q) 18) (LanesInside 0) q)

@@ -2,13 +2,12 @@
 -- `translate_rows` and `translate_text` promise for every input; on the list of questions in order (Questions); on the plan of a text
 -- (Accepted); on `translation`, `loops_rows`, `plan_writes` and `need` of `meaning`, `check_plan_text` of `typing` and of `loops`, and
 -- `lines_of` and `rows_in` of `lines`. The proofs stand in Laws.
-use Rattle.std.specs.Prelude.{Bool, true, false, cond, ◌≡◌, refl, List, ℕ, ◌≤◌, leb, length, take, drop}
+use Rattle.std.specs.Prelude.{Bool, true, false, cond, ◌≡◌, refl, List, ℕ, ◌≤◌, leb, length, take, drop, Ok, Err}
+use Rattle.loops.specs.Checked.{passing}
 use Rattle.std.proofs.Common.{sym, ap, ◌∙◌, arith, le-leb, take_at, drop_at}
 use Rattle.refusals.specs.declared.Refusal.{Refusal}
 use Rattle.refusals.specs.declared.Refusal.TheVariants.{LentSize}
-use Rattle.refusals.specs.declared.Answer.{Answer}
-use Rattle.refusals.specs.declared.Answer.TheVariants.{Told, Refused}
-use Rattle.refusals.specs.Answers.{unless_refused}
+use Rattle.refusals.specs.Answers.{unless_refused, Answer}
 use Rattle.words.specs.Good.{Good}
 use Rattle.words.specs.Words.{look_up}
 use Rattle.texts.specs.Texts.{lines_of}
@@ -19,7 +18,6 @@ use Rattle.meaning.specs.Layout.{need}
 use Rattle.meaning.specs.Counts.{plan_writes}
 use Rattle.meaning.specs.Rows.{loops_rows}
 use Rattle.meaning.specs.Translation.{translation}
-use Rattle.loops.specs.declared.Checked.TheVariants.{Passes}
 use Rattle.loops.specs.Check as loops
 use Rattle.loops.specs.TextTheorems.{own_text_size, own_text_back, own_text_passes}
 use Rattle.translate.specs.Entry.{made_rows, plan_in, rows_made, make_text, TextInto}
@@ -27,10 +25,10 @@ use Rattle.translate.specs.Accepted.{TextPlan}
 use Rattle.translate.specs.Laws.Answers.{text_made, text_count}
 use Rattle.translate.specs.Laws.Texts.{text_plan}
 
-same_printed : {p q : Refusal} → Refused p ≡ Refused q → p ≡ q
+same_printed : {p q : Refusal} → ◌≡◌ {A = Answer} (Err p) (Err q) → p ≡ q
 same_printed e = cc
 
-printed_refused : {A : Type 0} {n : ℕ} {q : Refusal} → Told n ≡ Refused q → A
+printed_refused : {A : Type 0} {n : ℕ} {q : Refusal} → ◌≡◌ {A = Answer} (Ok n) (Err q) → A
 printed_refused e = absurd (let clash : ◌≡◌ {A = ℕ} 0 1 = cc in omega arith)
 
 -- What was put into a lent text: its first n bytes read back to the rows of the translation ([1.9]), and pass the check of loops
@@ -38,11 +36,11 @@ printed_refused e = absurd (let clash : ◌≡◌ {A = ℕ} 0 1 = cc in omega ar
 pub record TextMade (ws : List (List ℕ)) (t text text' : List ℕ) (n : ℕ) (P : Plan) : Type 0 where
   pub plan : TextPlan ws t P
   pub rows : rows_in (look_up ws) (lines_of (take n text')) ≡ loops_rows (translation P)
-  pub passes : loops.check_loops_text ws (take n text') ≡ Passes (plan_writes P) (need (translation P))
+  pub passes : loops.check_loops_text ws (take n text') ≡ passing (plan_writes P) (need (translation P))
   pub few : n ≤ 65536
   pub behind : drop n text' ≡ drop n text
 
-pub text_put : (ws : List (List ℕ)) (good : Good ws) (t text text' : List ℕ) (n : ℕ) → TextInto ws (make_text ws t) (rows_made ws t) text (Told n) text' → TextMade ws t text text' n (plan_in ws t)
+pub text_put : (ws : List (List ℕ)) (good : Good ws) (t text text' : List ℕ) (n : ℕ) → TextInto ws (make_text ws t) (rows_made ws t) text (Ok n) text' → TextMade ws t text text' n (plan_in ws t)
 unfolding printing
 text_put ws good t text text' n I = go (make_text ws t) refl I.answer
   where
@@ -52,16 +50,16 @@ text_put ws good t text text' n I = go (make_text ws t) refl I.answer
     S : List ℕ
     S = text_of ws (made_rows Q)
 
-    count : Told n ≡ printing S (length text) → length S ≡ n
+    count : Ok n ≡ printing S (length text) → length S ≡ n
     count e = by (leb (length S) (length text)) e
       where
-        by : (b : Bool) → Told n ≡ cond b (Told (length S)) (Refused LentSize) → length S ≡ n
+        by : (b : Bool) → Ok n ≡ cond b (Ok (length S)) (Err LentSize) → length S ≡ n
         by true f = cc
         by false f = printed_refused f
 
-    go : (v : Answer) → make_text ws t ≡ v → Told n ≡ unless_refused v (printing S (length text)) → TextMade ws t text text' n Q
-    go (Refused q) f e = printed_refused e
-    go (Told m) f e =
+    go : (v : Answer) → make_text ws t ≡ v → Ok n ≡ unless_refused v (printing S (length text)) → TextMade ws t text text' n Q
+    go (Err q) f e = printed_refused e
+    go (Ok m) f e =
         let c = text_count ws t m f in
         let passed = (text_made ws t m f).0 in
         let p = text_plan ws t passed.0 passed.1 in
@@ -80,7 +78,7 @@ text_put ws good t text text' n I = go (make_text ws t) refl I.answer
 
 -- 65,536 bytes are room for the text of all loops that are made: where so many are lent, only questions 1 to 8, 10, 18 and 11 refuse.
 pub room_for_all_holds : (ws : List (List ℕ)) (good : Good ws) (t : List ℕ) (bytes : ℕ) (q : Refusal) → 65536 ≤ bytes
-    → unless_refused (make_text ws t) (printing (text_of ws (made_rows (plan_in ws t))) bytes) ≡ Refused q → make_text ws t ≡ Refused q
+    → unless_refused (make_text ws t) (printing (text_of ws (made_rows (plan_in ws t))) bytes) ≡ Err q → make_text ws t ≡ Err q
 unfolding printing
 room_for_all_holds ws good t bytes q h e = go (make_text ws t) refl e
   where
@@ -90,11 +88,11 @@ room_for_all_holds ws good t bytes q h e = go (make_text ws t) refl e
     S : List ℕ
     S = text_of ws (made_rows Q)
 
-    go : (v : Answer) → make_text ws t ≡ v → unless_refused v (printing S bytes) ≡ Refused q → make_text ws t ≡ Refused q
-    go (Refused p) f e = f ∙ ap Refused (same_printed e)
-    go (Told m) f e =
+    go : (v : Answer) → make_text ws t ≡ v → unless_refused v (printing S bytes) ≡ Err q → make_text ws t ≡ Err q
+    go (Err p) f e = f ∙ ap Err (same_printed e)
+    go (Ok m) f e =
         let c = text_count ws t m f in
         let passed = (text_made ws t m f).0 in
         let p = text_plan ws t passed.0 passed.1 in
         let short = own_text_size ws good Q p.type p.well_typed p.within p.numbers in
-        printed_refused (sym (ap (λ (b : Bool). cond b (Told (length S)) (Refused LentSize)) (le-leb (length S) bytes (omega (arith, h, short, c.0, c.1)))) ∙ e)
+        printed_refused (sym (ap (λ (b : Bool). cond b (Ok (length S)) (Err LentSize)) (le-leb (length S) bytes (omega (arith, h, short, c.0, c.1)))) ∙ e)

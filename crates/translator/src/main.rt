@@ -2,8 +2,6 @@
 // and prints with the words of `words.txt`, if there is one.
 #![tactic(auto)]
 
-use files::File;
-
 fn main(rt: HostRuntime) {
     // One byte more than a words text may have ([13.18]), so that a longer one is seen to be too long.
     let mut words = [0u8; 599];
@@ -14,14 +12,9 @@ fn main(rt: HostRuntime) {
     let size = files::fill(&mut input, &mut plan);
     // Room for the text of all loops that are made.
     let mut text = [0u8; 65536];
-    match own {
-        File::Read(bytes) => {
-            let put = programs::translator_in(&words[..bytes], &plan[..size], &mut text);
-            files::print(&rt, put, &text);
-        }
-        File::NotOpened => {
-            let put = programs::translator(&plan[..size], &mut text);
-            files::print(&rt, put, &text);
-        }
-    }
+    let put = match own {
+        Some(bytes) => programs::translator_in(&words[..bytes], &plan[..size], &mut text),
+        None => programs::translator(&plan[..size], &mut text),
+    };
+    files::print(&rt, put, &text);
 }

@@ -1,21 +1,10 @@
 -- One more variable: it is variable 0, and the others are one further out.
-use mathlib.Core.Path.{◌≡◌, refl, ap, sym, subst, ◌∙◌}
-use mathlib.Core.List.{List, ◌∷◌}
-use mathlib.Core.Bool.{true, false}
-use Prim.Native.Nat.{ℕ, zero, suc, ◌+◌, ◌-◌, ◌<◌}
-use native.Mathlib.Omega.{arith}
-use lib.ListN.{length, get_or, set, length-set}
-use lib.Seq.{get_or-set_same, get_or-set_other}
-use Rattle.meaning.specs.Types.{DataType, Series, number, array, vector, element}
+use Rattle.std.specs.Prelude.{◌≡◌, List, ◌∷◌, ℕ, zero, suc, ◌+◌, ◌-◌, ◌<◌, length, get_or, set}
+use Rattle.std.proofs.Common.{refl, ap, sym, subst, ◌∙◌, arith, length-set, get_or-set_same, get_or-set_other}
+use Rattle.meaning.specs.Types.{DataType, number}
 use Rattle.type_table.specs.Table.{type_at}
 use Rattle.type_table.specs.Columns.{Names}
 use Rattle.type_rules.specs.declared.scope.Scope.{Scope}
-use Rattle.typing.specs.Check.{is_array, is_series}
-use Rattle.type_rules.specs.Rules.{opens_second, second_scope}
-use Rattle.words.specs.Groups.{one_of, is_map}
-use Rattle.words.specs.Kinds.{word_mapvec}
-use borrow.Author.Tests.{ne_eqb}
-use Rattle.type_rules.proofs.RuleLaws.{no_array, no_vector}
 use Rattle.type_rules.specs.Scopes.{InForce}
 
 module _ (T : List ℕ) (m : ℕ) (s : Scope) (I Γ : List DataType) (p : ℕ) (F : InForce T m s I Γ) (h : p < m) (room : s.count < 16) where
@@ -44,49 +33,3 @@ module _ (T : List ℕ) (m : ℕ) (s : Scope) (I Γ : List DataType) (p : ℕ) (
     deep = omega (arith, room);
     long = length-set s.variables s.count p ∙ F.long;
   }
-
--- the second operand of a row that is no map, and of a map over an array or over none
-module _ (T : List ℕ) (k : ℕ) (t : DataType) where
-  pub plain_opens : is_map k ≡ false → true ≡ opens_second k t
-  plain_opens e = rw e
-
-  pub plain_scope : (m : ℕ) (s : Scope) (I Γ : List DataType) → is_map k ≡ false → InForce T m s I Γ → InForce T m s I (second_scope k t Γ)
-  plain_scope m s I Γ e F = rw e F
-
-  -- [18.6] the body of a `mapvec`
-  pub lane_opens : k ≡ word_mapvec → is_series Series.vectors t ≡ opens_second k t
-  unfolding one_of
-  lane_opens e = rw e
-
-  pub lane_scope : (m : ℕ) (s : Scope) (I Γ : List DataType) → k ≡ word_mapvec
-      → InForce T m s I (element t ∷ Γ) → InForce T m s I (second_scope k t Γ)
-  unfolding one_of
-  lane_scope m s I Γ e F = rw e F
-
-  pub map_closed : is_map k ≡ true → (k ≡ word_mapvec → ⊥) → ((n : ℕ) (u : DataType) → t ≡ array n u → ⊥) → false ≡ opens_second k t
-  map_closed e g f = rw (e, ne_eqb k word_mapvec g, no_array t f)
-
-  pub map_opens : (n : ℕ) (u : DataType) → is_map k ≡ true → (k ≡ word_mapvec → ⊥) → t ≡ array n u → true ≡ opens_second k t
-  map_opens n u e g f = rw (e, ne_eqb k word_mapvec g, f)
-
-  pub map_scope : (n : ℕ) (u : DataType) (m : ℕ) (s : Scope) (I Γ : List DataType) → is_map k ≡ true → t ≡ array n u
-      → InForce T m s I (u ∷ Γ) → InForce T m s I (second_scope k t Γ)
-  map_scope n u m s I Γ e f F = rw (e, f) F
-
--- [18.2] a vector, or none; its lanes are numbers
-pub vector_closed : (t : DataType) → ((w : ℕ) → t ≡ vector w → ⊥) → false ≡ is_series Series.vectors t
-vector_closed t f = rw (no_vector t f)
-
-pub vector_opens : (w : ℕ) (t : DataType) → t ≡ vector w → true ≡ is_series Series.vectors t
-vector_opens w t e = rw e
-
-pub vector_scope : (T : List ℕ) (w : ℕ) (t u : DataType) (m : ℕ) (s : Scope) (I Γ : List DataType) → t ≡ vector w → u ≡ number
-    → InForce T m s I (u ∷ Γ) → InForce T m s I (element t ∷ Γ)
-vector_scope T w t u m s I Γ e f F = rw e (rw f at F)
-
--- the body of a reduction
-pub array_opens : (n : ℕ) (t u : DataType) → t ≡ array n u → true ≡ is_array t
-array_opens n t u e = rw e
-
-pub never_true : {P : Type 0} → false ≡ true → P
-never_true e = absurd (let z : ◌≡◌ {A = ℕ} 0 1 = cc in omega arith)

@@ -1,6 +1,6 @@
 -- Laws of the table of types: a node's type is made of the types at its parts' places, and a table that grows keeps
 -- the types that it had.
-use Rattle.std.specs.Prelude.{◌≡◌, refl, List, [], ◌∷◌, ◌++◌, ℕ, zero, suc, ◌+◌, ◌*◌, ◌≤◌, ◌<◌, length, get_or, take, drop, set}
+use Rattle.std.specs.Prelude.{◌≡◌, refl, List, [], ◌∷◌, ◌++◌, ℕ, zero, suc, ◌+◌, ◌*◌, ◌≤◌, ◌<◌, length, get_or, take, drop, set, Option, Some, None}
 use Rattle.std.proofs.Common.{ap, ap₂, sym, subst, ◌∙◌, arith, mul-le-mul_right, mul-le-mul_left, length-append, length-set, take-append-drop, get_or-set_same, get_or-set_other, length-take-le}
 use Rattle.std.proofs.Math.Decide.{dec_lt}
 use Rattle.std.proofs.Math.ListN.{get_or-append}
@@ -12,11 +12,7 @@ use Rattle.meaning.proofs.Laws.Bounds.{width_is_count}
 use Rattle.type_table.specs.Nodes.{node_of, kind_in, levels_in, cells_in, left_in, right_in}
 use Rattle.type_table.specs.Table.{by_kind, node_type, types_from, types_of, type_at, PartsBefore, SoundAt, Sound, Put, ArrayTold, PairTold, VectorTold}
 use Rattle.type_table.specs.declared.ArrayShape.{ArrayShape}
-use Rattle.type_table.specs.declared.ArrayShape.TheVariants.{Array, NoArray}
 use Rattle.type_table.specs.declared.PairShape.{PairShape}
-use Rattle.type_table.specs.declared.PairShape.TheVariants.{Pair, NoPair}
-use Rattle.type_table.specs.declared.VectorShape.{VectorShape}
-use Rattle.type_table.specs.declared.VectorShape.TheVariants.{Vector, NoVector}
 
 -- what was put into a node comes out
 module _ (k l c a b : ℕ) (hl : l < 256) (hc : c < 65536) (ha : a < 65536) (hb : b < 65536) where
@@ -175,24 +171,24 @@ module _ (T : List ℕ) (n w : ℕ) (S : Sound T n) (h : n < length T) where
 
 -- what is told of an array, of a pair, and of a vector
 module _ (T : List ℕ) (i : ℕ) where
-  pub told_array : {n e : ℕ} {r : ArrayShape} → r ≡ Array n e → ArrayTold T i r
-      → (type_at T i ≡ array n (type_at T e)) × (e < i)
+  pub told_array : {a : ArrayShape} {r : Option ArrayShape} → r ≡ Some a → ArrayTold T i r
+      → (type_at T i ≡ array a.length (type_at T a.element)) × (a.element < i)
   told_array q h = subst (ArrayTold T i) q h
 
-  pub told_no_array : {r : ArrayShape} → r ≡ NoArray → ArrayTold T i r
+  pub told_no_array : {r : Option ArrayShape} → r ≡ None → ArrayTold T i r
       → (n : ℕ) (t : DataType) → type_at T i ≡ array n t → ⊥
   told_no_array q h = subst (ArrayTold T i) q h
 
-  pub told_pair : {a b : ℕ} {r : PairShape} → r ≡ Pair a b → PairTold T i r
-      → (type_at T i ≡ DataType.pair (type_at T a) (type_at T b)) × (a < i) × (b < i)
+  pub told_pair : {p : PairShape} {r : Option PairShape} → r ≡ Some p → PairTold T i r
+      → (type_at T i ≡ DataType.pair (type_at T p.first) (type_at T p.second)) × (p.first < i) × (p.second < i)
   told_pair q h = subst (PairTold T i) q h
 
-  pub told_no_pair : {r : PairShape} → r ≡ NoPair → PairTold T i r
+  pub told_no_pair : {r : Option PairShape} → r ≡ None → PairTold T i r
       → (s t : DataType) → type_at T i ≡ DataType.pair s t → ⊥
   told_no_pair q h = subst (PairTold T i) q h
 
-  pub told_vector : {n : ℕ} {r : VectorShape} → r ≡ Vector n → VectorTold T i r → (type_at T i ≡ vector n) × (0 < i)
+  pub told_vector : {n : ℕ} {r : Option ℕ} → r ≡ Some n → VectorTold T i r → (type_at T i ≡ vector n) × (0 < i)
   told_vector q h = subst (VectorTold T i) q h
 
-  pub told_no_vector : {r : VectorShape} → r ≡ NoVector → VectorTold T i r → (n : ℕ) → type_at T i ≡ vector n → ⊥
+  pub told_no_vector : {r : Option ℕ} → r ≡ None → VectorTold T i r → (n : ℕ) → type_at T i ≡ vector n → ⊥
   told_no_vector q h = subst (VectorTold T i) q h

@@ -1,14 +1,12 @@
 -- What a table of types stands for: the types of [3.1], each named by its place in the table. Definitions only; assumes nothing.
-use Rattle.std.specs.Prelude.{◌≡◌, List, [], ◌∷◌, ◌++◌, ℕ, zero, suc, ◌≤◌, ◌<◌, length, get_or}
+use Rattle.std.specs.Prelude.{◌≡◌, List, [], ◌∷◌, ◌++◌, ℕ, zero, suc, ◌≤◌, ◌<◌, length, get_or, Option, Some, None}
 use Rattle.meaning.specs.Types.{DataType, number, array, vector, cells, levels}
 use Rattle.meaning.specs.Limits.{TypeWithin}
 use Rattle.type_table.specs.Nodes.{kind_in, levels_in, cells_in, left_in, right_in}
 use Rattle.type_table.specs.declared.ArrayShape.{ArrayShape}
-use Rattle.type_table.specs.declared.ArrayShape.TheVariants.{Array, NoArray}
 use Rattle.type_table.specs.declared.PairShape.{PairShape}
-use Rattle.type_table.specs.declared.PairShape.TheVariants.{Pair, NoPair}
-use Rattle.type_table.specs.declared.VectorShape.{VectorShape}
-use Rattle.type_table.specs.declared.VectorShape.TheVariants.{Vector, NoVector}
+use Rattle.type_table.specs.declared.Shape.{Shape}
+use Rattle.type_table.specs.declared.Shape.TheVariants.{Number, Array, Pair, Vector}
 
 -- [3.1] The type of a node by its kind, from its left field and the types at its two fields' places
 abbrev pub by_kind : ℕ → ℕ → DataType → DataType → DataType
@@ -58,14 +56,21 @@ pub record Put (T T' : List ℕ) (m : ℕ) (t : DataType) : Type 0 where
   pub size : length T' ≡ length T
 
 -- What is told of the type at place i when it is asked whether it is an array, a pair, or a vector.
-abbrev pub ArrayTold : List ℕ → ℕ → ArrayShape → Type 0
-ArrayTold T i (Array n e) = (type_at T i ≡ array n (type_at T e)) × (e < i)
-ArrayTold T i NoArray = (n : ℕ) (t : DataType) → type_at T i ≡ array n t → ⊥
+abbrev pub ArrayTold : List ℕ → ℕ → Option ArrayShape → Type 0
+ArrayTold T i (Some a) = (type_at T i ≡ array a.length (type_at T a.element)) × (a.element < i)
+ArrayTold T i None = (n : ℕ) (t : DataType) → type_at T i ≡ array n t → ⊥
 
-abbrev pub PairTold : List ℕ → ℕ → PairShape → Type 0
-PairTold T i (Pair a b) = (type_at T i ≡ DataType.pair (type_at T a) (type_at T b)) × (a < i) × (b < i)
-PairTold T i NoPair = (s t : DataType) → type_at T i ≡ DataType.pair s t → ⊥
+abbrev pub PairTold : List ℕ → ℕ → Option PairShape → Type 0
+PairTold T i (Some p) = (type_at T i ≡ DataType.pair (type_at T p.first) (type_at T p.second)) × (p.first < i) × (p.second < i)
+PairTold T i None = (s t : DataType) → type_at T i ≡ DataType.pair s t → ⊥
 
-abbrev pub VectorTold : List ℕ → ℕ → VectorShape → Type 0
-VectorTold T i (Vector n) = (type_at T i ≡ vector n) × (0 < i)
-VectorTold T i NoVector = (n : ℕ) → type_at T i ≡ vector n → ⊥
+abbrev pub VectorTold : List ℕ → ℕ → Option ℕ → Type 0
+VectorTold T i (Some n) = (type_at T i ≡ vector n) × (0 < i)
+VectorTold T i None = (n : ℕ) → type_at T i ≡ vector n → ⊥
+
+-- What is told of it when it is asked what it is made of.
+abbrev pub ShapeTold : List ℕ → ℕ → Shape → Type 0
+ShapeTold T i Number = type_at T i ≡ number
+ShapeTold T i (Array a) = ArrayTold T i (Some a)
+ShapeTold T i (Pair p) = PairTold T i (Some p)
+ShapeTold T i (Vector w) = VectorTold T i (Some w)

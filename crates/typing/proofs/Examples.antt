@@ -1,10 +1,9 @@
 -- The cards that the check of a plan answers [15.2], and examples of questions 7 and 8, computed on `check_plan_text` from their texts.
 -- Facts about the definitions, none of them a definition to believe; assumes nothing.
-use Rattle.std.specs.Prelude.{◌≡◌, refl, cond, List, [], ◌∷◌, ◌++◌, map, ℕ, eqb}
+use Rattle.std.specs.Prelude.{◌≡◌, refl, cond, List, [], ◌∷◌, ◌++◌, map, ℕ, eqb, Ok, Err}
+use Rattle.refusals.specs.Answers.{Answer}
 use Prim.Native.String.{String}
 use Rattle.refusals.specs.Refusals.{refusal_number, refusal_line}
-use Rattle.refusals.specs.declared.Answer.{Answer}
-use Rattle.refusals.specs.declared.Answer.TheVariants.{Told, Refused}
 use Rattle.words.specs.Words.{bytes, table, words, same_letters, look_from, operands_of}
 use Rattle.numerals.specs.Numerals.{all_digits, value, leading_zero, unsigned, not_below_zero, below_zero, numeral_of as numeral_of}
 use Rattle.texts.specs.Texts.{lines_of, place_of}
@@ -25,8 +24,8 @@ text s = map (λ (b : ℕ). cond (eqb b 32) 10 b) (bytes s) ++ (10 ∷ [])
 
 -- a refusal as number and line; 0 and the rows of a plan that passes
 abbrev shown : Answer → ℕ × ℕ
-shown (Told n) = (0, n)
-shown (Refused q) = (refusal_number q, refusal_line q)
+shown (Ok n) = (0, n)
+shown (Err q) = (refusal_number q, refusal_line q)
 
 -- The text of a plan, and how it is answered.
 abbrev pub Card : Type 0

@@ -1,11 +1,10 @@
 -- What is proved of the check of a plan, in one place. It rests on `check`, `check_plan` (Check), `check_plan_rows`, `check_plan_text` (Entry), the
 -- list of questions in order (Questions), what is to be accepted (Accepted), and on `HasType`, `TermWithin`, `PlanWithin` and
 -- `plan_rows` of `meaning`, `PlanInRange` and `walk_table` of `syntax`, `reading` and `text_of` of `lines`. The proofs stand in Laws.
-use Rattle.std.specs.Prelude.{◌≡◌, List, [], ◌∷◌, ◌++◌, ◌↔◌, ℕ, ◌≤◌, ◌<◌, ◌*◌, ◌/◌, length}
+use Rattle.std.specs.Prelude.{◌≡◌, List, [], ◌∷◌, ◌++◌, ◌↔◌, ℕ, ◌≤◌, ◌<◌, ◌*◌, ◌/◌, length, Ok, Err}
 use Rattle.std.proofs.Common.{sym, subst}
 use Rattle.refusals.specs.declared.Refusal.{Refusal}
 use Rattle.refusals.specs.declared.Refusal.TheVariants.{TypeMisfit, TypeSize, LanesInside}
-use Rattle.refusals.specs.declared.Answer.TheVariants.{Told, Refused}
 use Rattle.words.specs.Kinds.{Row}
 use Rattle.words.specs.Words.{words, look_up}
 use Rattle.words.specs.Good.{Good}
@@ -92,57 +91,57 @@ cells_any_length = table_decided
 
 -- [10.21] Demand 2 for rows: they are at most 256 and pass exactly when they are the rows of a plan that is well typed and within the
 -- limits; it is the only one.
-pub rows_accepted : (R : List Row) → ((check_plan_rows R ≡ Told (length R)) × (length R ≤ 256)) ↔ AcceptedRows R
+pub rows_accepted : (R : List Row) → ((check_plan_rows R ≡ Ok (length R)) × (length R ≤ 256)) ↔ AcceptedRows R
 rows_accepted R = (
   (λ h. accepted_rows R h.1 h.0),
-  (λ a. subst (λ (S : List Row). (check_plan_rows S ≡ Told (length S)) × (length S ≤ 256)) (sym a.rows)
+  (λ a. subst (λ (S : List Row). (check_plan_rows S ≡ Ok (length S)) × (length S ≤ 256)) (sym a.rows)
       (admitted_rows a.plan a.admitted, a.admitted.within.rows_few)),
 )
 
 -- [10.18] The walk is the first "no" of questions 2 (of kinds), 4 to 6 and 18 [18.15], of plans and of loops.
 pub walk_first_no : (s : Sort) (R : List Row)
-    → walk_table s R ≡ ask Refused (kind_questions 0 R ++ walk_questions 0 (due s no_names ∷ []) R) (Told (length R))
+    → walk_table s R ≡ ask Err (kind_questions 0 R ++ walk_questions 0 (due s no_names ∷ []) R) (Ok (length R))
 walk_first_no = table_asks
 
 -- [18.15] The walk of a plan's rows is never refused by question 18, which loops are asked: no `lanes` row may stand in a plan.
-pub plan_never_18 : (R : List Row) (line : ℕ) → walk_table sort.Plan R ≡ Refused (LanesInside line) → ⊥
+pub plan_never_18 : (R : List Row) (line : ℕ) → walk_table sort.Plan R ≡ Err (LanesInside line) → ⊥
 plan_never_18 = plan_apart
 
 -- [10.17] Demand 1 for rows: their check is the first "no" of questions 2 (of kinds) and 4 to 8 in order. So each refusal is given exactly
 -- when it is the first "no", and rows pass exactly when every answer is "yes".
-pub rows_first_no : (R : List Row) → check_plan_rows R ≡ ask Refused (row_questions R) (Told (length R))
+pub rows_first_no : (R : List Row) → check_plan_rows R ≡ ask Err (row_questions R) (Ok (length R))
 rows_first_no = rows_ask
 
-pub rows_refused : (R : List Row) (q : Refusal) → (check_plan_rows R ≡ Refused q) ↔ FirstNo (row_questions R) q
+pub rows_refused : (R : List Row) (q : Refusal) → (check_plan_rows R ≡ Err q) ↔ FirstNo (row_questions R) q
 rows_refused R = asked_refused (check_plan_rows R) (row_questions R) (length R) (rows_ask R)
 
-pub rows_passed_holds : (R : List Row) → (check_plan_rows R ≡ Told (length R)) ↔ AllYes (row_questions R)
+pub rows_passed_holds : (R : List Row) → (check_plan_rows R ≡ Ok (length R)) ↔ AllYes (row_questions R)
 rows_passed_holds R = asked_passed (check_plan_rows R) (row_questions R) (length R) (rows_ask R)
 
 -- ---- texts, with any good table of words
 
 module _ (ws : List (List ℕ)) (good : Good ws) where
   -- [10.21] Demand 2 for texts.
-  pub text_check : (t : List ℕ) (n : ℕ) → (check_plan_text ws t ≡ Told n) ↔ AcceptedText ws t n
+  pub text_check : (t : List ℕ) (n : ℕ) → (check_plan_text ws t ≡ Ok n) ↔ AcceptedText ws t n
   text_check t n = (accepted_text ws good t n, text_accepted ws good t n)
 
 -- [10.21] Demand 2 for texts in the words of [2.2].
-pub plan_text_check : (t : List ℕ) (n : ℕ) → (check_plan_text words t ≡ Told n) ↔ AcceptedText words t n
+pub plan_text_check : (t : List ℕ) (n : ℕ) → (check_plan_text words t ≡ Ok n) ↔ AcceptedText words t n
 plan_text_check = text_check words words_good
 
 -- [10.17] The reading is the first "no" of questions 1 to 3.
 pub reading_first_no : (ws : List (List ℕ)) (t : List ℕ)
-    → reading (look_up ws) plan_limits t ≡ ask Refused (read_questions (look_up ws) plan_limits t) (Told (length (lines_of t)))
+    → reading (look_up ws) plan_limits t ≡ ask Err (read_questions (look_up ws) plan_limits t) (Ok (length (lines_of t)))
 reading_first_no ws t = reading_asks (look_up ws) plan_limits t
 
 -- [10.17] Demand 1 for texts, with any table of words: the check is the first "no" of questions 1 to 8 in order.
 pub text_first_no : (ws : List (List ℕ)) (t : List ℕ)
-    → check_plan_text ws t ≡ ask Refused (text_questions ws t) (Told (length (rows_in (look_up ws) (lines_of t))))
+    → check_plan_text ws t ≡ ask Err (text_questions ws t) (Ok (length (rows_in (look_up ws) (lines_of t))))
 text_first_no = text_asks
 
-pub text_refused : (ws : List (List ℕ)) (t : List ℕ) (q : Refusal) → (check_plan_text ws t ≡ Refused q) ↔ FirstNo (text_questions ws t) q
+pub text_refused : (ws : List (List ℕ)) (t : List ℕ) (q : Refusal) → (check_plan_text ws t ≡ Err q) ↔ FirstNo (text_questions ws t) q
 text_refused ws t = asked_refused (check_plan_text ws t) (text_questions ws t) _ (text_asks ws t)
 
 pub text_passed : (ws : List (List ℕ)) (t : List ℕ)
-    → (check_plan_text ws t ≡ Told (length (rows_in (look_up ws) (lines_of t)))) ↔ AllYes (text_questions ws t)
+    → (check_plan_text ws t ≡ Ok (length (rows_in (look_up ws) (lines_of t)))) ↔ AllYes (text_questions ws t)
 text_passed ws t = asked_passed (check_plan_text ws t) (text_questions ws t) _ (text_asks ws t)

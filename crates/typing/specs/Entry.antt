@@ -1,9 +1,7 @@
 -- The check of a plan from its rows and from its text: questions 1 to 8 in the order of [10.16], of which the first "no" is told
 -- [10.17]. Definitions only; assumes nothing.
-use Rattle.std.specs.Prelude.{List, ℕ}
-use Rattle.refusals.specs.declared.Answer.{Answer}
-use Rattle.refusals.specs.declared.Answer.TheVariants.{Told, Refused}
-use Rattle.refusals.specs.Answers.{after, unless_refused}
+use Rattle.std.specs.Prelude.{List, ℕ, Ok, Err}
+use Rattle.refusals.specs.Answers.{after, unless_refused, Answer}
 use Rattle.words.specs.Kinds.{Row}
 use Rattle.words.specs.Words.{look_up}
 use Rattle.words.specs.declared.Sort.TheVariants as sort
@@ -15,8 +13,8 @@ use Rattle.typing.specs.Check.{Verdict, typed, refused, check_plan}
 
 -- how many rows a plan has, or the first "no" of questions 7 and 8
 abbrev pub answered : ℕ → Verdict → Answer
-answered n (typed t) = Told n
-answered n (refused q) = Refused q
+answered n (typed t) = Ok n
+answered n (refused q) = Err q
 
 -- [10.18] Questions 4 to 6 on every row; then 7 and 8 on the plan whose rows they are.
 unfoldable pub check_plan_rows : List Row → Answer

@@ -1,20 +1,15 @@
 -- Questions 1 to 8 as one list for a text, and 2 and 4 to 8 as one for rows, in the order in which they are put: [10.16]; 18 [18.15] stands
 -- right behind 6, and a plan's rows are never refused by it (`plan_never_18` of `Theorems`). That the check of a text or of rows is the
 -- first "no" of this list is said by `Theorems`. Definitions only; assumes nothing.
-use Rattle.std.specs.Prelude.{Bool, true, false, List, [], ◌∷◌, ◌++◌, ℕ, suc, ◌+◌, leb, length}
+use Rattle.std.specs.Prelude.{Bool, true, false, List, [], ◌∷◌, ◌++◌, ℕ, suc, ◌+◌, leb, length, Option, Some, None}
 use Rattle.refusals.specs.declared.Refusal.TheVariants.{TextForm, LineForm, LineCount, RowDue, NumberRange, NameCount, LanesInside}
 use Rattle.words.specs.Kinds.{Row}
 use Rattle.words.specs.Groups.{is_listed}
 use Rattle.words.specs.Words.{look_up, operands_of}
-use Rattle.words.specs.declared.Found.{Found}
-use Rattle.words.specs.declared.Operands.{Operands}
-use Rattle.words.specs.declared.Operands.TheVariants.{Count, NotOfSort}
 use Rattle.words.specs.declared.Sort.TheVariants as sort
 use Rattle.texts.specs.Texts.{lines_of}
 use Rattle.lines.specs.Reading.{line_of, rows_in, closed, plan_limits}
 use Rattle.lines.specs.declared.Limits.{Limits}
-use Rattle.lines.specs.declared.Line.{Line}
-use Rattle.lines.specs.declared.Line.TheVariants.{IsRow, NoRow}
 use Rattle.syntax.specs.declared.operands.Due.{Due}
 use Rattle.syntax.specs.Ranges.{as_natural, in_range}
 use Rattle.syntax.specs.Names.{no_names, opened_by, names_fit, lanes_fit}
@@ -25,33 +20,33 @@ use Rattle.typing.specs.TypeQuestions.{plan_questions}
 
 -- ---- 1 to 3
 
-abbrev pub is_row : Line → Bool
-is_row (IsRow k z) = true
-is_row NoRow = false
+abbrev pub is_row : Option Row → Bool
+is_row (Some (k, z)) = true
+is_row None = false
 
 -- [10.2] Of every line, n lines standing before these
-unfoldable pub line_questions : (List ℕ → Found) → ℕ → List (List ℕ) → List Question
+unfoldable pub line_questions : (List ℕ → Option ℕ) → ℕ → List (List ℕ) → List Question
 line_questions head n [] = []
 line_questions head n (l ∷ ls) = question (is_row (line_of head l)) (LineForm (suc n)) ∷ line_questions head (suc n) ls
 
 -- [10.1] before them
-unfoldable pub form_questions : (List ℕ → Found) → ℕ → List ℕ → List Question
+unfoldable pub form_questions : (List ℕ → Option ℕ) → ℕ → List ℕ → List Question
 form_questions head bytes t = question (closed bytes t) TextForm ∷ line_questions head 0 (lines_of t)
 
 -- [10.3] and behind them
-unfoldable pub read_questions : (List ℕ → Found) → Limits → List ℕ → List Question
+unfoldable pub read_questions : (List ℕ → Option ℕ) → Limits → List ℕ → List Question
 read_questions head limits t =
     form_questions head limits.bytes t ++ (question (leb (length (lines_of t)) limits.lines) LineCount ∷ [])
 
 -- ---- 4 to 6, and 18
 
-abbrev pub is_of_sort : Operands → Bool
-is_of_sort (Count m) = true
-is_of_sort NotOfSort = false
+abbrev pub is_of_sort : Option ℕ → Bool
+is_of_sort (Some m) = true
+is_of_sort None = false
 
-abbrev pub count_of : Operands → ℕ
-count_of (Count m) = m
-count_of NotOfSort = 0
+abbrev pub count_of : Option ℕ → ℕ
+count_of (Some m) = m
+count_of None = 0
 
 -- [10.18] Of each row, from the top: [10.4], [10.5], [10.6], and [18.15] whether no `lanes` stands in another. At the end, [10.4] again:
 -- nothing is still due, and no row is left. p rows stand before these.

@@ -1,7 +1,8 @@
 -- What `fill` knows at each way out. Assumes nothing.
+use Rattle.std.specs.Prelude.{Ok, Err}
 use mathlib.Core.Path.{◌≡◌, refl, sym, ap, ◌∙◌}
 use mathlib.Core.Bool.{Bool, true, false, cond}
-use mathlib.Core.List.{List, map}
+use mathlib.Core.List.{List}
 use Prim.Native.Nat.{ℕ, ◌≤◌, ◌<◌}
 use native.Mathlib.Omega.{arith}
 use borrow.Author.Tests.{le-leb, lt-leb}
@@ -11,15 +12,12 @@ use lib.ListN.{length, take, length-map}
 use lib.Seq.{length-take-le}
 use Rattle.refusals.specs.declared.Refusal.{Refusal}
 use Rattle.refusals.specs.declared.Refusal.TheVariants.{StoreSize, ValueLines}
-use Rattle.refusals.specs.declared.Answer.{Answer}
-use Rattle.refusals.specs.declared.Answer.TheVariants.{Told, Refused}
-use Rattle.refusals.specs.Answers.{after, is_told}
+use Rattle.refusals.specs.Answers.{after, Answer}
 use Rattle.words.specs.Kinds.{Row, rows_of}
-use Rattle.lines.specs.Reading.{cell_head, reading, values_limits, room_for, kinds_of, filled, ReadInto}
+use Rattle.lines.specs.Reading.{cell_head, reading, values_limits, room_for, kinds_of, ReadInto}
 use Rattle.lines.proofs.Laws.{rows_read}
 use Rattle.lines.proofs.TableLaws.{in_front, rows_in_front}
-use Rattle.meaning.specs.Sequence.{up_from}
-use Rattle.values.specs.Values.{one_line_each, asked, value_lines, filling, value_of, FillInto}
+use Rattle.values.specs.Values.{one_line_each, asked, value_lines, filling, FillInto}
 use Rattle.values.specs.Stored.{stored}
 use Rattle.values.specs.Laws.{test_says}
 use Rattle.values.proofs.Sizes.{few_rows}
@@ -30,13 +28,13 @@ module _ (t : List ℕ) {r : Answer} (cells : List ℕ) (values : List ℤ) {cel
   abbrev R : List Row
   R = value_lines t
 
-  read_so : {m : ℕ} → r ≡ Told m → reading cell_head values_limits t ≡ Told m
+  read_so : {m : ℕ} → r ≡ Ok m → reading cell_head values_limits t ≡ Ok m
   read_so is = sym read.answer ∙ is
 
-  pub rows_few : {m : ℕ} → r ≡ Told m → m ≤ 16384
+  pub rows_few : {m : ℕ} → r ≡ Ok m → m ≤ 16384
   rows_few {m} is = few_rows t m (read_so is)
 
-  module _ {A : Type 0} (column : List A) (long : length column ≡ 16384) {m : ℕ} (is : r ≡ Told m) where
+  module _ {A : Type 0} (column : List A) (long : length column ≡ 16384) {m : ℕ} (is : r ≡ Ok m) where
     pub rows_fit : m ≤ length column
     rows_fit = omega (arith, rows_few is)
 
@@ -47,26 +45,26 @@ module _ (t : List ℕ) {r : Answer} (cells : List ℕ) (values : List ℤ) {cel
     abbrev next : ℕ → Answer
     next = asked n (length store) (kinds_of R)
 
-    pub text_refused : {q : Refusal} → r ≡ Refused q → FillInto t n store r store
+    pub text_refused : {q : Refusal} → r ≡ Err q → FillInto t n store (Err q) store
     unfolding filling
     text_refused is =
         record {
-          answer = is ∙ ap (λ (x : Answer). after x next) (sym is ∙ read.answer);
-          store_left = ap (λ (x : Answer). filled (is_told x) (map (value_of R) (up_from 0 n)) store) (sym is);
+          answer = ap (λ (x : Answer). after x next) (sym is ∙ read.answer);
+          store_left = refl;
         }
 
-    module _ {m : ℕ} (is : r ≡ Told m) where
+    module _ {m : ℕ} (is : r ≡ Ok m) where
       -- question 15's answer, and question 14's
       abbrev by_lines : Bool → Answer
-      by_lines b = cond b (Told m) (Refused ValueLines)
+      by_lines b = cond b (Ok m) (Err ValueLines)
 
-      by_store : {b : Bool} → b ≡ leb n (length store) → cond b (by_lines (one_line_each n (kinds_of R))) (Refused StoreSize) ≡ filling t n (length store)
+      by_store : {b : Bool} → b ≡ leb n (length store) → cond b (by_lines (one_line_each n (kinds_of R))) (Err StoreSize) ≡ filling t n (length store)
       unfolding filling
       by_store e =
-          ap (λ (x : Bool). cond x (by_lines (one_line_each n (kinds_of R))) (Refused StoreSize)) e
+          ap (λ (x : Bool). cond x (by_lines (one_line_each n (kinds_of R))) (Err StoreSize)) e
           ∙ ap (λ (x : Answer). after x next) (sym (read_so is))
 
-      pub store_short : length store < n → FillInto t n store (Refused StoreSize) store
+      pub store_short : length store < n → FillInto t n store (Err StoreSize) store
       store_short h = record { answer = by_store (sym (lt-leb n (length store) h)); store_left = refl }
 
       module _ (room : n ≤ length store) (h : length cells ≡ 16384) (g : length values ≡ 16384) where
@@ -89,11 +87,11 @@ module _ (t : List ℕ) {r : Answer} (cells : List ℕ) (values : List ℤ) {cel
         tested e = ap by_lines (e ∙ ap (one_line_each n) cells_read) ∙ by_store (sym (le-leb n (length store) room))
 
         module _ {b : Bool} (test : b ≡ one_line_each n (take m cells')) where
-          pub lines_wrong : b ≡ false → FillInto t n store (Refused ValueLines) store
+          pub lines_wrong : b ≡ false → FillInto t n store (Err ValueLines) store
           lines_wrong e = record { answer = tested (sym e ∙ test); store_left = refl }
 
           pub values_put : {store' : List ℤ} → b ≡ true → store' ≡ stored (rows_of (take m cells') (take m values')) store
-              → FillInto t n store (Told m) store'
+              → FillInto t n store (Ok m) store'
           values_put e put =
               record {
                 answer = tested (sym e ∙ test);

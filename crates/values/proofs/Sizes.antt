@@ -1,4 +1,6 @@
 -- How many lines a values file has at most: a line and its byte 10 take at least 4 bytes. Assumes nothing.
+use Rattle.std.specs.Prelude.{Ok, Err, Option, Some, None}
+use Rattle.words.specs.Kinds.{Row}
 use mathlib.Core.Path.{◌≡◌, refl, sym, ap, subst}
 use mathlib.Core.Bool.{Bool, true, false, cond, ◌&&◌}
 use mathlib.Core.List.{List, [], ◌∷◌, ◌++◌}
@@ -10,32 +12,25 @@ use lib.IntN.{ℤ, pos, negsuc}
 use lib.Ieee.Fits.{and_l, and_r}
 use lib.ListN.{length, get_or, length-append}
 use Rattle.refusals.specs.declared.Refusal.TheVariants.{TextForm}
-use Rattle.refusals.specs.declared.Answer.TheVariants.{Told, Refused}
-use Rattle.words.specs.declared.Found.{Found}
-use Rattle.words.specs.declared.Found.TheVariants.{At}
 use Rattle.numerals.specs.Numerals.{numeral_of}
 use Rattle.numerals.specs.Laws.{one_way, decimal_nonempty}
-use Rattle.numerals.specs.declared.Numeral.{Numeral}
-use Rattle.numerals.specs.declared.Numeral.TheVariants.{Is, Malformed}
 use Rattle.texts.specs.Texts.{begin, lines_of, before_comma, after_comma}
 use Rattle.lines.specs.Reading.{cell_head, cell_named, line_of, add_row, rows_in, closed, formed, limited, reading, values_limits}
 use Rattle.texts.specs.Laws.{place_split, together}
 use Rattle.lines.proofs.Laws.{paired_row, rows_read}
 use Rattle.lines.specs.declared.Limits.{Limits}
-use Rattle.lines.specs.declared.Line.{Line}
-use Rattle.lines.specs.declared.Line.TheVariants.{IsRow, NoRow}
 
 -- ---- a line with a cell and a value
 
-cell_number : (d : Numeral) (k : ℕ) → cell_named d ≡ At k → (z : ℤ) × (d ≡ Is z)
-cell_number (Is (pos n)) k e = (pos n, refl)
-cell_number (Is (negsuc n)) k e = absurd (let clash : ◌≡◌ {A = ℕ} 0 1 = cc in omega arith)
-cell_number Malformed k e = absurd (let clash : ◌≡◌ {A = ℕ} 0 1 = cc in omega arith)
+cell_number : (d : Option ℤ) (k : ℕ) → cell_named d ≡ Some k → (z : ℤ) × (d ≡ Some z)
+cell_number (Some (pos n)) k e = (pos n, refl)
+cell_number (Some (negsuc n)) k e = absurd (let clash : ◌≡◌ {A = ℕ} 0 1 = cc in omega arith)
+cell_number None k e = absurd (let clash : ◌≡◌ {A = ℕ} 0 1 = cc in omega arith)
 
-some_bytes : (bs : List ℕ) {z : ℤ} → numeral_of bs ≡ Is z → 0 < length bs
+some_bytes : (bs : List ℕ) {z : ℤ} → numeral_of bs ≡ Some z → 0 < length bs
 some_bytes bs {z} e = subst (λ (cs : List ℕ). 0 < length cs) (one_way bs e) (decimal_nonempty z)
 
-row_bytes : (l : List ℕ) (k : ℕ) (z : ℤ) → line_of cell_head l ≡ IsRow k z → 3 ≤ length l
+row_bytes : (l : List ℕ) (k : ℕ) (z : ℤ) → line_of cell_head l ≡ Some (k, z) → 3 ≤ length l
 unfolding line_of
 row_bytes l k z e =
     let both = paired_row (cell_head (before_comma l)) (numeral_of (after_comma l)) k z e in
@@ -50,10 +45,10 @@ unfolding rows_in together
 rows_bytes [] = omega arith
 rows_bytes (l ∷ ls) = go (line_of cell_head l) refl (rows_bytes ls)
   where
-    go : (x : Line) → line_of cell_head l ≡ x → 4 * length (rows_in cell_head ls) ≤ length (together ls)
+    go : (x : Option Row) → line_of cell_head l ≡ x → 4 * length (rows_in cell_head ls) ≤ length (together ls)
         → 4 * length (add_row x (rows_in cell_head ls)) ≤ length (l ++ (10 ∷ together ls))
-    go (IsRow k z) is h = omega (arith, row_bytes l k z is, length-append l (10 ∷ together ls), mul-suc 4 (length (rows_in cell_head ls)))
-    go NoRow is h = omega (arith, length-append l (10 ∷ together ls))
+    go (Some (k, z)) is h = omega (arith, row_bytes l k z is, length-append l (10 ∷ together ls), mul-suc 4 (length (rows_in cell_head ls)))
+    go None is h = omega (arith, length-append l (10 ∷ together ls))
 
 begun_bytes : (b : ℕ) (ls : List (List ℕ)) (n : ℕ) → length (together ls) ≤ suc n → length (together (begin b ls)) ≤ suc (suc n)
 unfolding together
@@ -71,11 +66,11 @@ lines_bytes (b ∷ bs) = go (eqb b 10) (lines_bytes bs)
     go true h = omega arith
     go false h = begun_bytes b (lines_of bs) (length bs) h
 
-within : (f : List ℕ → Found) (limits : Limits) (t : List ℕ) (m : ℕ) → reading f limits t ≡ Told m → length t ≤ limits.bytes
+within : (f : List ℕ → Option ℕ) (limits : Limits) (t : List ℕ) (m : ℕ) → reading f limits t ≡ Ok m → length t ≤ limits.bytes
 unfolding reading
 within f limits t m e = go (closed limits.bytes t) refl e
   where
-    go : (b : Bool) → closed limits.bytes t ≡ b → cond b (limited limits.lines (formed f 0 (lines_of t))) (Refused TextForm) ≡ Told m
+    go : (b : Bool) → closed limits.bytes t ≡ b → cond b (limited limits.lines (formed f 0 (lines_of t))) (Err TextForm) ≡ Ok m
         → length t ≤ limits.bytes
     go true c g =
         let last : Bool = eqb (get_or t (length t - 1) 0) 10 in
@@ -84,7 +79,7 @@ within f limits t m e = go (closed limits.bytes t) refl e
     go false c g = absurd (let clash : ◌≡◌ {A = ℕ} 0 1 = cc in omega arith)
 
 -- 65,536 bytes are at most 16,384 lines.
-pub few_rows : (t : List ℕ) (m : ℕ) → reading cell_head values_limits t ≡ Told m → m ≤ 16384
+pub few_rows : (t : List ℕ) (m : ℕ) → reading cell_head values_limits t ≡ Ok m → m ≤ 16384
 few_rows t m e =
     omega (
       arith,

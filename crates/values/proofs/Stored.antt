@@ -4,39 +4,33 @@ use mathlib.Core.Bool.{Bool, true, false, cond}
 use mathlib.Core.List.{List, [], ◌∷◌, ◌++◌, map}
 use Prim.Native.Nat.{ℕ, zero, suc, ◌+◌, ◌-◌, ◌≤◌, ◌<◌}
 use native.Mathlib.Nat.{zero-add, le_of_suc-le-suc}
-use native.Mathlib.Numerals.{add-one}
 use native.Mathlib.Omega.{arith}
 use borrow.Author.Tests.{eq-eqb, ne_eqb, leb-true, leb-false}
 use lib.Dec.{leb}
 use lib.IntN.{ℤ, pos}
-use lib.ListN.{length, get_or, set, drop, length-append, length-drop, length-set, length-map, drop_of_length-le, get_or-append}
-use lib.Seq.{drop-cons, ext_get_or, get_or-append-add, get_or-drop, get_or-set_same, get_or-set_other}
+use lib.ListN.{length, get_or, set, drop, length-append, length-drop, length-set, length-map, get_or-append}
+use lib.Seq.{ext_get_or, get_or-append-add, get_or-drop, get_or-set_same, get_or-set_other}
 use Rattle.words.specs.Kinds.{Row, rows_of}
 use Rattle.lines.specs.Reading.{kinds_of}
+use Rattle.lines.proofs.TableLaws.{rows_ended}
+use Rattle.std.specs.Prelude.{◌⊎◌}
 use Rattle.meaning.specs.Sequence.{up_from}
 use Rattle.meaning.proofs.Laws.Orders.{up_from_length}
 use Rattle.values.specs.Values.{lines_for, value_of}
 use Rattle.values.specs.Stored.{stored}
 use Rattle.values.specs.Laws.{OneLineEach, cell_cases, lines_here, lines_other}
 
--- ---- a turn of the loop, and its end
+-- ---- a turn of the loop, and its end: cs and vs are what is left of the two columns
 
-module _ (cs : List ℕ) (vs : List ℤ) (even : length cs ≡ length vs) (i : ℕ) where
-  abbrev left : ℕ → List Row
-  left j = rows_of (drop j cs) (drop j vs)
+pub stored_next : {cs cs' : List ℕ} {vs vs' : List ℤ} {c : ℕ} {v : ℤ} (s : List ℤ) {s' all : List ℤ} → cs ≡ c ∷ cs' → vs ≡ v ∷ vs' → s' ≡ set s c v
+    → stored (rows_of cs vs) s ≡ all → stored (rows_of cs' vs') s' ≡ all
+unfolding rows_of stored
+stored_next {cs} {cs'} {vs} {vs'} s cell value put so_far =
+    ap (stored (rows_of cs' vs')) put ∙ sym (ap₂ (λ (x : List ℕ) (y : List ℤ). stored (rows_of x y) s) cell value) ∙ so_far
 
-  pub stored_next : (s : List ℤ) {c : ℕ} {v : ℤ} {s' all : List ℤ} → i < length cs
-      → c ≡ get_or cs i 0 → v ≡ get_or vs i (pos 0) → s' ≡ set s c v → stored (left i) s ≡ all → stored (left (i + 1)) s' ≡ all
-  unfolding rows_of stored
-  stored_next s {c} {v} {s'} {all} h is is' put so_far =
-      ap (λ (j : ℕ). stored (left j) s') (add-one i)
-      ∙ ap (stored (left (suc i))) (put ∙ ap₂ (set s) is is')
-      ∙ sym (ap (λ (rs : List Row). stored rs s) (ap₂ rows_of (drop-cons cs i 0 h) (drop-cons vs i (pos 0) (omega arith))))
-      ∙ so_far
-
-  pub stored_end : (s : List ℤ) {all : List ℤ} → length cs ≤ i → stored (left i) s ≡ all → s ≡ all
-  unfolding rows_of stored
-  stored_end s h so_far = sym (ap (λ (ds : List ℕ). stored (rows_of ds (drop i vs)) s) (drop_of_length-le cs h)) ∙ so_far
+pub stored_end : (cs : List ℕ) (vs : List ℤ) (s : List ℤ) {all : List ℤ} → (length cs ≡ 0) ⊎ (length vs ≡ 0) → stored (rows_of cs vs) s ≡ all → s ≡ all
+unfolding stored
+stored_end cs vs s ended so_far = sym (ap (λ (rs : List Row). stored rs s) (rows_ended cs vs ended)) ∙ so_far
 
 -- ---- what is stored
 

@@ -1,9 +1,7 @@
 -- The values file: [11.3], and the questions that it is asked, [10.14] and [10.15]. Definitions only; assumes nothing.
-use Rattle.std.specs.Prelude.{Bool, true, cond, ◌&&◌, ◌≡◌, List, [], ◌∷◌, map, ℕ, zero, suc, eqb, leb, ltb, ℤ, pos, length}
+use Rattle.std.specs.Prelude.{Bool, true, cond, ◌&&◌, ◌≡◌, List, [], ◌∷◌, map, ℕ, zero, suc, eqb, leb, ltb, ℤ, pos, length, Ok, Err}
 use Rattle.refusals.specs.declared.Refusal.TheVariants.{StoreSize, ValueLines}
-use Rattle.refusals.specs.declared.Answer.{Answer}
-use Rattle.refusals.specs.declared.Answer.TheVariants.{Told, Refused}
-use Rattle.refusals.specs.Answers.{after, is_told}
+use Rattle.refusals.specs.Answers.{after, is_told, Answer}
 use Rattle.words.specs.Kinds.{Row}
 use Rattle.texts.specs.Texts.{lines_of}
 use Rattle.lines.specs.Reading.{cell_head, rows_in, reading, values_limits, kinds_of, filled}
@@ -34,7 +32,7 @@ one_line_each n cs = one_each n cs && no_other n cs
 -- [10.14], of n input cells and a store of so many cells; then [10.15], of the cells that the lines name; how many lines there are is
 -- told. The runner has asked 14 before: there it is never the "no".
 abbrev pub asked : ℕ → ℕ → List ℕ → ℕ → Answer
-asked n store cs lines = cond (leb n store) (cond (one_line_each n cs) (Told lines) (Refused ValueLines)) (Refused StoreSize)
+asked n store cs lines = cond (leb n store) (cond (one_line_each n cs) (Ok lines) (Err ValueLines)) (Err StoreSize)
 
 -- The cell and the value of each line.
 abbrev pub value_lines : List ℕ → List Row

@@ -1,4 +1,5 @@
 // The values file of the runner: questions 1, 2, 14 and 15 of [10.16], and each value into its cell ([11.3]).
+// The cells named and their values come as two columns, as `lines` reads them.
 #![tactic(auto)]
 
 ghost use Rattle.std.specs.Prelude.{◌≡◌, ◌≤◌, length};
@@ -7,14 +8,7 @@ ghost use Rattle.values.specs.Promises.{FillsStore};
 ghost use Rattle.values.specs.Values.{one_line_each};
 ghost use Rattle.values.specs.Stored.{stored};
 
-use refusals::{Answer, Refusal};
-
-// The number of a cell as a place of a slice.
-fn place(cell: u32) -> usize
-    ensures { result ≡ cell }
-{
-    cell as usize
-}
+use refusals::Refusal;
 
 // [10.15] Has each cell below the count exactly one line, and is there no other line?
 fn one_line_each(cells: &[u32], count: usize) -> bool
@@ -25,50 +19,39 @@ fn one_line_each(cells: &[u32], count: usize) -> bool
         return false;
     }
     let mut seen = [false; 16384];
-    let mut line = 0;
-    while line < count {
-        let cell = place(cells[line]);
-        if count <= cell {
+    for cell in cells {
+        let place = *cell as usize;
+        if count <= place || seen[place] {
             return false;
         }
-        if seen[cell] {
-            return false;
-        }
-        seen[cell] = true;
-        line += 1;
+        seen[place] = true;
     }
     true
 }
 
 // Puts each value into its cell.
 fn put_values(cells: &[u32], values: &[i32], store: &mut [i32])
-    requires { length cells.now ≡ length values.now }
     ensures { store.new ≡ stored (rows_of cells.now values.now) store.old }
 {
-    let mut line = 0;
-    while line < cells.len() {
-        slices::put_i32(store, place(cells[line]), values[line]);
-        line += 1;
+    for (cell, value) in cells.iter().zip(values) {
+        slices::put(store, *cell as usize, *value);
     }
 }
 
 // Fills the cells below the count from a values file: how many lines it has, or the first "no".
-pub fn fill(text: &[u8], count: usize, store: &mut [i32]) -> Answer
+pub fn fill(text: &[u8], count: usize, store: &mut [i32]) -> Result<usize, Refusal>
     ensures { FillsStore text.now count store.old result store.new }
 {
     let mut cells = [0u32; 16384];
     let mut values = [0i32; 16384];
-    let answer = lines::read_values(text, &mut cells, &mut values);
-    let Answer::Told(rows) = answer else {
-        return answer;
-    };
+    let rows = lines::read_values(text, &mut cells, &mut values)?;
     if store.len() < count {
-        return Answer::Refused(Refusal::StoreSize);
+        return Err(Refusal::StoreSize);
     }
     let named = &cells[..rows];
     if !one_line_each(named, count) {
-        return Answer::Refused(Refusal::ValueLines);
+        return Err(Refusal::ValueLines);
     }
     put_values(named, &values[..rows], store);
-    answer
+    Ok(rows)
 }

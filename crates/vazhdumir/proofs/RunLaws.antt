@@ -1,10 +1,10 @@
 -- What a run on a store lent as bytes alone comes to. Assumes nothing.
+use Rattle.refusals.specs.Answers.{Answer}
 use mathlib.Core.Path.{◌≡◌, refl, ap, ◌∙◌}
 use mathlib.Core.List.{List, [], ◌∷◌}
 use Prim.Native.Nat.{ℕ}
 use lib.IntN.{ℤ}
 use lib.ListN.{length, drop}
-use Rattle.refusals.specs.declared.Answer.{Answer}
 use Rattle.store.specs.Cells.{cells_of}
 use Rattle.store.specs.Store.{store_of, frame_of}
 use Rattle.store.specs.Laws.{store_of_bytes, parts_of_store}

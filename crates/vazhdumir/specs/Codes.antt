@@ -1,14 +1,9 @@
 -- What an entry tells C, as one number of 64 bits: [12.2], [12.3], [17.4]. Definitions only; assumes nothing.
-use Rattle.std.specs.Prelude.{◌≡◌, List, ℕ, ◌+◌, ◌*◌, min, ℤ, length}
+use Rattle.std.specs.Prelude.{◌≡◌, List, ℕ, ◌+◌, ◌*◌, min, ℤ, length, Ok, Err, Option, Some, None, Result}
+use Rattle.refusals.specs.Answers.{Answer}
 use Rattle.refusals.specs.declared.Refusal.{Refusal}
 use Rattle.refusals.specs.Refusals.{refusal_number, refusal_line}
-use Rattle.refusals.specs.declared.Answer.{Answer}
-use Rattle.refusals.specs.declared.Answer.TheVariants.{Told, Refused}
-use Rattle.words.specs.declared.Found.{Found}
-use Rattle.words.specs.declared.Found.TheVariants.{At, NotListed}
 use Rattle.words.specs.declared.Search.{Search}
-use Rattle.own_words.specs.declared.Searched.{Searched}
-use Rattle.own_words.specs.declared.Searched.TheVariants as searched
 use Rattle.loops.specs.Promises.{ReadsLoops}
 use Rattle.translate.specs.Entry.{make_text, rows_made, TextInto}
 use Rattle.store.specs.Cells.{cells_of, left_over}
@@ -20,25 +15,25 @@ refusal_code q = refusal_number q * 72057594037927936 + min (refusal_line q) 720
 
 -- [12.3] What an entry tells: the rows or bytes that were put, the writes, the need
 abbrev pub answer_code : Answer → ℕ
-answer_code (Told n) = n
-answer_code (Refused q) = refusal_code q
+answer_code (Ok n) = n
+answer_code (Err q) = refusal_code q
 
 -- [12.3] Of a plan that is accepted 0 is told.
 abbrev pub accepted_code : Answer → ℕ
-accepted_code (Told n) = 0
-accepted_code (Refused q) = refusal_code q
+accepted_code (Ok n) = 0
+accepted_code (Err q) = refusal_code q
 
 -- [17.4] Of a search: the rows compared, n of them, and 2^16 more where the word is listed
-abbrev pub compared_code : Found → ℕ → ℕ
-compared_code (At k) n = 65536 + n
-compared_code NotListed n = n
+abbrev pub compared_code : Option ℕ → ℕ → ℕ
+compared_code (Some k) n = 65536 + n
+compared_code None n = n
 
 abbrev pub search_code : Search → ℕ
 search_code s = compared_code s.found s.compared
 
-abbrev pub searched_code : Searched → ℕ
-searched_code (searched.Told s) = search_code s
-searched_code (searched.Refused q) = refusal_code q
+abbrev pub searched_code : Result Search Refusal → ℕ
+searched_code (Ok s) = search_code s
+searched_code (Err q) = refusal_code q
 
 -- What is promised of the answer r and of the two slices, as lent and as left.
 pub record ReadCoded (ws : List (List ℕ)) (t kinds : List ℕ) (numbers : List ℤ) (r : ℕ) (kinds' : List ℕ) (numbers' : List ℤ) : Type 0 where

@@ -1,11 +1,11 @@
 // The entries for firmware written in C: [12.1]. Each answers as [12.2] and [12.3] say; slices and stores come as [12.4] says, and
 // nothing is allocated or kept ([12.5]). `vazhdumir_c` exports them.
+// Kinds and numbers of rows come as two slices, as the interface for C lends them.
 #![tactic(auto)]
 
-ghost use Rattle.std.specs.Prelude.{◌≤◌, length, ◌≡◌};
+ghost use Rattle.std.specs.Prelude.{◌≤◌, length, ◌≡◌, Ok};
 ghost use Rattle.words.specs.Words.{words};
 ghost use Rattle.words.specs.declared.Search.{Search};
-ghost use Rattle.own_words.specs.declared.Searched.TheVariants.{Told};
 ghost use Rattle.loops.specs.Check.{writes_of};
 ghost use Rattle.vazhdumir.specs.Codes.{refusal_code, answer_code, accepted_code, search_code, searched_code};
 ghost use Rattle.vazhdumir.specs.Promises.{ChecksPlanForC, TranslatesForC, ChecksLoopsForC, TellsNeedForC};
@@ -13,10 +13,9 @@ ghost use Rattle.vazhdumir.specs.Promises.{ReadsLoopsForC, RunsTextForC, RunsRow
 ghost use Rattle.vazhdumir.specs.Promises.{ChecksPlanForCIn, TranslatesForCIn, ChecksLoopsForCIn, TellsNeedForCIn};
 ghost use Rattle.vazhdumir.specs.Promises.{ReadsLoopsForCIn, RunsTextForCIn, LooksUpForCIn};
 
-use loops::Checked;
-use own_words::Searched;
-use refusals::{Answer, Refusal};
-use words::{Found, Search};
+use columns::Counted;
+use refusals::Refusal;
+use words::Search;
 
 // [12.2] The greatest line that an answer holds.
 const MOST_LINE: usize = 72057594037927935;
@@ -27,38 +26,35 @@ const LISTED: u64 = 65536;
 fn refusal_code(refusal: Refusal) -> u64
     ensures { result ≡ refusal_code refusal }
 {
-    let number = refusals::number(refusal) as u64;
-    let line = refusals::line(refusal);
-    if MOST_LINE < line {
-        return number * 72057594037927936 + MOST_LINE as u64;
-    }
+    let number = refusal.number() as u64;
+    let line = refusal.line().min(MOST_LINE);
     number * 72057594037927936 + line as u64
 }
 
-fn code(answer: Answer) -> u64
+fn code(answer: Result<usize, Refusal>) -> u64
     ensures { result ≡ answer_code answer }
 {
     match answer {
-        Answer::Told(number) => number as u64,
-        Answer::Refused(refusal) => refusal_code(refusal),
+        Ok(number) => number as u64,
+        Err(refusal) => refusal_code(refusal),
     }
 }
 
-fn accepted_code(answer: Answer) -> u64
+fn accepted_code(answer: Result<usize, Refusal>) -> u64
     ensures { result ≡ accepted_code answer }
 {
     match answer {
-        Answer::Told(_) => 0,
-        Answer::Refused(refusal) => refusal_code(refusal),
+        Ok(_) => 0,
+        Err(refusal) => refusal_code(refusal),
     }
 }
 
-fn checked_code(checked: Checked) -> u64
+fn checked_code(checked: Result<Counted, Refusal>) -> u64
     ensures { result ≡ answer_code (writes_of checked) }
 {
     match checked {
-        Checked::Passes { writes, need: _ } => writes as u64,
-        Checked::Refused(refusal) => refusal_code(refusal),
+        Ok(counted) => counted.writes as u64,
+        Err(refusal) => refusal_code(refusal),
     }
 }
 
@@ -66,21 +62,20 @@ fn search_code(search: Search) -> u64
     requires { search.compared ≤ length words }
     ensures { result ≡ search_code search }
 {
-    let found = search.found;
     let compared = search.compared as u64;
-    match found {
-        Found::At(_) => LISTED + compared,
-        Found::NotListed => compared,
+    match search.found {
+        Some(_) => LISTED + compared,
+        None => compared,
     }
 }
 
-fn searched_code(searched: Searched) -> u64
-    requires { (s : Search) → searched ≡ Told s → s.compared ≤ length words }
+fn searched_code(searched: Result<Search, Refusal>) -> u64
+    requires { (s : Search) → searched ≡ Ok s → s.compared ≤ length words }
     ensures { result ≡ searched_code searched }
 {
     match searched {
-        Searched::Told(search) => search_code(search),
-        Searched::Refused(refusal) => refusal_code(refusal),
+        Ok(search) => search_code(search),
+        Err(refusal) => refusal_code(refusal),
     }
 }
 

@@ -1,6 +1,7 @@
 -- Laws of the table of words, of looking a word up, and of rows. That a word is found at its own place holds for every table whose words are
 -- distinct; the others of looking up, and of how many rows are compared, hold for every table. Assumes nothing.
-use Rattle.std.specs.Prelude.{◌≡◌, refl, Bool, true, false, not, cond, ◌&&◌, List, [], ◌∷◌, map, ◌⊎◌, ℕ, zero, suc, ◌+◌, ◌≤◌, ◌<◌, min, ℤ, pos, T, eqb, leb, length, get_or, take, drop}
+use Rattle.std.specs.Prelude.{◌≡◌, refl, Bool, true, false, not, cond, ◌&&◌, List, [], ◌∷◌, map, ◌⊎◌, ℕ, zero, suc}
+use Rattle.std.specs.Prelude.{◌+◌, ◌≤◌, ◌<◌, min, ℤ, pos, T, eqb, leb, length, get_or, take, drop, Some, Option, None}
 use Rattle.std.proofs.Common.{sym, ap, ap₂, ◌∙◌, subst, inl, inr, ⊎_elim, suc-le-suc, add-zero, add-suc, suc-add, le_of_suc-le-suc, not-suc-le-zero}
 use Rattle.std.proofs.Common.{add-one, arith, T_not, eqb→eq, leb→le, ltb-false, eqb-true, eq-eqb, ne_eqb, drop_of_length-le, drop-cons}
 use Prim.Native.String.{String}
@@ -19,9 +20,6 @@ use Rattle.words.specs.Good.{absent, distinct, lower_case, well_formed, Good}
 use Rattle.words.specs.Words.{Entry, bytes, entry, table, words, word_at, same_letters, look_from, look_up, compared, operands_as, operands_of}
 use Rattle.words.specs.Groups.{one_of, is_listed}
 use Rattle.words.specs.declared.Sort.{Sort}
-use Rattle.words.specs.declared.Operands.TheVariants.{Count}
-use Rattle.words.specs.declared.Found.{Found}
-use Rattle.words.specs.declared.Found.TheVariants.{At, NotListed}
 
 -- ---- the test of two words tells whether they are equal
 
@@ -56,22 +54,22 @@ same_false l w h = go (same_letters l w) (λ t. h (same_equal l w t))
 
 -- one word of the table after the other
 pub look_next : (ws : List (List ℕ)) (l : List ℕ) (k : ℕ) → k < length ws
-    → look_from k (drop k ws) l ≡ cond (same_letters l (word_at ws k)) (At k) (look_from (k + 1) (drop (k + 1) ws) l)
+    → look_from k (drop k ws) l ≡ cond (same_letters l (word_at ws k)) (Some k) (look_from (k + 1) (drop (k + 1) ws) l)
 unfolding look_from
 look_next ws l k h =
     ap (λ (v : List (List ℕ)). look_from k v l) (drop-cons ws k [] h)
-    ∙ ap (λ (j : ℕ). cond (same_letters l (word_at ws k)) (At k) (look_from j (drop j ws) l)) (sym (add-one k))
+    ∙ ap (λ (j : ℕ). cond (same_letters l (word_at ws k)) (Some k) (look_from j (drop j ws) l)) (sym (add-one k))
 
-pub look_end : (ws : List (List ℕ)) (l : List ℕ) (k : ℕ) → length ws ≤ k → look_from k (drop k ws) l ≡ NotListed
+pub look_end : (ws : List (List ℕ)) (l : List ℕ) (k : ℕ) → length ws ≤ k → look_from k (drop k ws) l ≡ None
 unfolding look_from
 look_end ws l k h = ap (λ (v : List (List ℕ)). look_from k v l) (drop_of_length-le ws h)
 
 -- what is found at k, counted from j, stands there
-hit : (b : Bool) (j k : ℕ) (later : Found) → cond b (At j) later ≡ At k → (T b × (j ≡ k)) ⊎ (later ≡ At k)
+hit : (b : Bool) (j k : ℕ) (later : Option ℕ) → cond b (Some j) later ≡ Some k → (T b × (j ≡ k)) ⊎ (later ≡ Some k)
 hit true j k later e = inl (tt, cc)
 hit false j k later e = inr e
 
-found_from : (j : ℕ) (ws : List (List ℕ)) (l : List ℕ) (k : ℕ) → look_from j ws l ≡ At k
+found_from : (j : ℕ) (ws : List (List ℕ)) (l : List ℕ) (k : ℕ) → look_from j ws l ≡ Some k
     → (i : ℕ) × (k ≡ j + i) × (i < length ws) × (get_or ws i [] ≡ l)
 unfolding look_from
 found_from j [] l k e = let z : ◌≡◌ {A = ℕ} 0 1 = cc in absurd (omega arith)
@@ -81,19 +79,19 @@ found_from j (w ∷ ws) l k e =
     (λ h. let r = found_from (suc j) ws l k h in (suc r.0, omega (arith, r.1), suc-le-suc r.2, r.3))
     (hit (same_letters l w) j k (look_from (suc j) ws l) e)
 
-pub found_word : (ws : List (List ℕ)) (l : List ℕ) (k : ℕ) → look_up ws l ≡ At k → (k < length ws) × (word_at ws k ≡ l)
+pub found_word : (ws : List (List ℕ)) (l : List ℕ) (k : ℕ) → look_up ws l ≡ Some k → (k < length ws) × (word_at ws k ≡ l)
 found_word ws l k e =
     let r = found_from 0 ws l k e in
     let q : k ≡ r.0 = omega (arith, r.1) in
     (omega (arith, r.2), ap (λ (i : ℕ). get_or ws i []) q ∙ r.3)
 
 -- a word that no row has is not found
-pub missed_word : (ws : List (List ℕ)) (l : List ℕ) → ((k : ℕ) → k < length ws → word_at ws k ≡ l → ⊥) → look_up ws l ≡ NotListed
+pub missed_word : (ws : List (List ℕ)) (l : List ℕ) → ((k : ℕ) → k < length ws → word_at ws k ≡ l → ⊥) → look_up ws l ≡ None
 missed_word ws l none = go (look_up ws l) refl
   where
-    go : (f : Found) → look_up ws l ≡ f → f ≡ NotListed
-    go (At k) e = let there = found_word ws l k e in absurd (none k there.0 there.1)
-    go NotListed e = refl
+    go : (f : Option ℕ) → look_up ws l ≡ f → f ≡ None
+    go (Some k) e = let there = found_word ws l k e in absurd (none k there.0 there.1)
+    go None e = refl
 
 -- a word of a table with distinct words is found at its own place
 absent_at : (l : List ℕ) (ws : List (List ℕ)) (i : ℕ) → T (absent l ws) → i < length ws → l ≡ get_or ws i [] → ⊥
@@ -113,52 +111,52 @@ cond_false : {A : Type 0} (b : Bool) (x y : A) → (T b → ⊥) → cond b x y 
 cond_false true x y h = absurd (h tt)
 cond_false false x y h = refl
 
-own_from : (j : ℕ) (ws : List (List ℕ)) (i : ℕ) → T (distinct ws) → i < length ws → look_from j ws (get_or ws i []) ≡ At (j + i)
+own_from : (j : ℕ) (ws : List (List ℕ)) (i : ℕ) → T (distinct ws) → i < length ws → look_from j ws (get_or ws i []) ≡ Some (j + i)
 unfolding look_from distinct
 own_from j [] i t h = absurd (not-suc-le-zero h)
 own_from j (w ∷ ws) zero t h =
-    cond_true (same_letters w w) (At j) (look_from (suc j) ws w) (same_refl w) ∙ ap At (sym (add-zero j))
+    cond_true (same_letters w w) (Some j) (look_from (suc j) ws w) (same_refl w) ∙ ap Some (sym (add-zero j))
 own_from j (w ∷ ws) (suc i) t h =
     let v : List ℕ = get_or ws i [] in
     let k : i < length ws = le_of_suc-le-suc h in
-    cond_false (same_letters v w) (At j) (look_from (suc j) ws v)
+    cond_false (same_letters v w) (Some j) (look_from (suc j) ws v)
     (λ s. absent_at w ws i (and_l (absent w ws) (distinct ws) t) k (sym (same_equal v w s)))
     ∙ own_from (suc j) ws i (and_r (absent w ws) (distinct ws) t) k
-    ∙ ap At (suc-add j i ∙ sym (add-suc j i))
+    ∙ ap Some (suc-add j i ∙ sym (add-suc j i))
 
-pub own_place : (ws : List (List ℕ)) (k : ℕ) → T (distinct ws) → k < length ws → look_up ws (word_at ws k) ≡ At k
-own_place ws k t h = own_from 0 ws k t h ∙ ap At (omega arith)
+pub own_place : (ws : List (List ℕ)) (k : ℕ) → T (distinct ws) → k < length ws → look_up ws (word_at ws k) ≡ Some k
+own_place ws k t h = own_from 0 ws k t h ∙ ap Some (omega arith)
 
 -- ---- how many rows a search compares
 
 -- the place found, counted from 1; or all the rows, j before these and n
-abbrev rows_passed : Found → ℕ → ℕ → ℕ
-rows_passed (At k) j n = k + 1
-rows_passed NotListed j n = j + n
+abbrev rows_passed : Option ℕ → ℕ → ℕ → ℕ
+rows_passed (Some k) j n = k + 1
+rows_passed None j n = j + n
 
 compared_from : (j : ℕ) (ws : List (List ℕ)) (l : List ℕ) → j + compared ws l ≡ rows_passed (look_from j ws l) j (length ws)
 unfolding compared look_from
 compared_from j [] l = refl
 compared_from j (w ∷ ws) l = go (same_letters l w) (look_from (suc j) ws l) (compared_from (suc j) ws l)
   where
-    go : (b : Bool) (f : Found) → suc j + compared ws l ≡ rows_passed f (suc j) (length ws)
-        → j + suc (cond b 0 (compared ws l)) ≡ rows_passed (cond b (At j) f) j (suc (length ws))
+    go : (b : Bool) (f : Option ℕ) → suc j + compared ws l ≡ rows_passed f (suc j) (length ws)
+        → j + suc (cond b 0 (compared ws l)) ≡ rows_passed (cond b (Some j) f) j (suc (length ws))
     go true f e = omega arith
-    go false (At k) e = omega (arith, e)
-    go false NotListed e = omega (arith, e)
+    go false (Some k) e = omega (arith, e)
+    go false None e = omega (arith, e)
 
-pub compared_found : (ws : List (List ℕ)) (l : List ℕ) (k : ℕ) → look_up ws l ≡ At k → compared ws l ≡ k + 1
-compared_found ws l k e = omega (arith, compared_from 0 ws l ∙ ap (λ (f : Found). rows_passed f 0 (length ws)) e)
+pub compared_found : (ws : List (List ℕ)) (l : List ℕ) (k : ℕ) → look_up ws l ≡ Some k → compared ws l ≡ k + 1
+compared_found ws l k e = omega (arith, compared_from 0 ws l ∙ ap (λ (f : Option ℕ). rows_passed f 0 (length ws)) e)
 
-pub compared_missed : (ws : List (List ℕ)) (l : List ℕ) → look_up ws l ≡ NotListed → compared ws l ≡ length ws
-compared_missed ws l e = omega (arith, compared_from 0 ws l ∙ ap (λ (f : Found). rows_passed f 0 (length ws)) e)
+pub compared_missed : (ws : List (List ℕ)) (l : List ℕ) → look_up ws l ≡ None → compared ws l ≡ length ws
+compared_missed ws l e = omega (arith, compared_from 0 ws l ∙ ap (λ (f : Option ℕ). rows_passed f 0 (length ws)) e)
 
 pub compared_few : (ws : List (List ℕ)) (l : List ℕ) → compared ws l ≤ length ws
 compared_few ws l = go (look_up ws l) refl
   where
-    go : (f : Found) → look_up ws l ≡ f → compared ws l ≤ length ws
-    go (At k) e = omega (arith, compared_found ws l k e, (found_word ws l k e).0)
-    go NotListed e = omega (arith, compared_missed ws l e)
+    go : (f : Option ℕ) → look_up ws l ≡ f → compared ws l ≤ length ws
+    go (Some k) e = omega (arith, compared_found ws l k e, (found_word ws l k e).0)
+    go None e = omega (arith, compared_missed ws l e)
 
 -- ---- the words of a well-formed table
 
@@ -210,7 +208,7 @@ unfolding words table
 table_length = refl
 
 -- a kind that makes rows of some sort is a word's
-pub word_listed : (k : ℕ) (s : Sort) (m : ℕ) → operands_of k s ≡ Count m → is_listed k ≡ true
+pub word_listed : (k : ℕ) (s : Sort) (m : ℕ) → operands_of k s ≡ Some m → is_listed k ≡ true
 unfolding operands_of
 word_listed k s m e = go (is_listed k) refl
   where

@@ -1,4 +1,5 @@
 -- The code's table is the table of words, packed: what its columns tell of the entry. Assumes nothing.
+use Rattle.std.specs.Prelude.{Option, Some, None}
 use mathlib.Core.Path.{◌≡◌, refl, sym, ap, ◌∙◌, subst}
 use mathlib.Core.Bool.{Bool, true, false, cond}
 use mathlib.Core.List.{List, [], ◌∷◌, ◌++◌, map}
@@ -15,8 +16,6 @@ use Rattle.words.specs.Tables.{no_word, row_in}
 use Rattle.words.specs.Words.{Entry, entry, table, words, entry_at, bytes, column_of, operands_as, operands_of}
 use Rattle.words.specs.declared.Sort.{Sort}
 use Rattle.words.specs.declared.Sort.TheVariants.{Plan, DataType, Term, Loops, Cells, Command, Place, Value, Offset}
-use Rattle.words.specs.declared.Operands.{Operands}
-use Rattle.words.specs.declared.Operands.TheVariants.{Count, NotOfSort}
 
 -- ---- a place of the table, and past it
 
@@ -78,17 +77,17 @@ module _ (k : ℕ) (w : List ℕ) (is : w ≡ packed (entry_at k)) where
       each Value = refl
       each Offset = refl
 
-  pub column_none : (s : Sort) → get_or w (10 + column_of s) 0 ≡ 45 → NotOfSort ≡ operands_of k s
+  pub column_none : (s : Sort) → get_or w (10 + column_of s) 0 ≡ 45 → None ≡ operands_of k s
   column_none s h = go (operands_of k s) (sym (column_at s) ∙ h)
     where
-      go : (o : Operands) → column_for o ≡ 45 → NotOfSort ≡ o
-      go (Count n) e = absurd (omega arith)
-      go NotOfSort e = refl
+      go : (o : Option ℕ) → column_for o ≡ 45 → None ≡ o
+      go (Some n) e = absurd (omega arith)
+      go None e = refl
 
   pub column_count : (s : Sort) → (get_or w (10 + column_of s) 0 ≡ 45 → ⊥)
-      → (48 ≤ get_or w (10 + column_of s) 0) × (Count (get_or w (10 + column_of s) 0 - 48) ≡ operands_of k s)
-  column_count s h = subst (λ (n : ℕ). (48 ≤ n) × (Count (n - 48) ≡ operands_of k s)) (sym (column_at s)) (go (operands_of k s) (λ e. h (column_at s ∙ e)))
+      → (48 ≤ get_or w (10 + column_of s) 0) × (Some (get_or w (10 + column_of s) 0 - 48) ≡ operands_of k s)
+  column_count s h = subst (λ (n : ℕ). (48 ≤ n) × (Some (n - 48) ≡ operands_of k s)) (sym (column_at s)) (go (operands_of k s) (λ e. h (column_at s ∙ e)))
     where
-      go : (o : Operands) → (column_for o ≡ 45 → ⊥) → (48 ≤ column_for o) × (Count (column_for o - 48) ≡ o)
-      go (Count n) e = (omega arith, ap Count (omega arith))
-      go NotOfSort e = absurd (e refl)
+      go : (o : Option ℕ) → (column_for o ≡ 45 → ⊥) → (48 ≤ column_for o) × (Some (column_for o - 48) ≡ o)
+      go (Some n) e = (omega arith, ap Some (omega arith))
+      go None e = absurd (e refl)

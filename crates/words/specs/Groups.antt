@@ -1,11 +1,9 @@
 -- Groups of words, by the table or by a list of their kinds: no test goes by the order of the words. Definitions only; assumes nothing.
-use Rattle.std.specs.Prelude.{Bool, true, false, cond, List, [], ◌∷◌, ℕ, eqb, ltb, length}
+use Rattle.std.specs.Prelude.{Bool, true, false, cond, List, [], ◌∷◌, ℕ, eqb, ltb, length, Option, Some, None}
 use Rattle.words.specs.Kinds.{word_add, word_sub, word_mul, word_div, word_min, word_max, word_mappar, word_mapseq, word_for, word_par}
 use Rattle.words.specs.Kinds.{word_mapvec, word_lanes}
 use Rattle.words.specs.Words.{words, operands_of}
 use Rattle.words.specs.declared.Sort.TheVariants.{Term}
-use Rattle.words.specs.declared.Operands.{Operands}
-use Rattle.words.specs.declared.Operands.TheVariants.{Count, NotOfSort}
 
 -- whether a kind stands in a list of kinds
 unfoldable pub one_of : ℕ → List ℕ → Bool
@@ -17,9 +15,9 @@ abbrev pub is_listed : ℕ → Bool
 is_listed k = ltb k (length words)
 
 -- [2.2] whether a term's row of kind k has no operand; whether it has one
-abbrev pub counted : ℕ → Operands → Bool
-counted n (Count m) = eqb m n
-counted n NotOfSort = false
+abbrev pub counted : ℕ → Option ℕ → Bool
+counted n (Some m) = eqb m n
+counted n None = false
 
 abbrev pub is_leaf : ℕ → Bool
 is_leaf k = counted 0 (operands_of k Term)

@@ -1,13 +1,9 @@
 -- The table of words: [2.1] to [2.3]; and looking a word up in it: [1.3], [17.1]. Definitions only; assumes nothing.
-use Rattle.std.specs.Prelude.{Bool, true, false, cond, ◌&&◌, List, [], ◌∷◌, map, ℕ, suc, eqb, get_or}
+use Rattle.std.specs.Prelude.{Bool, true, false, cond, ◌&&◌, List, [], ◌∷◌, map, ℕ, suc, eqb, get_or, Option, Some, None}
 use Prim.Native.Char.{code}
 use Prim.Native.String.{String, [] as none, ◌∷◌ as ◌before◌}
 use Rattle.words.specs.declared.Sort.{Sort}
 use Rattle.words.specs.declared.Sort.TheVariants.{Plan, DataType, Term, Loops, Cells, Command, Place, Value, Offset}
-use Rattle.words.specs.declared.Found.{Found}
-use Rattle.words.specs.declared.Found.TheVariants.{At, NotListed}
-use Rattle.words.specs.declared.Operands.{Operands}
-use Rattle.words.specs.declared.Operands.TheVariants.{Count, NotOfSort}
 
 -- the bytes of a text
 abbrev pub bytes : String → List ℕ
@@ -87,11 +83,11 @@ same_letters (l ∷ ls) [] = false
 same_letters (l ∷ ls) (w ∷ ws) = eqb l w && same_letters ls ws
 
 -- [1.3] the first place, counted from k, at which a table has the word
-unfoldable pub look_from : ℕ → List (List ℕ) → List ℕ → Found
-look_from k [] l = NotListed
-look_from k (w ∷ ws) l = cond (same_letters l w) (At k) (look_from (suc k) ws l)
+unfoldable pub look_from : ℕ → List (List ℕ) → List ℕ → Option ℕ
+look_from k [] l = None
+look_from k (w ∷ ws) l = cond (same_letters l w) (Some k) (look_from (suc k) ws l)
 
-abbrev pub look_up : List (List ℕ) → List ℕ → Found
+abbrev pub look_up : List (List ℕ) → List ℕ → Option ℕ
 look_up ws l = look_from 0 ws l
 
 -- [17.1] how many rows of a table are compared with a word, one after the other, up to the first that has it
@@ -112,14 +108,14 @@ column_of Value = 7
 column_of Offset = 8
 
 -- the operands of a row of sort s, of a word with these uses
-abbrev pub operands_as : Sort → List (Sort × ℕ) → Operands
-operands_as s [] = NotOfSort
-operands_as s (u ∷ us) = cond (eqb (column_of s) (column_of u.0)) (Count u.1) (operands_as s us)
+abbrev pub operands_as : Sort → List (Sort × ℕ) → Option ℕ
+operands_as s [] = None
+operands_as s (u ∷ us) = cond (eqb (column_of s) (column_of u.0)) (Some u.1) (operands_as s us)
 
 -- the entry of kind k; past the table's end one with no letters and no use
 abbrev pub entry_at : ℕ → Entry
 entry_at k = get_or table k (entry "" [])
 
 -- [2.2] the operands of a row of kind k as a row of sort s
-unfoldable pub operands_of : ℕ → Sort → Operands
+unfoldable pub operands_of : ℕ → Sort → Option ℕ
 operands_of k s = operands_as s (entry_at k).uses

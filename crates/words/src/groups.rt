@@ -16,56 +16,50 @@ pub fn is_listed(kind: u8) -> bool
 pub fn is_leaf(kind: u8) -> bool
     ensures { result ≡ is_leaf kind }
 {
-    match kind {
-        WORD_IN | WORD_VAR | WORD_LIT => true,
-        _ => false,
-    }
+    matches!(kind, WORD_IN | WORD_VAR | WORD_LIT)
 }
 
 // Whether it has one.
 pub fn has_one_operand(kind: u8) -> bool
     ensures { result ≡ has_one_operand kind }
 {
-    match kind {
+    matches!(
+        kind,
         WORD_NEG
-        | WORD_SPLIT
-        | WORD_JOIN
-        | WORD_FST
-        | WORD_SND
-        | WORD_IDX
-        | WORD_ASVEC
-        | WORD_ASSCAL
-        | WORD_AT => true,
-        _ => false,
-    }
+            | WORD_SPLIT
+            | WORD_JOIN
+            | WORD_FST
+            | WORD_SND
+            | WORD_IDX
+            | WORD_ASVEC
+            | WORD_ASSCAL
+            | WORD_AT
+    )
 }
 
 // [3.9] The maps.
+#[tactic(auto, unfolding(crate::specs::Groups::one_of))]
 pub fn is_map(kind: u8) -> bool
     ensures { result ≡ is_map kind }
 {
-    match kind {
-        WORD_MAPPAR | WORD_MAPSEQ | WORD_MAPVEC => true,
-        _ => false,
-    }
+    matches!(kind, WORD_MAPPAR | WORD_MAPSEQ | WORD_MAPVEC)
 }
 
 // [3.8] The operations on two numbers.
+#[tactic(auto, unfolding(crate::specs::Groups::one_of))]
 pub fn is_operation(kind: u8) -> bool
     ensures { result ≡ is_operation kind }
 {
-    match kind {
-        WORD_ADD | WORD_SUB | WORD_MUL | WORD_DIV | WORD_MIN | WORD_MAX => true,
-        _ => false,
-    }
+    matches!(
+        kind,
+        WORD_ADD | WORD_SUB | WORD_MUL | WORD_DIV | WORD_MIN | WORD_MAX
+    )
 }
 
 // [3.13] The loops.
+#[tactic(auto, unfolding(crate::specs::Groups::one_of))]
 pub fn is_loop(kind: u8) -> bool
     ensures { result ≡ is_loop kind }
 {
-    match kind {
-        WORD_FOR | WORD_PAR | WORD_LANES => true,
-        _ => false,
-    }
+    matches!(kind, WORD_FOR | WORD_PAR | WORD_LANES)
 }

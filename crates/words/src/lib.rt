@@ -13,8 +13,8 @@ ghost use Rattle.words.specs.Words.{words, word_at, same_letters, look_up, colum
 
 use crate::kinds::WORD_COUNT;
 
-// [2.1] The sorts of rows.
-#[derive(Clone, Copy)]
+// [2.1] The sorts of rows, in the order of the table's columns.
+#[derive(Clone, Copy, Debug, PartialEq, Eq)]
 pub enum Sort {
     Plan,
     DataType,
@@ -27,25 +27,11 @@ pub enum Sort {
     Offset,
 }
 
-// Where a word stands in the table.
-#[derive(Clone, Copy)]
-pub enum Found {
-    At(usize),
-    NotListed,
-}
-
-// What a search down a table answers: where the word stands, and how many rows were compared with it.
-#[derive(Clone, Copy)]
+// What a search down a table answers: where the word stands, if it is listed, and how many rows were compared with it.
+#[derive(Clone, Copy, Debug, PartialEq, Eq)]
 pub struct Search {
-    pub found: Found,
+    pub found: Option<usize>,
     pub compared: usize,
-}
-
-// How many operands a row has; or its word makes no row of the sort asked for.
-#[derive(Clone, Copy)]
-pub enum Operands {
-    Count(usize),
-    NotOfSort,
 }
 
 // [2.2] A row for each word: its letters, how many they are, and its operands as a row of each sort, '-' where it makes none: plan,
@@ -104,17 +90,7 @@ const WORDS: Table = [
 fn column(sort: Sort) -> usize
     ensures { (result ≡ column_of sort) × (result < 9) }
 {
-    match sort {
-        Sort::Plan => 0,
-        Sort::DataType => 1,
-        Sort::Term => 2,
-        Sort::Loops => 3,
-        Sort::Cells => 4,
-        Sort::Command => 5,
-        Sort::Place => 6,
-        Sort::Value => 7,
-        Sort::Offset => 8,
-    }
+    sort as usize
 }
 
 // The row of this place in a table; one with no letters where there is none.
@@ -135,17 +111,17 @@ fn digit(byte: u8) -> usize
     (byte - b'0') as usize
 }
 
-// The operands of a row of this kind, as a row of this sort, by the built-in table.
-pub fn operand_count(built_in: &Table, kind: u8, sort: Sort) -> Operands
+// How many operands a row of this kind has as a row of this sort, by the built-in table; none where its word makes no row of the sort.
+pub fn operand_count(built_in: &Table, kind: u8, sort: Sort) -> Option<usize>
     requires { built_in.now ≡ packed_table }
     ensures { result ≡ operands_of kind sort }
 {
     let word = row_in(built_in, kind as usize);
     let count = word[10 + column(sort)];
     if count == b'-' {
-        return Operands::NotOfSort;
+        return None;
     }
-    Operands::Count(digit(count))
+    Some(digit(count))
 }
 
 // [2.2] The built-in table.
@@ -156,17 +132,11 @@ pub fn built_in() -> Table
     WORDS
 }
 
-// How many letters a row's word has, by the byte behind them.
+// How many letters a row's word has, by the byte behind them: eight at most.
 fn letter_count(byte: u8) -> usize
     ensures { (result ≡ letters_by byte) × (result ≤ 8) }
 {
-    if byte < b'0' {
-        return 0;
-    }
-    if b'8' < byte {
-        return 8;
-    }
-    digit(byte)
+    usize::from(byte.saturating_sub(b'0')).min(8)
 }
 
 // How many letters the word of this kind has.
@@ -188,47 +158,34 @@ pub fn letter(table: &Table, kind: u8, i: usize) -> u8
     row[i]
 }
 
-// Whether these are the letters of a row's word: the row is left at the first letter that differs.
+// Whether these are the letters of a row's word.
 fn same(letters: &[u8], row: &[u8; 19]) -> bool
     ensures { result ≡ same_letters letters.now (word_in row.now) }
 {
-    let mut i = 0;
-    while i < letters.len() {
-        if 8 <= i {
-            return false;
-        }
-        if letters[i] != row[i] {
-            return false;
-        }
-        i += 1;
-    }
-    letter_count(row[8]) == i
+    let count = letter_count(row[8]);
+    letters == &row[..count]
 }
 
 // [1.3], [17.1] Goes down a table to the word with these letters, and ends there.
 pub fn find(table: &Table, letters: &[u8]) -> Search
     ensures { LooksUp (words_in table.now) letters.now result }
 {
-    let mut compared = 0;
-    while compared < WORD_COUNT {
-        let place = compared;
-        let hit = same(letters, &table[place]);
-        compared += 1;
-        if hit {
+    for place in 0..WORD_COUNT {
+        if same(letters, &table[place]) {
             return Search {
-                found: Found::At(place),
-                compared,
+                found: Some(place),
+                compared: place + 1,
             };
         }
     }
     Search {
-        found: Found::NotListed,
-        compared,
+        found: None,
+        compared: WORD_COUNT,
     }
 }
 
 // Where a table has the word of a row.
-pub fn find_row(table: &Table, row: [u8; 19]) -> Found
+pub fn find_row(table: &Table, row: [u8; 19]) -> Option<usize>
     ensures { result ≡ look_up (words_in table.now) (word_in row) }
 {
     let count = letter_count(row[8]);
@@ -247,8 +204,5 @@ pub fn look_up(word: &[u8]) -> Search
 pub fn row_count(kinds: &[u8], numbers: &[i32]) -> usize
     ensures { (result ≡ length (rows_of kinds.now numbers.now)) × (result ≤ length kinds.now) × (result ≤ length numbers.now) }
 {
-    if kinds.len() < numbers.len() {
-        return kinds.len();
-    }
-    numbers.len()
+    kinds.len().min(numbers.len())
 }

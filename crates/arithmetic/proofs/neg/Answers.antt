@@ -1,19 +1,14 @@
--- `neg` is `clamp` of 0 less the number, which 64 bits hold.
+-- `neg` is the library's, which saturates as cells are clamped.
 use mathlib.Core.Path.{ap, ◌∙◌}
-use lib.IntN.{pos, +ℤ_idl}
-use mir.Facts.{sfits_lit}
-use Rattle.arithmetic.specs.Arithmetic.{clamp, negation}
-use Rattle.arithmetic.proofs.Laws.{operand_fits, result_fits, result_clamped, difference_exact}
+use mir.Facts.{to_z-of_z}
+use mir.Syntax.{w32}
+use mir.Val.{SFits}
+use Rattle.arithmetic.specs.Arithmetic.{negation}
+use Rattle.arithmetic.proofs.Saturation.{saturated}
 use Rattle.arithmetic.proofs.neg.Goals as goal
-
-pub overflow_cast-x : goal.overflow_cast-x
-overflow_cast-x c = operand_fits c.ranges.x
-
-pub overflow_sub-x : goal.overflow_sub-x
-overflow_sub-x c = result_fits difference_exact (sfits_lit {z = pos 0} tt) c.ranges.x
 
 pub returns : goal.returns
 unfolding negation
 returns c =
-    result_clamped difference_exact (sfits_lit {z = pos 0} tt) c.ranges.x c.clamp.type_inv c.clamp.ensures
-    ∙ ap clamp (+ℤ_idl _)
+    let fits : SFits w32 c.saturating_neg.result = record { sfits = c.saturating_neg.type_inv } in
+    to_z-of_z fits ∙ c.saturating_neg.ensures ∙ saturated _ ∙ ap negation (to_z-of_z c.ranges.x)

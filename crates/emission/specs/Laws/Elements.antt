@@ -1,6 +1,6 @@
 -- What has elements, as the code tells it: its levels, how many they are, and its summands and assignment by them. Assumes nothing.
-use Rattle.std.specs.Prelude.{◌≡◌, refl, List, ◌∷◌, ℕ, zero, suc, ◌≤◌, ◌<◌, pos, get_or}
-use Rattle.std.proofs.Common.{sym, subst, ◌∙◌, arith}
+use Rattle.std.specs.Prelude.{◌≡◌, ◌⊎◌, refl, List, ◌∷◌, ℕ, zero, suc, ◌≤◌, ◌<◌, pos, get_or, None, Option, Some}
+use Rattle.std.proofs.Common.{sym, subst, ap, ◌∙◌, arith, inl, inr}
 use Rattle.words.specs.Kinds.{word_par, word_lanes}
 use Rattle.meaning.specs.Types.{DataType, number, array, vector, cells, levels, array_length}
 use Rattle.meaning.specs.Loops.{Offset, times}
@@ -12,11 +12,13 @@ use Rattle.meaning.specs.Rows.{command_rows}
 use Rattle.meaning.specs.Limits.{TypeWithin}
 use Rattle.meaning.proofs.Laws.Bounds.{length_within, width_is_count}
 use Rattle.type_table.specs.Nodes.{kind_in, left_in, right_in}
-use Rattle.type_table.specs.Table.{by_kind, type_at, Sound}
+use Rattle.type_table.specs.Table.{by_kind, type_at, Sound, ShapeTold}
+use Rattle.type_table.specs.declared.PairShape.{PairShape}
+use Rattle.type_table.specs.declared.Shape.{Shape}
+use Rattle.type_table.specs.declared.Shape.TheVariants.{Number, Pair}
 use Rattle.type_table.specs.Laws.{type_here}
 use Rattle.emission.specs.Elements.{HasElements, ElementsTold}
-use Rattle.emission.specs.declared.elements.ElementsShape.{ElementsShape}
-use Rattle.emission.specs.declared.elements.ElementsShape.TheVariants.{Elements, NoElements}
+use Rattle.emission.specs.declared.elements.Elements.{Elements}
 
 -- ---- of a type
 
@@ -73,6 +75,17 @@ vector_elements {t} {s} {n} e f =
     subst (λ (u : DataType). HasElements u n s word_lanes) (sym e)
     (subst (λ (u : DataType). HasElements (vector n) n u word_lanes) (sym f) (HasElements.of_vector n))
 
+-- 1 for what has elements
+abbrev pub its_elements : DataType → ℕ
+its_elements number = 0
+its_elements (array n s) = 1
+its_elements (DataType.pair s u) = 0
+its_elements (vector w) = 1
+
+some_elements : {t : DataType} {n : ℕ} {s : DataType} {k : ℕ} → HasElements t n s k → its_elements t ≡ 1
+some_elements (HasElements.of_array n s) = refl
+some_elements (HasElements.of_vector n) = refl
+
 no_elements : {t : DataType} {n : ℕ} {s : DataType} {k : ℕ} → HasElements t n s k → ((m : ℕ) (u : DataType) → t ≡ array m u → ⊥)
     → ((m : ℕ) → t ≡ vector m → ⊥) → ⊥
 no_elements (HasElements.of_array n s) f g = f n s refl
@@ -93,17 +106,24 @@ module _ (T : List ℕ) (i : ℕ) where
       go (suc (suc zero)) n s t f g h = absurd (g refl)
       go (suc (suc (suc k))) n s t f g h = absurd (h (omega arith))
 
-  pub tell_array : {n e : ℕ} → (type_at T i ≡ array n (type_at T e)) × (e < i) → ElementsTold T i (Elements n e word_par)
-  tell_array h = (array_elements h.0, h.1)
+  pub tell_array : (n e : ℕ) → (type_at T i ≡ array n (type_at T e)) × (e < i) → HasElements (type_at T i) n (type_at T e) word_par × (e < i)
+  tell_array n e h = (array_elements h.0, h.1)
 
-  pub tell_vector : {n : ℕ} → Sound T (suc i) → (type_at T i ≡ vector n) × (0 < i) → ElementsTold T i (Elements n 0 word_lanes)
-  tell_vector S h = (vector_elements h.0 (first_is_number S), h.1)
+  pub tell_vector : (n : ℕ) → Sound T (suc i) → (type_at T i ≡ vector n) × (0 < i) → HasElements (type_at T i) n (type_at T 0) word_lanes × (0 < i)
+  tell_vector n S h = (vector_elements h.0 (first_is_number S), h.1)
 
-  pub tell_none : ((n : ℕ) (t : DataType) → type_at T i ≡ array n t → ⊥) → ((n : ℕ) → type_at T i ≡ vector n → ⊥) → ElementsTold T i NoElements
-  tell_none f g n t k e = no_elements e f g
+  none_told : its_elements (type_at T i) ≡ 0 → ElementsTold T i None
+  none_told z n t k e = let o : its_elements (type_at T i) ≡ 1 = some_elements e in absurd (omega arith)
 
-  pub told_elements : {n e k : ℕ} {r : ElementsShape} → r ≡ Elements n e k → ElementsTold T i r → HasElements (type_at T i) n (type_at T e) k × (e < i)
+  pub tell_no_elements : (r : Shape) → ShapeTold T i r → (r ≡ Number) ⊎ ((p : PairShape) × (r ≡ Pair p)) → ElementsTold T i None
+  tell_no_elements r h (inl e) = none_told (ap its_elements (subst (ShapeTold T i) e h))
+  tell_no_elements r h (inr q) = none_told (ap its_elements (subst (ShapeTold T i) q.1 h).0)
+
+  pub told_elements : {e : Elements} {r : Option Elements} → r ≡ Some e → ElementsTold T i r → HasElements (type_at T i) e.length (type_at T e.element) e.word × (e.element < i)
   told_elements q h = subst (ElementsTold T i) q h
 
-  pub told_no_elements : {r : ElementsShape} → r ≡ NoElements → ElementsTold T i r → (n : ℕ) (t : DataType) (k : ℕ) → HasElements (type_at T i) n t k → ⊥
+  pub told_no_elements : {r : Option Elements} → r ≡ None → ElementsTold T i r → (n : ℕ) (t : DataType) (k : ℕ) → HasElements (type_at T i) n t k → ⊥
   told_no_elements q h = subst (ElementsTold T i) q h
+
+  pub tell_none : ((n : ℕ) (t : DataType) → type_at T i ≡ array n t → ⊥) → ((n : ℕ) → type_at T i ≡ vector n → ⊥) → ElementsTold T i None
+  tell_none f g n t k e = no_elements e f g

@@ -34,10 +34,6 @@ get_d_past (x ∷ l) (suc i) d h = get_d_past l i d (omega arith)
 pub type_past : (Y : List ℕ) (t : ℕ) → length Y ≤ t → type_at Y t ≡ number
 type_past Y t h = get_d_past (types_of Y) t number (omega (arith, types_many [] Y))
 
--- a type's cells fit a count
-pub few_cells : (Y : List ℕ) (t : ℕ) → Sound Y (suc t) → cells (type_at Y t) ≤ 4096
-few_cells Y t S = cells_within (type_at Y t) (S.each t (omega arith)).within.0
-
 -- the summands from step j on, by the type
 module _ (t : DataType) (p : Path Offset) (j : ℕ) where
   next : tail (drop j p) ≡ drop (j + 1) p
@@ -150,3 +146,7 @@ offset_some c (x ∷ xs) m o o₁ o₂ e z p q =
 -- a row whose number was told
 pub counted : (o o' : Table) (k n m : ℕ) → n ≡ m → o' ≡ put_row o (k, pos n) → o' ≡ put_row o (k, pos m)
 counted o o' k n m e h = h ∙ ap (λ (i : ℕ). put_row o (k, pos i)) e
+
+-- a type's cells fit a count
+pub few_cells : (Y : List ℕ) (t : ℕ) → Sound Y (suc t) → cells (type_at Y t) ≤ 4096
+few_cells Y t S = cells_within (type_at Y t) (S.each t (omega arith)).within.0

@@ -1,29 +1,21 @@
 -- Laws of classes and operands: which node a path goes on to, and that what is read, or written, there is the same. Assumes
 -- nothing.
-use Rattle.std.specs.Prelude.{◌≡◌, refl, [], ◌∷◌, Bool, true, false, cond, ℕ, ◌<◌, pos, drop}
+use Rattle.std.specs.Prelude.{◌≡◌, refl, [], ◌∷◌, Bool, true, false, cond, ℕ, pos, ◌<◌, drop}
 use Rattle.std.proofs.Common.{ap, sym, ◌∙◌, arith, ne_eqb}
-use Rattle.words.specs.Kinds.{word_kind_in, word_lit, word_neg, word_out, word_loc}
-use Rattle.words.specs.Groups.{is_operation}
 use Rattle.meaning.specs.Loops.{Offset, Place, Value}
 use Rattle.meaning.specs.Paths.{Path, tail, by_part, index, first, second}
 use Rattle.meaning.specs.Expressions.{Expression, Acceptor}
 use Rattle.meaning.specs.Offsets.{read_at, write_at, unzipped}
 use Rattle.meaning.specs.Translation.{no_expression}
-use Rattle.emission.specs.Nodes.{kind_in}
-use Rattle.emission.specs.Changes.{change_of, through}
-use Rattle.emission.specs.References.{class_of, rearranged, written, no_acceptor}
-use Rattle.emission.specs.Laws.PathSteps.{tail_drop}
+use Rattle.emission.specs.Changes.{through, change_of}
+use Rattle.emission.specs.References.{rearranged, written, no_acceptor, class_of}
 use Rattle.emission.specs.declared.paths.Change.{Change}
 use Rattle.emission.specs.declared.paths.Change.TheVariants.{Zip, Pair, Ungrouped, Grouped, First, Second, AtLiteral, AtCounter, ZipFirst, ZipSecond, Unchanged}
+use Rattle.words.specs.Kinds.{word_kind_in, word_lit, word_neg, word_out, word_loc}
+use Rattle.words.specs.Groups.{is_operation}
+use Rattle.emission.specs.Nodes.{kind_in}
+use Rattle.emission.specs.Laws.PathSteps.{tail_drop}
 use Rattle.emission.specs.declared.references.Class.TheVariants.{Operation, Rearranged}
-
--- the class of a kind that is none of those named
-module _ (k : ℕ) (a : k ≡ word_lit → ⊥) (b : k ≡ word_kind_in → ⊥) (c : k ≡ word_loc → ⊥) (d : k ≡ word_out → ⊥) (e : k ≡ word_neg → ⊥) where
-  pub class_operation : is_operation k ≡ true → Operation ≡ class_of k
-  class_operation h = rw (ne_eqb k word_lit a, ne_eqb k word_kind_in b, ne_eqb k word_loc c, ne_eqb k word_out d, ne_eqb k word_neg e, h) refl
-
-  pub class_other : is_operation k ≡ false → Rearranged ≡ class_of k
-  class_other h = rw (ne_eqb k word_lit a, ne_eqb k word_kind_in b, ne_eqb k word_loc c, ne_eqb k word_out d, ne_eqb k word_neg e, h) refl
 
 -- The node that a path goes on to: of a zip or a pair one of the two; node 0, which stands for nothing, behind what cannot be read,
 -- or written.
@@ -94,6 +86,25 @@ write_on P ZipFirst n p a z = refl
 write_on P ZipSecond n p a z = refl
 write_on P Unchanged n p a z = nothing_written (P 0) (through Unchanged n p) z
 
+-- as the code finds it: by the part that was tested
+part_is : {A : Type 0} (p : Path Offset) (x y : A) → by_part p x y ≡ cond (by_part p false true) y x
+part_is [] x y = refl
+part_is (index i ∷ p) x y = refl
+part_is (first ∷ p) x y = refl
+part_is (second ∷ p) x y = refl
+
+pub is_second_part : {A : Type 0} (p : Path Offset) (x y : A) → true ≡ by_part p false true → y ≡ by_part p x y
+is_second_part p x y e = sym (part_is p x y ∙ ap (λ (b : Bool). cond b y x) (sym e))
+
+pub is_first_part : {A : Type 0} (p : Path Offset) (x y : A) → false ≡ by_part p false true → x ≡ by_part p x y
+is_first_part p x y e = sym (part_is p x y ∙ ap (λ (b : Bool). cond b y x) (sym e))
+
+pub second_of_zip : (p : Path Offset) (a b r : ℕ) → true ≡ by_part (drop 1 p) false true → r ≡ b → r ≡ operand_read Zip p a b
+second_of_zip p a b r h e = e ∙ is_second_part (drop 1 p) a b h ∙ ap (λ (q : Path Offset). by_part q a b) (sym (tail_drop p))
+
+pub first_of_zip : (p : Path Offset) (a b r : ℕ) → false ≡ by_part (drop 1 p) false true → r ≡ a → r ≡ operand_read Zip p a b
+first_of_zip p a b r h e = e ∙ is_first_part (drop 1 p) a b h ∙ ap (λ (q : Path Offset). by_part q a b) (sym (tail_drop p))
+
 -- either way its number is smaller
 part_below : (p : Path Offset) (a b v : ℕ) → a < v → b < v → by_part p a b < v
 part_below [] a b v h l = h
@@ -127,7 +138,7 @@ written_below ZipFirst a v h = h
 written_below ZipSecond a v h = h
 written_below Unchanged a v h = omega arith
 
--- as the code finds it: by the change that it is, and by the part that was tested
+-- by the change that a node's kind makes
 module _ (f g : Change) (k w r : ℕ) (e : f ≡ change_of k) (ek : k ≡ kind_in w) (eg : f ≡ g) where
   pub read_by_holds : (p : Path Offset) (a b : ℕ) → r ≡ operand_read g p a b → r ≡ operand_read (change_of (kind_in w)) p a b
   read_by_holds p a b h = h ∙ ap (λ (x : Change). operand_read x p a b) (sym eg ∙ e ∙ ap change_of ek)
@@ -135,20 +146,10 @@ module _ (f g : Change) (k w r : ℕ) (e : f ≡ change_of k) (ek : k ≡ kind_i
   pub written_by_holds : (a : ℕ) → r ≡ operand_written g a → r ≡ operand_written (change_of (kind_in w)) a
   written_by_holds a h = h ∙ ap (λ (x : Change). operand_written x a) (sym eg ∙ e ∙ ap change_of ek)
 
-part_is : {A : Type 0} (p : Path Offset) (x y : A) → by_part p x y ≡ cond (by_part p false true) y x
-part_is [] x y = refl
-part_is (index i ∷ p) x y = refl
-part_is (first ∷ p) x y = refl
-part_is (second ∷ p) x y = refl
+-- the class of a kind that is none of those named
+module _ (k : ℕ) (a : k ≡ word_lit → ⊥) (b : k ≡ word_kind_in → ⊥) (c : k ≡ word_loc → ⊥) (d : k ≡ word_out → ⊥) (e : k ≡ word_neg → ⊥) where
+  pub class_operation : is_operation k ≡ true → Operation ≡ class_of k
+  class_operation h = rw (ne_eqb k word_lit a, ne_eqb k word_kind_in b, ne_eqb k word_loc c, ne_eqb k word_out d, ne_eqb k word_neg e, h) refl
 
-pub is_second_part : {A : Type 0} (p : Path Offset) (x y : A) → true ≡ by_part p false true → y ≡ by_part p x y
-is_second_part p x y e = sym (part_is p x y ∙ ap (λ (b : Bool). cond b y x) (sym e))
-
-pub is_first_part : {A : Type 0} (p : Path Offset) (x y : A) → false ≡ by_part p false true → x ≡ by_part p x y
-is_first_part p x y e = sym (part_is p x y ∙ ap (λ (b : Bool). cond b y x) (sym e))
-
-pub second_of_zip : (p : Path Offset) (a b r : ℕ) → true ≡ by_part (drop 1 p) false true → r ≡ b → r ≡ operand_read Zip p a b
-second_of_zip p a b r h e = e ∙ is_second_part (drop 1 p) a b h ∙ ap (λ (q : Path Offset). by_part q a b) (sym (tail_drop p))
-
-pub first_of_zip : (p : Path Offset) (a b r : ℕ) → false ≡ by_part (drop 1 p) false true → r ≡ a → r ≡ operand_read Zip p a b
-first_of_zip p a b r h e = e ∙ is_first_part (drop 1 p) a b h ∙ ap (λ (q : Path Offset). by_part q a b) (sym (tail_drop p))
+  pub class_other : is_operation k ≡ false → Rearranged ≡ class_of k
+  class_other h = rw (ne_eqb k word_lit a, ne_eqb k word_kind_in b, ne_eqb k word_loc c, ne_eqb k word_out d, ne_eqb k word_neg e, h) refl

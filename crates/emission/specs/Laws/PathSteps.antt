@@ -1,18 +1,18 @@
 -- What stands at a step of a path, found change by change, and that it is what the path has there. Assumes nothing.
-use Rattle.std.specs.Prelude.{◌≡◌, refl, List, [], ◌∷◌, ◌++◌, Bool, true, false, cond, ℕ, zero, suc, ◌+◌, ◌-◌, ◌≤◌, ◌<◌, eqb, ltb, get_or, drop, length}
+use Rattle.std.specs.Prelude.{◌≡◌, refl, List, [], ◌∷◌, ◌++◌, Bool, true, false, cond, ℕ, zero, suc, ◌+◌, ◌-◌, ◌≤◌, ◌<◌, eqb, ltb, get_or, drop, length, Option, Some, None}
 use Rattle.std.proofs.Math.Path.{ap}
-use Rattle.std.proofs.Common.{sym, ◌∙◌, subst, arith, ltb-true, ltb-false, lt-ltb, le-ltb, ne_eqb, drop-drop}
+use Rattle.std.proofs.Common.{sym, ◌∙◌, subst, arith, ltb-true, ltb-false, lt-ltb, le-ltb, drop-drop, ne_eqb}
 use Rattle.std.proofs.Math.Seq.{drop-nil, drop-append-add}
-use Rattle.words.specs.Kinds.{word_zip, word_pair, word_split, word_join, word_fst, word_snd, word_idx, word_ctr}
 use Rattle.meaning.specs.Loops.{Offset, plus, times, over, rest}
 use Rattle.meaning.specs.Paths.{Path, tail, by_part, index, first, second}
 use Rattle.meaning.specs.Offsets.{leading_index}
 use Rattle.emission.specs.Nodes.{kind_in, number_in}
-use Rattle.emission.specs.Changes.{zip_first, zip_second, change_of, through, path_of}
+use Rattle.emission.specs.Changes.{change_of, through, path_of, zip_first, zip_second}
 use Rattle.emission.specs.declared.paths.Change.{Change}
 use Rattle.emission.specs.declared.paths.Change.TheVariants.{Zip, Pair, Ungrouped, Grouped, First, Second, AtLiteral, AtCounter, ZipFirst, ZipSecond, Unchanged}
 use Rattle.emission.specs.declared.paths.Found.{Found}
-use Rattle.emission.specs.declared.paths.Found.TheVariants.{Nothing, FirstPart, SecondPart, CounterAt, LiteralAt, Same, OfGroup, Quotient, Remainder}
+use Rattle.emission.specs.declared.paths.Found.TheVariants.{FirstPart, SecondPart, CounterAt, LiteralAt, Same, OfGroup, Quotient, Remainder}
+use Rattle.words.specs.Kinds.{word_zip, word_pair, word_split, word_join, word_fst, word_snd, word_idx, word_ctr}
 
 -- the steps that a change puts in front of a path, how many they are, and how many of the path are gone
 abbrev own : Change → ℕ → Path Offset → Path Offset
@@ -90,83 +90,80 @@ own_length ZipFirst n p = refl
 own_length ZipSecond n p = refl
 own_length Unchanged n p = refl
 
-pub gone_made : (f : Change) → gone_by f ≤ made_by f + 1
-gone_made Zip = omega arith
-gone_made Pair = omega arith
-gone_made Ungrouped = omega arith
-gone_made Grouped = omega arith
-gone_made First = omega arith
-gone_made Second = omega arith
-gone_made AtLiteral = omega arith
-gone_made AtCounter = omega arith
-gone_made ZipFirst = omega arith
-gone_made ZipSecond = omega arith
-gone_made Unchanged = omega arith
-
 -- step j of a change's own, over the path at depth e
-abbrev pub own_found : Change → ℕ → ℕ → ℕ → Found
-own_found Zip n j e = Same e
-own_found Pair n j e = Nothing
-own_found Ungrouped n j e = OfGroup n e
-own_found Grouped n j e = cond (eqb j 0) (Quotient n e) (Remainder n e)
-own_found First n j e = FirstPart
-own_found Second n j e = SecondPart
-own_found AtLiteral n j e = LiteralAt n
-own_found AtCounter n j e = CounterAt n
-own_found ZipFirst n j e = cond (eqb j 0) (Same e) FirstPart
-own_found ZipSecond n j e = cond (eqb j 0) (Same e) SecondPart
-own_found Unchanged n j e = Nothing
+abbrev pub own_found : Change → ℕ → ℕ → ℕ → Option Found
+own_found Zip n j e = Some (Same e)
+own_found Pair n j e = None
+own_found Ungrouped n j e = Some (OfGroup n e)
+own_found Grouped n j e = cond (eqb j 0) (Some (Quotient n e)) (Some (Remainder n e))
+own_found First n j e = Some FirstPart
+own_found Second n j e = Some SecondPart
+own_found AtLiteral n j e = Some (LiteralAt n)
+own_found AtCounter n j e = Some (CounterAt n)
+own_found ZipFirst n j e = cond (eqb j 0) (Some (Same e)) (Some FirstPart)
+own_found ZipSecond n j e = cond (eqb j 0) (Some (Same e)) (Some SecondPart)
+own_found Unchanged n j e = None
 
 -- step j of the path of the first d changes: the last change's own, or one of those behind it
-abbrev found_by : Change → ℕ → ℕ → ℕ → Found → Found
+abbrev found_by : Change → ℕ → ℕ → ℕ → Option Found → Option Found
 found_by f n j e behind = cond (ltb j (made_by f)) (own_found f n j e) behind
 
-unfoldable pub found_at : List ℕ → ℕ → ℕ → Found
-found_at C zero j = Nothing
+unfoldable pub found_at : List ℕ → ℕ → ℕ → Option Found
+found_at C zero j = None
 found_at C (suc d) j =
     found_by (change_of (kind_in (get_or C d 0))) (number_in (get_or C d 0)) j d
     (found_at C d (j - made_by (change_of (kind_in (get_or C d 0))) + gone_by (change_of (kind_in (get_or C d 0)))))
 
 -- the index that it stands for, whether it is a second part, and that the depth that it names is below this one
-abbrev pub index_of : List ℕ → Found → Offset
-index_of C Nothing = Offset.literal 0
-index_of C FirstPart = Offset.literal 0
-index_of C SecondPart = Offset.literal 0
-index_of C (CounterAt l) = Offset.counter l
-index_of C (LiteralAt v) = Offset.literal v
-index_of C (Same e) = leading_index (path_of C e)
-index_of C (OfGroup n e) = plus (times n (leading_index (path_of C e))) (leading_index (drop 1 (path_of C e)))
-index_of C (Quotient n e) = over n (leading_index (path_of C e))
-index_of C (Remainder n e) = rest n (leading_index (path_of C e))
+abbrev pub index_of : List ℕ → Option Found → Offset
+index_of C None = Offset.literal 0
+index_of C (Some FirstPart) = Offset.literal 0
+index_of C (Some SecondPart) = Offset.literal 0
+index_of C (Some (CounterAt l)) = Offset.counter l
+index_of C (Some (LiteralAt v)) = Offset.literal v
+index_of C (Some (Same e)) = leading_index (path_of C e)
+index_of C (Some (OfGroup n e)) = plus (times n (leading_index (path_of C e))) (leading_index (drop 1 (path_of C e)))
+index_of C (Some (Quotient n e)) = over n (leading_index (path_of C e))
+index_of C (Some (Remainder n e)) = rest n (leading_index (path_of C e))
 
-abbrev pub is_second : Found → Bool
-is_second Nothing = false
-is_second FirstPart = false
-is_second SecondPart = true
-is_second (CounterAt l) = false
-is_second (LiteralAt v) = false
-is_second (Same e) = false
-is_second (OfGroup n e) = false
-is_second (Quotient n e) = false
-is_second (Remainder n e) = false
+abbrev pub is_second : Option Found → Bool
+is_second None = false
+is_second (Some FirstPart) = false
+is_second (Some SecondPart) = true
+is_second (Some (CounterAt l)) = false
+is_second (Some (LiteralAt v)) = false
+is_second (Some (Same e)) = false
+is_second (Some (OfGroup n e)) = false
+is_second (Some (Quotient n e)) = false
+is_second (Some (Remainder n e)) = false
 
-abbrev pub depth_in : Found → ℕ
-depth_in Nothing = 0
-depth_in FirstPart = 0
-depth_in SecondPart = 0
-depth_in (CounterAt l) = 0
-depth_in (LiteralAt v) = 0
-depth_in (Same e) = suc e
-depth_in (OfGroup n e) = suc e
-depth_in (Quotient n e) = suc e
-depth_in (Remainder n e) = suc e
+pub not_second : (g : Found) → (g ≡ SecondPart → ⊥) → false ≡ is_second (Some g)
+not_second FirstPart h = refl
+not_second SecondPart h = absurd (h refl)
+not_second (CounterAt l) h = refl
+not_second (LiteralAt v) h = refl
+not_second (Same e) h = refl
+not_second (OfGroup n e) h = refl
+not_second (Quotient n e) h = refl
+not_second (Remainder n e) h = refl
 
-pub record Right (C : List ℕ) (d : ℕ) (p : Path Offset) (r : Found) : Type 0 where
+abbrev pub depth_in : Option Found → ℕ
+depth_in None = 0
+depth_in (Some FirstPart) = 0
+depth_in (Some SecondPart) = 0
+depth_in (Some (CounterAt l)) = 0
+depth_in (Some (LiteralAt v)) = 0
+depth_in (Some (Same e)) = suc e
+depth_in (Some (OfGroup n e)) = suc e
+depth_in (Some (Quotient n e)) = suc e
+depth_in (Some (Remainder n e)) = suc e
+
+pub record Right (C : List ℕ) (d : ℕ) (p : Path Offset) (r : Option Found) : Type 0 where
   pub its_index : leading_index p ≡ index_of C r
   pub its_part : by_part p false true ≡ is_second r
   pub its_depth : depth_in r ≤ d
 
-right_deeper : (C : List ℕ) (d : ℕ) (p : Path Offset) (r : Found) → Right C d p r → Right C (suc d) p r
+right_deeper : (C : List ℕ) (d : ℕ) (p : Path Offset) (r : Option Found) → Right C d p r → Right C (suc d) p r
 right_deeper C d p r h = record { its_index = h.its_index; its_part = h.its_part; its_depth = omega (arith, h.its_depth) }
 
 own_right : (C : List ℕ) (f : Change) (n j e : ℕ) (q : Path Offset) → j < made_by f
@@ -223,7 +220,7 @@ step_right C f n d j false e h =
 pub found_right : (C : List ℕ) (d j : ℕ) → Right C d (drop j (path_of C d)) (found_at C d j)
 unfolding path_of found_at
 found_right C zero j =
-    subst (λ (p : Path Offset). Right C 0 p Nothing) (sym (drop-nil j)) (record { its_index = refl; its_part = refl; its_depth = omega arith })
+    subst (λ (p : Path Offset). Right C 0 p None) (sym (drop-nil j)) (record { its_index = refl; its_part = refl; its_depth = omega arith })
 found_right C (suc d) j =
     let w : ℕ = get_or C d 0 in
     let f : Change = change_of (kind_in w) in
@@ -232,7 +229,7 @@ found_right C (suc d) j =
     (step_right C f (number_in w) d j (ltb j (made_by f)) refl (found_right C d (j - made_by f + gone_by f)))
 
 -- the same, as the code finds it
-pub found_none : (C : List ℕ) (d j : ℕ) → d ≡ 0 → Nothing ≡ found_at C d j
+pub found_none : (C : List ℕ) (d j : ℕ) → d ≡ 0 → None ≡ found_at C d j
 unfolding found_at
 found_none C d j h = rw h refl
 
@@ -248,18 +245,31 @@ module _ (C : List ℕ) (d j : ℕ) (f : Change) (h : d ≡ 0 → ⊥) (e : f �
       ap (λ (x : ℕ). found_at C x j) (suc_before d h)
       ∙ ap (λ (g : Change). found_by g (number_in (get_or C (d - 1) 0)) j (d - 1) (found_at C (d - 1) (j - made_by g + gone_by g))) (sym e)
 
-  pub found_own : (n : ℕ) (r : Found) → n ≡ number_in (get_or C (d - 1) 0) → j < made_by f → r ≡ own_found f n j (d - 1) → r ≡ found_at C d j
+  pub found_own : (n : ℕ) (r : Option Found) → n ≡ number_in (get_or C (d - 1) 0) → j < made_by f → r ≡ own_found f n j (d - 1) → r ≡ found_at C d j
   found_own n r en l p =
       p ∙ ap (λ (x : ℕ). own_found f x j (d - 1)) en
       ∙ sym (found_step ∙ ap (λ (b : Bool). cond b (own_found f (number_in (get_or C (d - 1) 0)) j (d - 1)) (found_at C (d - 1) (j - made_by f + gone_by f))) (lt-ltb j (made_by f) l))
 
-  pub found_deeper : (m g : ℕ) (r : Found) → m ≡ made_by f → g ≡ gone_by f → made_by f ≤ j → r ≡ found_at C (d - 1) (j - m + g) → r ≡ found_at C d j
+  pub found_deeper : (m g : ℕ) (r : Option Found) → m ≡ made_by f → g ≡ gone_by f → made_by f ≤ j → r ≡ found_at C (d - 1) (j - m + g) → r ≡ found_at C d j
   found_deeper m g r em eg l p =
       p ∙ ap (λ (x : ℕ). found_at C (d - 1) (j - x + g)) em ∙ ap (λ (x : ℕ). found_at C (d - 1) (j - made_by f + x)) eg
       ∙ sym (found_step ∙ ap (λ (b : Bool). cond b (own_found f (number_in (get_or C (d - 1) 0)) j (d - 1)) (found_at C (d - 1) (j - made_by f + gone_by f))) (le-ltb j (made_by f) l))
 
+pub gone_made : (f : Change) → gone_by f ≤ made_by f + 1
+gone_made Zip = omega arith
+gone_made Pair = omega arith
+gone_made Ungrouped = omega arith
+gone_made Grouped = omega arith
+gone_made First = omega arith
+gone_made Second = omega arith
+gone_made AtLiteral = omega arith
+gone_made AtCounter = omega arith
+gone_made ZipFirst = omega arith
+gone_made ZipSecond = omega arith
+gone_made Unchanged = omega arith
+
 -- by the change that it is
-pub own_as : (f g : Change) (n j e : ℕ) (r : Found) → f ≡ g → r ≡ own_found g n j e → r ≡ own_found f n j e
+pub own_as : (f g : Change) (n j e : ℕ) (r : Option Found) → f ≡ g → r ≡ own_found g n j e → r ≡ own_found f n j e
 own_as f g n j e r p h = h ∙ sym (ap (λ (x : Change). own_found x n j e) p)
 
 pub at_first : {A : Type 0} (a b : A) (j : ℕ) → j ≡ 0 → a ≡ cond (eqb j 0) a b

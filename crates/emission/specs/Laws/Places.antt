@@ -1,7 +1,7 @@
 -- The rows of the place of a node, as the code puts them: by the node's class. Assumes nothing.
-use Rattle.std.specs.Prelude.{◌≡◌, refl, List, ℕ, suc, ◌-◌, ◌<◌, ◌≤◌, get_or}
+use Rattle.std.specs.Prelude.{◌≡◌, ◌⊎◌, refl, List, ℕ, suc, ◌-◌, ◌<◌, ◌≤◌, get_or}
 use Rattle.std.proofs.Math.Path.{ap}
-use Rattle.std.proofs.Common.{sym, ◌∙◌, subst, arith}
+use Rattle.std.proofs.Common.{sym, ◌∙◌, subst, arith, inl, inr}
 use Rattle.std.proofs.Math.IntN.{pos}
 use Rattle.words.specs.Kinds.{Row, word_lit, word_out, word_loc}
 use Rattle.meaning.specs.Loops.{Offset, Place}
@@ -18,7 +18,7 @@ use Rattle.emission.specs.Laws.Nodes.{node_made, nothing_left, nothing_right, no
 use Rattle.emission.specs.Laws.Indices.{rows_under}
 use Rattle.emission.specs.Laws.Operands.{operand_written, write_on}
 use Rattle.emission.specs.declared.references.Class.{Class}
-use Rattle.emission.specs.declared.references.Class.TheVariants.{Region, Output, Rearranged}
+use Rattle.emission.specs.declared.references.Class.TheVariants.{Literal, Input, Region, Output, Negation, Operation, Rearranged}
 
 -- the place of an acceptor at a path, as rows; that of no acceptor
 abbrev pub place_at : ℕ → ℕ → Acceptor → Path Offset → List Row
@@ -31,6 +31,14 @@ pub put_nowhere : (o o₁ o₂ : Table) → o₁ ≡ put_row o (word_out, pos 0)
 unfolding put_rows place_rows offset_rows
 put_nowhere o o₁ o₂ h l = l ∙ ap (λ (x : Table). put_row x (word_lit, pos 0)) h
 
+-- the classes of what cannot be written
+pub not_written : (f : Class) → (f ≡ Literal) ⊎ ((f ≡ Input) ⊎ ((f ≡ Negation) ⊎ (f ≡ Operation)))
+    → (Y : List ℕ) (w : ℕ) (P : Acceptor) → acceptor_by f Y w P ≡ no_acceptor
+not_written f (inl e) Y w P = ap (λ (y : Class). acceptor_by y Y w P) e
+not_written f (inr (inl e)) Y w P = ap (λ (y : Class). acceptor_by y Y w P) e
+not_written f (inr (inr (inl e))) Y w P = ap (λ (y : Class). acceptor_by y Y w P) e
+not_written f (inr (inr (inr e))) Y w P = ap (λ (y : Class). acceptor_by y Y w P) e
+
 -- node v by its class and operand
 module _ (Y : List ℕ) (c r : ℕ) (T : List ℕ) (v a b : ℕ) (ha : a ≡ left_in (get_or T v 0)) (hb : b ≡ right_in (get_or T v 0))
     (p : Path Offset) (o o' : Table) where
@@ -42,6 +50,10 @@ module _ (Y : List ℕ) (c r : ℕ) (T : List ℕ) (v a b : ℕ) (ha : a ≡ lef
 
   pub place_right : v ≤ b → o' ≡ put_rows nowhere o → o' ≡ put_rows (place_at c r (acceptor_at Y T v) p) o
   place_right l h = place_as no_acceptor (nothing_right no_acceptor (acceptor_over Y) T v (omega (arith, l, hb))) h
+
+  pub place_of_nothing : (v ≤ a) ⊎ ((a < v) × (v ≤ b)) → o' ≡ put_rows nowhere o → o' ≡ put_rows (place_at c r (acceptor_at Y T v) p) o
+  place_of_nothing (inl l) h = place_left l h
+  place_of_nothing (inr l) h = place_right l.1 h
 
   module _ (la : a < v) (lb : b < v) (g cl : Class) (k : ℕ) (hc : cl ≡ class_of k) (hk : k ≡ kind_in (get_or T v 0)) (hg : cl ≡ g) where
     made_as : (f : Class) → g ≡ f → acceptor_at Y T v ≡ acceptor_by f Y (get_or T v 0) (acceptor_at Y T a)

@@ -1,7 +1,7 @@
 -- The rows of the value of a node, as the code puts them: by the node's class, from what its operands' values are. Assumes nothing.
-use Rattle.std.specs.Prelude.{◌≡◌, refl, List, Bool, true, false, cond, eqb, ℤ, get_or, length, set, take}
+use Rattle.std.specs.Prelude.{◌≡◌, ◌⊎◌, refl, List, Bool, true, false, cond, eqb, ℤ, get_or, length, set, take}
 use Rattle.std.proofs.Math.Path.{ap, sym}
-use Rattle.std.proofs.Common.{◌∙◌, subst, arith, add-one, take-take, get_or-take, get_or-set_same}
+use Rattle.std.proofs.Common.{◌∙◌, subst, arith, add-one, take-take, get_or-take, get_or-set_same, inl, inr}
 use Prim.Native.Nat.{ℕ, zero, suc, ◌+◌, ◌-◌, ◌<◌, ◌≤◌}
 use Rattle.std.proofs.Math.IntN.{pos}
 use Rattle.std.proofs.lemmas.List.{take-set-le}
@@ -95,6 +95,10 @@ module _ (Y : List ℕ) (N : List ℤ) (c r : ℕ) (T : List ℕ) (v a b : ℕ) 
   pub value_right : v ≤ b → o' ≡ put_row o (word_lit, pos 0) → o' ≡ put_rows (value_at c r (expression_at Y N T v) p) o
   unfolding put_rows value_rows
   value_right l h = value_as no_expression (nothing_right no_expression (expression_over Y N) T v (omega (arith, l, hb))) h
+
+  pub value_of_nothing : (v ≤ a) ⊎ ((a < v) × (v ≤ b)) → o' ≡ put_row o (word_lit, pos 0) → o' ≡ put_rows (value_at c r (expression_at Y N T v) p) o
+  value_of_nothing (inl l) h = value_left l h
+  value_of_nothing (inr l) h = value_right l.1 h
 
   module _ (la : a < v) (lb : b < v) (g cl : Class) (k : ℕ) (hc : cl ≡ class_of k) (hk : k ≡ kind_in (get_or T v 0)) (hg : cl ≡ g) where
     class_is : class_of (kind_in (get_or T v 0)) ≡ g

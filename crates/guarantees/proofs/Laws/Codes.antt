@@ -1,5 +1,7 @@
 -- What is told to C is what the library's entries tell: every value is far below 2^56, a need below 2^45. Assumes nothing.
-use Rattle.std.specs.Prelude.{Bool, cond, ◌≡◌, ℕ, ◌+◌, ◌*◌, ◌/◌, ◌%◌, ◌≤◌, ◌<◌, min, leb, ℤ, length}
+use Rattle.std.specs.Prelude.{Bool, cond, ◌≡◌, ℕ, ◌+◌, ◌*◌, ◌/◌, ◌%◌, ◌≤◌, ◌<◌, min, leb, ℤ, length, Ok, Err}
+use Rattle.loops.specs.Checked.{Checked, passing}
+use Rattle.refusals.specs.Answers.{Answer}
 use Rattle.std.proofs.Math.Bool.{true, false}
 use Rattle.std.proofs.Math.Path.{refl, ap, ap₂}
 use Rattle.std.proofs.Common.{sym, ◌∙◌, subst, arith, lt-ltb, le-ltb}
@@ -7,8 +9,6 @@ use mathlib.Core.List.{List, []}
 use Rattle.refusals.specs.declared.Refusal.{Refusal}
 use Rattle.refusals.specs.declared.Refusal.TheVariants as refusals
 use Rattle.refusals.specs.Refusals.{refusal_number, refusal_line}
-use Rattle.refusals.specs.declared.Answer.{Answer}
-use Rattle.refusals.specs.declared.Answer.TheVariants as answer
 use Rattle.words.specs.Kinds.{Row, rows_of}
 use Rattle.lines.specs.Lent.{text_rows}
 use Rattle.lines.specs.Reading.{head_of, loops_limits}
@@ -23,8 +23,6 @@ use Rattle.syntax.specs.Theorems.{loops_read}
 use Rattle.typing.specs.Entry.{check_plan_text as check_plan}
 use Rattle.plans.specs.Promises.{ChecksPlan}
 use Rattle.interpreter.specs.Orders.{run_of}
-use Rattle.loops.specs.declared.Checked.{Checked}
-use Rattle.loops.specs.declared.Checked.TheVariants as loops
 use Rattle.loops.specs.Check.{writes_of, check_loops_text, check_table, need_of}
 use Rattle.loops.specs.Promises.{ChecksLoops, TellsNeed, ReadsLoops}
 use Rattle.loops.specs.Theorems.{Accepted}
@@ -86,40 +84,40 @@ refusal_code_holds q = number_code (refusal_number q) (min (refusal_line q) 7205
 -- ---- each answer, where its number is small
 
 accepted_code_holds : (a : Answer) → told_code (accepted_code a) ≡ cut (told_accepted a)
-accepted_code_holds (answer.Told n) = value_code 0 (omega arith)
-accepted_code_holds (answer.Refused q) = refusal_code_holds q
+accepted_code_holds (Ok n) = value_code 0 (omega arith)
+accepted_code_holds (Err q) = refusal_code_holds q
 
-answer_code_holds : (a : Answer) → ((n : ℕ) → a ≡ answer.Told n → n ≤ 16777216) → told_code (answer_code a) ≡ cut (told_answer a)
-answer_code_holds (answer.Told n) h = value_code n (omega (arith, h n refl))
-answer_code_holds (answer.Refused q) h = refusal_code_holds q
+answer_code_holds : (a : Answer) → ((n : ℕ) → a ≡ Ok n → n ≤ 16777216) → told_code (answer_code a) ≡ cut (told_answer a)
+answer_code_holds (Ok n) h = value_code n (omega (arith, h n refl))
+answer_code_holds (Err q) h = refusal_code_holds q
 
-writes_code : (a : Checked) → ((w n : ℕ) → a ≡ loops.Passes w n → w ≤ 16777216) → told_code (answer_code (writes_of a)) ≡ cut (told_writes a)
-writes_code (loops.Passes w n) h = value_code w (omega (arith, h w n refl))
-writes_code (loops.Refused q) h = refusal_code_holds q
+writes_code : (a : Checked) → ((w n : ℕ) → a ≡ passing w n → w ≤ 16777216) → told_code (answer_code (writes_of a)) ≡ cut (told_writes a)
+writes_code (Ok p) h = value_code p.writes (omega (arith, h p.writes p.need refl))
+writes_code (Err q) h = refusal_code_holds q
 
-need_code : (a : Checked) → ((w n : ℕ) → a ≡ loops.Passes w n → n < 35184372088832) → told_code (answer_code (need_of a)) ≡ cut (told_need a)
-need_code (loops.Passes w n) h = value_code n (omega (arith, h w n refl))
-need_code (loops.Refused q) h = refusal_code_holds q
+need_code : (a : Checked) → ((w n : ℕ) → a ≡ passing w n → n < 35184372088832) → told_code (answer_code (need_of a)) ≡ cut (told_need a)
+need_code (Ok p) h = value_code p.need (omega (arith, h p.writes p.need refl))
+need_code (Err q) h = refusal_code_holds q
 
 -- ws is any good table of words.
 module _ (ws : List (List ℕ)) (good : Good ws) where
   -- ---- how great they are
 
-  few_rows : (t : List ℕ) (w n : ℕ) → check_loops_text ws t ≡ loops.Passes w n → length (text_rows ws t) ≤ 4096
+  few_rows : (t : List ℕ) (w n : ℕ) → check_loops_text ws t ≡ passing w n → length (text_rows ws t) ≤ 4096
   few_rows t w n e = read_few (head_of ws Words) loops_limits t (length (text_rows ws t)) ((text_passes_exactly ws t w n).0 e).0
 
-  need_small : (t : List ℕ) (w n : ℕ) → check_loops_text ws t ≡ loops.Passes w n → n < 35184372088832
+  need_small : (t : List ℕ) (w n : ℕ) → check_loops_text ws t ≡ passing w n → n < 35184372088832
   need_small t w n e =
       let a = ((text_passes_exactly ws t w n).0 e).1 in
       let few : command_writes a.loops.command ≤ 16777216 = omega (arith, a.writes, a.writes_few) in
       omega (arith, need_few a.loops a.passes few, a.needs)
 
   -- the writes of a run of rows that pass
-  module _ (R : List Row) (c : Checked) (pass : (w n : ℕ) → c ≡ loops.Passes w n → Accepted R w n) (order : ℕ) (s : List ℤ) where
+  module _ (R : List Row) (c : Checked) (pass : (w n : ℕ) → c ≡ passing w n → Accepted R w n) (order : ℕ) (s : List ℤ) where
     abbrev L : Loops
     L = loops_of R
 
-    run_writes : (w n : ℕ) → c ≡ loops.Passes w n → (run_of L order s).writes ≤ 16777216
+    run_writes : (w n : ℕ) → c ≡ passing w n → (run_of L order s).writes ≤ 16777216
     run_writes w n e =
         let a = pass w n e in
         let same : L ≡ a.loops = ap loops_of a.rows ∙ loops_read a.loops in
@@ -127,22 +125,22 @@ module _ (ws : List (List ℕ)) (good : Good ws) where
         let here : command_writes L.command ≡ w = ap (λ (M : Loops). command_writes M.command) same ∙ sym a.writes in
         omega (arith, counted, here, a.writes_few)
 
-    asked_writes : (n v : ℕ) → (run_of L order s).writes ≤ 16777216 → (asked_run L n order s).answer ≡ answer.Told v → v ≤ 16777216
+    asked_writes : (n v : ℕ) → (run_of L order s).writes ≤ 16777216 → (asked_run L n order s).answer ≡ Ok v → v ≤ 16777216
     unfolding asked_run
     asked_writes n v h e = go (leb order 2) (leb n (length s)) e
       where
-        go : (a b : Bool) → (cond a (cond b (finished (run_of L order s)) (refused refusals.StoreSize s)) (refused refusals.UnknownOrder s)).answer ≡ answer.Told v
+        go : (a b : Bool) → (cond a (cond b (finished (run_of L order s)) (refused refusals.StoreSize s)) (refused refusals.UnknownOrder s)).answer ≡ Ok v
             → v ≤ 16777216
         go true true f = let same : (run_of L order s).writes ≡ v = cc in omega (arith, h, same)
         go true false f = no_run f
         go false b f = no_run f
 
-    pub ran_small : (v : ℕ) → (run_checked c L order s).answer ≡ answer.Told v → v ≤ 16777216
+    pub ran_small : (v : ℕ) → (run_checked c L order s).answer ≡ Ok v → v ≤ 16777216
     ran_small v e = go c refl e
       where
-        go : (x : Checked) → c ≡ x → (run_checked x L order s).answer ≡ answer.Told v → v ≤ 16777216
-        go (loops.Passes w n) f g = asked_writes n v (run_writes w n f) g
-        go (loops.Refused q) f g = no_run g
+        go : (x : Checked) → c ≡ x → (run_checked x L order s).answer ≡ Ok v → v ≤ 16777216
+        go (Ok p) f g = asked_writes p.need v (run_writes p.writes p.need f) g
+        go (Err q) f g = no_run g
 
   -- ---- the entries
 

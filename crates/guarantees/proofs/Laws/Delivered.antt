@@ -1,7 +1,8 @@
 -- Demand 3: what holds of a plan whose loops were had by any of the ways. Assumes nothing.
 use Rattle.std.specs.Prelude.{◌≡◌, List, [], ℕ, ◌≤◌, ℤ, length}
+use Rattle.loops.specs.Checked.{Checked, passing}
+use Rattle.refusals.specs.Answers.{Answer}
 use Rattle.std.proofs.Common.{sym, ap, ◌∙◌, subst}
-use Rattle.refusals.specs.declared.Answer.{Answer}
 use Rattle.words.specs.Kinds.{rows_of}
 use Rattle.lines.specs.Lent.{text_rows}
 use Rattle.meaning.specs.Types.{DataType}
@@ -20,8 +21,6 @@ use Rattle.mixing.proofs.Theorems.{demand_3_mixing, mixing_as_run}
 use Rattle.syntax.specs.Reading.{plan_of, loops_of}
 use Rattle.syntax.specs.Theorems.{loops_read}
 use Rattle.interpreter.specs.Orders.{run_of}
-use Rattle.loops.specs.declared.Checked.{Checked}
-use Rattle.loops.specs.declared.Checked.TheVariants.{Passes}
 use Rattle.loops.specs.Check.{check_table, check_loops_text, need_of}
 use Rattle.loops.specs.Promises.{TellsNeed}
 use Rattle.translate.specs.Accepted.{TextPlan}
@@ -78,7 +77,7 @@ module _ (ws : List (List ℕ)) (good : Good ws) where
       pub text_run : {u : List ℕ} → MadeText ws t u → order ≤ 2 → RunsText ws u order c b r c' b' → RanRightly P c b (told_answer r) c' b'
       text_run {u} M few e =
           let x = made_text_holds ws good t M in
-          let passes : check_loops_text ws u ≡ Passes (plan_writes P) (need L) = ap (check_loops_text ws) x.1 ∙ text_passes ws good t y in
+          let passes : check_loops_text ws u ≡ passing (plan_writes P) (need L) = ap (check_loops_text ws) x.1 ∙ text_passes ws good t y in
           let loops : loops_of (text_rows ws u) ≡ L = ap (λ (v : List ℕ). loops_of (text_rows ws v)) x.1 ∙ ap loops_of (back ws good t y) ∙ loops_read L in
           ran_rightly
           (e

@@ -1,6 +1,8 @@
 -- What the check of a plan's text, of a loops' text and of a table asks, as one list: at the door, and then of the plan or the loops that
 -- the rows are read as. Assumes nothing.
-use Rattle.std.specs.Prelude.{cond, ◌≡◌, refl, ℕ, suc, leb, length}
+use Rattle.std.specs.Prelude.{cond, ◌≡◌, refl, ℕ, suc, leb, length, Ok, Err}
+use Rattle.loops.specs.Checked.{Checked, passing}
+use Rattle.refusals.specs.Answers.{Answer}
 use Rattle.std.proofs.Common.{sym, ◌∙◌, subst, arith, lt-ltb}
 use Rattle.std.proofs.Math.Path.{ap}
 use mathlib.Core.List.{List, [], ◌∷◌, ◌++◌}
@@ -8,8 +10,6 @@ use Rattle.std.proofs.Math.Dec.{T}
 use Rattle.refusals.specs.declared.Refusal.TheVariants.{LineCount}
 use Rattle.words.specs.Kinds.{Row}
 use Rattle.words.specs.Words.{words, look_up}
-use Rattle.refusals.specs.declared.Answer.{Answer}
-use Rattle.refusals.specs.declared.Answer.TheVariants.{Told, Refused}
 use Rattle.words.specs.declared.Sort.{Sort}
 use Rattle.words.specs.declared.Sort.TheVariants as sort
 use Rattle.lines.specs.Lent.{text_rows}
@@ -30,8 +30,6 @@ use Rattle.typing.specs.Entry.{check_plan_text}
 use Rattle.typing.proofs.Laws.Questions.{yes_append, yes_parts, all_asked, ask_append, ask_through}
 use Rattle.typing.proofs.Laws.EntryQuestions.{kinds_ask, reading_asks, table_asks, text_asks}
 use Rattle.typing.proofs.Laws.Texts.{rows_printable}
-use Rattle.loops.specs.declared.Checked.{Checked}
-use Rattle.loops.specs.declared.Checked.TheVariants as loops
 use Rattle.loops.specs.Check.{after_answer, check_loops, check_loops_rows, check_table, check_loops_text as check_loops_text}
 use Rattle.guarantees.specs.Questions.{rows_door, plan_door, loops_door, table_door, loops_questions}
 use Rattle.guarantees.proofs.Laws.Asked.{without, again}
@@ -55,7 +53,7 @@ module _ (ws : List (List ℕ)) (good : Good ws) where
 
   walks : (s : Sort) (R : List Row) → AllYes (kind_questions 0 R) → AllYes (rows_door s R) → WalksWell s R
   walks s R k w =
-      table_asks s R ∙ all_asked Refused (kind_questions 0 R ++ rows_door s R) (Told (length R)) (yes_append (kind_questions 0 R) (rows_door s R) k w)
+      table_asks s R ∙ all_asked Err (kind_questions 0 R ++ rows_door s R) (Ok (length R)) (yes_append (kind_questions 0 R) (rows_door s R) k w)
 
   pub plan_is : (t : List ℕ) → AllYes (plan_door ws t) → text_rows ws t ≡ plan_rows (plan_of (text_rows ws t))
   plan_is t h =
@@ -75,7 +73,7 @@ module _ (ws : List (List ℕ)) (good : Good ws) where
   -- ---- the checks
 
   pub plan_asks : (t : List ℕ) → check_plan_text ws t
-      ≡ ask Refused (plan_door ws t ++ plan_questions (plan_of (text_rows ws t))) (Told (length (text_rows ws t)))
+      ≡ ask Err (plan_door ws t ++ plan_questions (plan_of (text_rows ws t))) (Ok (length (text_rows ws t)))
   unfolding text_questions row_questions
   plan_asks t =
       let R : List Row = text_rows ws t in
@@ -83,18 +81,18 @@ module _ (ws : List (List ℕ)) (good : Good ws) where
       let w : List Question = rows_door sort.Plan R in
       let p : List Question = plan_questions (plan_of R) in
       let a : List Question = read_questions (look_up ws) plan_limits t in
-      let end : Answer = Told (length R) in
+      let end : Answer = Ok (length R) in
       text_asks ws t
-      ∙ ask_append Refused a ((k ++ w) ++ p) end
-      ∙ ap (ask Refused a) (ask_append Refused (k ++ w) p end)
-      ∙ without Refused k w p end a (kinds_yes t)
+      ∙ ask_append Err a ((k ++ w) ++ p) end
+      ∙ ap (ask Err a) (ask_append Err (k ++ w) p end)
+      ∙ without Err k w p end a (kinds_yes t)
 
   module _ (R : List Row) where
     abbrev L : Loops
     L = loops_of R
 
     abbrev pub passes : Checked
-    passes = loops.Passes (command_writes L.command) (need L)
+    passes = passing (command_writes L.command) (need L)
 
     abbrev kinds : List Question
     kinds = kind_questions 0 R
@@ -102,32 +100,32 @@ module _ (ws : List (List ℕ)) (good : Good ws) where
     abbrev walk : List Question
     walk = rows_door sort.Loops R
 
-    rows_ask : check_loops_rows R ≡ ask loops.Refused (kinds ++ walk) (ask loops.Refused (loops_questions L) passes)
+    rows_ask : check_loops_rows R ≡ ask Err (kinds ++ walk) (ask Err (loops_questions L) passes)
     unfolding check_loops_rows
     rows_ask =
         let next : Answer → Checked = λ a. after_answer a (check_loops L) in
         ap next (table_asks sort.Loops R)
-        ∙ ask_through Refused loops.Refused next (λ q. refl) (kinds ++ walk) (Told (length R))
-        ∙ ap (ask loops.Refused (kinds ++ walk)) (loops_ask L)
+        ∙ ask_through Err Err next (λ q. refl) (kinds ++ walk) (Ok (length R))
+        ∙ ap (ask Err (kinds ++ walk)) (loops_ask L)
 
-    pub table_check_asks : check_table R ≡ ask loops.Refused (table_door R ++ loops_questions L) passes
+    pub table_check_asks : check_table R ≡ ask Err (table_door R ++ loops_questions L) passes
     unfolding check_table ask
     table_check_asks =
         let few : Question = question (leb (length R) 4096) LineCount in
-        let next : Answer → Checked = λ a. after_answer a (cond (leb (length R) 4096) (check_loops_rows R) (loops.Refused LineCount)) in
-        ap next (kinds_ask 0 R (Told (length R)))
-        ∙ ask_through Refused loops.Refused next (λ q. refl) kinds (Told (length R))
-        ∙ ap (λ (c : Checked). ask loops.Refused kinds (ask loops.Refused (few ∷ []) c)) rows_ask
-        ∙ again loops.Refused kinds walk (loops_questions L) passes (few ∷ [])
+        let next : Answer → Checked = λ a. after_answer a (cond (leb (length R) 4096) (check_loops_rows R) (Err LineCount)) in
+        ap next (kinds_ask 0 R (Ok (length R)))
+        ∙ ask_through Err Err next (λ q. refl) kinds (Ok (length R))
+        ∙ ap (λ (c : Checked). ask Err kinds (ask Err (few ∷ []) c)) rows_ask
+        ∙ again Err kinds walk (loops_questions L) passes (few ∷ [])
 
   pub loops_check_asks : (t : List ℕ) → check_loops_text ws t
-      ≡ ask loops.Refused (loops_door ws t ++ loops_questions (loops_of (text_rows ws t))) (passes (text_rows ws t))
+      ≡ ask Err (loops_door ws t ++ loops_questions (loops_of (text_rows ws t))) (passes (text_rows ws t))
   unfolding check_loops_text
   loops_check_asks t =
       let R : List Row = text_rows ws t in
       let a : List Question = read_questions (head_of ws Words) loops_limits t in
       let next : Answer → Checked = λ r. after_answer r (check_loops_rows R) in
       ap next (reading_asks (head_of ws Words) loops_limits t)
-      ∙ ask_through Refused loops.Refused next (λ q. refl) a (Told (length (lines_of t)))
-      ∙ ap (ask loops.Refused a) (rows_ask R)
-      ∙ without loops.Refused (kinds R) (walk R) (loops_questions (loops_of R)) (passes R) a (kinds_yes t)
+      ∙ ask_through Err Err next (λ q. refl) a (Ok (length (lines_of t)))
+      ∙ ap (ask Err a) (rows_ask R)
+      ∙ without Err (kinds R) (walk R) (loops_questions (loops_of R)) (passes R) a (kinds_yes t)

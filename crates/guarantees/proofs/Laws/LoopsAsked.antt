@@ -1,5 +1,6 @@
 -- Questions 9 and 11 of loops: their check is the first "no" of the list. Assumes nothing.
-use Rattle.std.specs.Prelude.{◌≡◌, refl, List, [], ◌∷◌, ◌++◌, ℕ, ◌+◌, length}
+use Rattle.std.specs.Prelude.{◌≡◌, refl, List, [], ◌∷◌, ◌++◌, ℕ, ◌+◌, length, Err}
+use Rattle.loops.specs.Checked.{Checked, passing}
 use Rattle.std.proofs.Common.{sym, ap, ◌∙◌}
 use Rattle.std.proofs.Math.Option.{Option, none, some}
 use Rattle.refusals.specs.declared.Refusal.{Refusal}
@@ -12,8 +13,6 @@ use Rattle.meaning.specs.Limits.{counter_bound}
 use Rattle.bounds.specs.Bounds.{ask_offset, first_no, ask_value, ask_place, ask_set, ask_command, ask_bounds}
 use Rattle.typing.specs.Questions.{Question, ask}
 use Rattle.typing.proofs.Laws.Questions.{ask_append, ask_through}
-use Rattle.loops.specs.declared.Checked.{Checked}
-use Rattle.loops.specs.declared.Checked.TheVariants.{Passes, Refused}
 use Rattle.loops.specs.Check.{ask_writes, unless, check_loops}
 use Rattle.guarantees.specs.Questions.{offset_question, value_questions, place_question, command_questions, loops_questions}
 
@@ -68,11 +67,11 @@ command_asks ins out ns rs line (loop kind n b) = command_asks ins out (n ∷ ns
 command_asks ins out ns rs line (new n b) = command_asks ins out ns (n ∷ rs) (line + 1) b
 
 -- Their check: the writes and the need, or the first "no".
-pub loops_ask : (L : Loops) → check_loops L ≡ ask Refused (loops_questions L) (Passes (command_writes L.command) (need L))
+pub loops_ask : (L : Loops) → check_loops L ≡ ask Err (loops_questions L) (passing (command_writes L.command) (need L))
 unfolding check_loops ask_bounds loops_questions ask
 loops_ask L =
     let qs : List Question = command_questions L.inputs L.output [] [] (3 + length L.inputs) L.command in
     let next : Option Refusal → Checked = λ a. unless a (ask_writes L) in
     ap next (command_asks L.inputs L.output [] [] (3 + length L.inputs) L.command)
-    ∙ ask_through some Refused next (λ q. refl) qs none
-    ∙ sym (ask_append Refused qs _ (Passes (command_writes L.command) (need L)))
+    ∙ ask_through some Err next (λ q. refl) qs none
+    ∙ sym (ask_append Err qs _ (passing (command_writes L.command) (need L)))

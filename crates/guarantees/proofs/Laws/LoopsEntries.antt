@@ -1,6 +1,7 @@
 -- Demand 1 of the entries that take loops, as a text or as a table: each is said once, of any list of questions at the door. Assumes
 -- nothing.
-use Rattle.std.specs.Prelude.{Bool, ◌≡◌, eqb, leb, ℤ, length}
+use Rattle.std.specs.Prelude.{Bool, ◌≡◌, eqb, leb, ℤ, length, Err, Ok}
+use Rattle.loops.specs.Checked.{Checked, passing}
 use Rattle.std.proofs.Math.Bool.{true, false, cond}
 use Rattle.std.proofs.Math.Path.{refl, ap, fun_ext}
 use Rattle.std.proofs.Common.{sym, ◌∙◌, subst}
@@ -8,9 +9,7 @@ use mathlib.Core.List.{List, ◌++◌}
 use Prim.Native.Nat.{ℕ}
 use Rattle.refusals.specs.declared.Refusal.{Refusal}
 use Rattle.refusals.specs.declared.Refusal.TheVariants.{UnknownOrder, StoreSize}
-use Rattle.refusals.specs.declared.Answer.{Answer}
-use Rattle.refusals.specs.declared.Answer.TheVariants as answer
-use Rattle.refusals.specs.Answers.{unless_refused}
+use Rattle.refusals.specs.Answers.{unless_refused, Answer}
 use Rattle.words.specs.Kinds.{Row, rows_of}
 use Rattle.lines.specs.Lent.{text_rows, ask_room}
 use Rattle.meaning.specs.Numbers.{clamped32}
@@ -25,8 +24,6 @@ use Rattle.syntax.specs.Reading.{loops_of}
 use Rattle.syntax.specs.Theorems.{loops_unique}
 use Rattle.interpreter.specs.Orders.{named, run_of}
 use Rattle.typing.specs.Questions.{Question, ask, AllYes}
-use Rattle.loops.specs.declared.Checked.{Checked}
-use Rattle.loops.specs.declared.Checked.TheVariants as loops
 use Rattle.loops.specs.Check.{check_table, check_loops_text, need_of}
 use Rattle.loops.specs.Promises.{ChecksLoops, ChecksTable, TellsNeed, ReadsLoops}
 use Rattle.run.specs.Run.{Ran, outcome, finished, refused, asked_run, run_checked, run_table, run_text}
@@ -79,7 +76,7 @@ module _ (ws : List (List ℕ)) (good : Good ws) where
   -- ---- rows R that are checked with the answer c, behind questions at the door
 
   module _ (R : List Row) (door : List Question) (c : Checked) (are : AllYes door → R ≡ loops_rows (loops_of R))
-      (asked : c ≡ ask loops.Refused (door ++ loops_questions (loops_of R)) (passes ws good R)) where
+      (asked : c ≡ ask Err (door ++ loops_questions (loops_of R)) (passes ws good R)) where
     abbrev L : Loops
     L = loops_of R
 
@@ -93,9 +90,9 @@ module _ (ws : List (List ℕ)) (good : Good ws) where
         answers_of loops_rows R door more v Kept Left r L asks are loops_unique kept left
 
     -- what is told of the check's answer, by any f that hands refusals on
-    pub loops_told : (f : Checked → Told) → ((q : Refusal) → f (loops.Refused q) ≡ refusal q)
+    pub loops_told : (f : Checked → Told) → ((q : Refusal) → f (Err q) ≡ refusal q)
         → f c ≡ ask refusal (door ++ loops_questions L) (f (passes ws good R))
-    loops_told f h = told_asks loops.Refused f h (door ++ loops_questions L) (passes ws good R) c asked
+    loops_told f h = told_asks Err f h (door ++ loops_questions L) (passes ws good R) c asked
 
     pub writes_answered : Of loops_questions (λ M. command_writes M.command) (Unit {0}) Nothing (told_writes c)
     writes_answered =
@@ -136,23 +133,23 @@ module _ (ws : List (List ℕ)) (good : Good ws) where
           ∙ ap (λ (st : State clamped32). ask refusal (run_questions order (length s) L) (Told.value st.writes)) (run_in_order_holds order L s)))
 
       -- a run that was made left its store
-      asked_left : (n w : ℕ) → (asked_run L n order s).answer ≡ answer.Told w → (asked_run L n order s).store ≡ (run_of L order s).store
+      asked_left : (n w : ℕ) → (asked_run L n order s).answer ≡ Ok w → (asked_run L n order s).store ≡ (run_of L order s).store
       unfolding asked_run
       asked_left n w e = go (leb order 2) (leb n (length s)) e
         where
-          go : (a b : Bool) → (cond a (cond b (finished (run_of L order s)) (refused StoreSize s)) (refused UnknownOrder s)).answer ≡ answer.Told w
+          go : (a b : Bool) → (cond a (cond b (finished (run_of L order s)) (refused StoreSize s)) (refused UnknownOrder s)).answer ≡ Ok w
               → (cond a (cond b (finished (run_of L order s)) (refused StoreSize s)) (refused UnknownOrder s)).store ≡ (run_of L order s).store
           go true true f = refl
           go true false f = no_run f
           go false b f = no_run f
 
-      run_left : (x : Checked) (w : ℕ) → (run_checked x L order s).answer ≡ answer.Told w → (run_checked x L order s).store ≡ (run_of L order s).store
-      run_left (loops.Passes v n) w e = asked_left n w e
-      run_left (loops.Refused q) w e = no_run e
+      run_left : (x : Checked) (w : ℕ) → (run_checked x L order s).answer ≡ Ok w → (run_checked x L order s).store ≡ (run_of L order s).store
+      run_left (Ok p) w e = asked_left p.need w e
+      run_left (Err q) w e = no_run e
 
     pub run_answered : (order : ℕ) (k k' : List ℤ) (b b' : List ℕ) (r : Answer) → AllBytes b → AllBytes b' → KeepsFrame k b k' b'
         → outcome r (store_of k' b') ≡ run_checked c L order (store_of k b)
-        → ((q : Refusal) → (run_checked c L order (store_of k b)).answer ≡ answer.Refused q → (run_checked c L order (store_of k b)).store ≡ store_of k b)
+        → ((q : Refusal) → (run_checked c L order (store_of k b)).answer ≡ Err q → (run_checked c L order (store_of k b)).store ≡ store_of k b)
         → Of (λ M. loops_questions M ++ run_questions order (length (store_of k b)) M) (writes_made order k b)
         ((k' ≡ k) × (b' ≡ b)) (StoreLeft order k b k' b') (told_answer r)
     run_answered order k k' b b' r h h' f e same =

@@ -1,11 +1,10 @@
 -- What follows where loops were had from a plan's text, by any of the ways: every question was answered "yes", the text's rows are those
 -- of one plan, and the loops are those of its translation. Assumes nothing.
-use Rattle.std.specs.Prelude.{true, ◌≡◌, refl, List, ◌++◌, ◌↔◌, ℕ, ◌≤◌, ℤ, length, take}
+use Rattle.std.specs.Prelude.{true, ◌≡◌, refl, List, ◌++◌, ◌↔◌, ℕ, ◌≤◌, ℤ, length, take, Ok, Err}
+use Rattle.loops.specs.Checked.{passing}
 use Rattle.std.proofs.Common.{sym, ap, ◌∙◌, subst, leb→le}
 use Rattle.std.specs.Float.Ieee.Bits.{is_true}
-use Rattle.refusals.specs.declared.Answer.{Answer}
-use Rattle.refusals.specs.declared.Answer.TheVariants as answer
-use Rattle.refusals.specs.Answers.{is_told}
+use Rattle.refusals.specs.Answers.{is_told, Answer}
 use Rattle.words.specs.Kinds.{Row, rows_of}
 use Rattle.lines.specs.Lent.{text_rows}
 use Rattle.lines.specs.Printing.{text_of}
@@ -25,7 +24,6 @@ use Rattle.typing.specs.Entry.{check_plan_text}
 use Rattle.typing.proofs.Laws.Questions.{yes_append, yes_parts, all_asked, end_asked, ask_through}
 use Rattle.typing.proofs.Laws.Sized.{yes_to, plan_fits}
 use Rattle.plans.specs.Promises.{ChecksPlan}
-use Rattle.loops.specs.declared.Checked.TheVariants.{Passes}
 use Rattle.loops.specs.Check.{check_table, check_loops_text as check_loops_text}
 use Rattle.loops.specs.Promises.{ReadsLoops}
 use Rattle.loops.specs.Theorems.{own_pass}
@@ -73,8 +71,8 @@ module _ (ws : List (List ℕ)) (good : Good ws) where
 
     -- ---- the plan of a text that is accepted
 
-    passed : AllYes (plan_door ws t) → AllYes (plan_questions P) → check_plan_text ws t ≡ answer.Told (length R)
-    passed d p = plan_asks ws good t ∙ all_asked answer.Refused (plan_door ws t ++ plan_questions P) (answer.Told (length R)) (yes_append (plan_door ws t) (plan_questions P) d p)
+    passed : AllYes (plan_door ws t) → AllYes (plan_questions P) → check_plan_text ws t ≡ Ok (length R)
+    passed d p = plan_asks ws good t ∙ all_asked Err (plan_door ws t ++ plan_questions P) (Ok (length R)) (yes_append (plan_door ws t) (plan_questions P) d p)
 
     pub the_plan : AllYes (plan_door ws t) → AllYes (plan_questions P) → TextPlan ws t P
     the_plan d p = text_plan ws t (length R) (passed d p)
@@ -114,7 +112,7 @@ module _ (ws : List (List ℕ)) (good : Good ws) where
       where
         told : told_answer r ≡ ask refusal (plan_door ws t ++ plan_questions P) (Told.value (length R))
         told = ap told_answer (e ∙ plan_asks ws good t)
-            ∙ ask_through answer.Refused refusal told_answer (λ q. refl) (plan_door ws t ++ plan_questions P) (answer.Told (length R))
+            ∙ ask_through Err refusal told_answer (λ q. refl) (plan_door ws t ++ plan_questions P) (Ok (length R))
 
     -- ---- all "yes" where loops were had
 
@@ -161,10 +159,10 @@ module _ (ws : List (List ℕ)) (good : Good ws) where
       pub back : text_rows ws S ≡ made_rows P
       back = own_text_back ws good P T.type T.well_typed T.within T.numbers
 
-      pub text_passes : check_loops_text ws S ≡ Passes (plan_writes P) (need (translation P))
+      pub text_passes : check_loops_text ws S ≡ passing (plan_writes P) (need (translation P))
       text_passes = own_text_passes ws good P T.type T.well_typed T.within T.numbers y.few y.apart y.writes
 
-      pub rows_pass : check_table (made_rows P) ≡ Passes (plan_writes P) (need (translation P))
+      pub rows_pass : check_table (made_rows P) ≡ passing (plan_writes P) (need (translation P))
       rows_pass = few_rows (made_rows P) y.few ∙ own_pass P T.type T.well_typed T.within y.apart y.writes
 
     put_rows_holds : (k k' : List ℕ) (n n' : List ℤ) (r : Answer) (m : ℕ) → TranslatesRows ws t k n r k' n' → told_answer r ≡ Told.value m

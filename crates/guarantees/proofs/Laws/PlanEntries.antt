@@ -1,5 +1,5 @@
 -- Demand 1 of the entries that take a plan's text. Assumes nothing.
-use Rattle.std.specs.Prelude.{Bool, ◌&&◌, ◌≡◌, List, ◌++◌, map, ℕ, ℤ, length, drop}
+use Rattle.std.specs.Prelude.{Bool, ◌&&◌, ◌≡◌, List, ◌++◌, map, ℕ, ℤ, length, drop, Ok, Err}
 use Rattle.std.proofs.Math.Bool.{true, false, cond}
 use Rattle.std.proofs.Math.Path.{refl, ap}
 use Rattle.std.proofs.Common.{◌∙◌}
@@ -7,9 +7,7 @@ use Rattle.std.proofs.Math.Dec.{leb}
 use Rattle.std.proofs.lemmas.List.{length-map}
 use Rattle.refusals.specs.declared.Refusal.{Refusal}
 use Rattle.refusals.specs.declared.Refusal.TheVariants.{LoopsLength, WriteCount, LentSize, LanesInside}
-use Rattle.refusals.specs.declared.Answer.{Answer}
-use Rattle.refusals.specs.declared.Answer.TheVariants as answer
-use Rattle.refusals.specs.Answers.{unless_refused, is_told}
+use Rattle.refusals.specs.Answers.{unless_refused, is_told, Answer}
 use Rattle.words.specs.Kinds.{Row}
 use Rattle.lines.specs.Lent.{text_rows, ask_room}
 use Rattle.lines.specs.Printing.{text_of, printing}
@@ -65,7 +63,7 @@ module _ (ws : List (List ℕ)) (good : Good ws) where
   unfolding ask
   room_told m k n = go (leb m k && leb m n)
     where
-      go : (b : Bool) → told_answer (cond b (answer.Told m) (answer.Refused LentSize)) ≡ cond b (Told.value m) (refusal LentSize)
+      go : (b : Bool) → told_answer (cond b (Ok m) (Err LentSize)) ≡ cond b (Told.value m) (refusal LentSize)
       go true = refl
       go false = refl
 
@@ -80,9 +78,9 @@ module _ (ws : List (List ℕ)) (good : Good ws) where
     door = plan_door ws t ++ plan_questions P
 
     -- what is told of the check's answer, by any f that hands refusals on
-    plan_told : (f : Answer → Told) → ((q : Refusal) → f (answer.Refused q) ≡ refusal q)
-        → f (check_plan_text ws t) ≡ ask refusal door (f (answer.Told (length R)))
-    plan_told f h = told_asks answer.Refused f h door (answer.Told (length R)) (check_plan_text ws t) (plan_asks ws good t)
+    plan_told : (f : Answer → Told) → ((q : Refusal) → f (Err q) ≡ refusal q)
+        → f (check_plan_text ws t) ≡ ask refusal door (f (Ok (length R)))
+    plan_told f h = told_asks Err f h door (Ok (length R)) (check_plan_text ws t) (plan_asks ws good t)
 
     pub of_plan_holds : (more : Plan → List Question) (v : Plan → ℕ) (Kept : Type 0) (Left : Plan → Type 0) (r : Told)
         → r ≡ ask refusal (plan_door ws t ++ more P) (Told.value (v P))
@@ -115,14 +113,14 @@ module _ (ws : List (List ℕ)) (good : Good ws) where
     S = text_of ws (made_rows P)
 
     -- 10, 18 and 11 of the plan, and then what comes behind: e where the rows are made, told by f, which hands refusals on
-    made_told : (f : Answer → Told) → ((q : Refusal) → f (answer.Refused q) ≡ refusal q) → (room : List Question) (v : ℕ)
-        → f (answer.Told (length (made_rows P))) ≡ ask refusal room (Told.value v)
+    made_told : (f : Answer → Told) → ((q : Refusal) → f (Err q) ≡ refusal q) → (room : List Question) (v : ℕ)
+        → f (Ok (length (made_rows P))) ≡ ask refusal room (Told.value v)
         → f (make_plan P) ≡ ask refusal (made_questions P ++ room) (Told.value v)
     unfolding make_plan ask
     made_told f h room v e = go (leb (length (made_rows P)) 4096) (lanes_apart (translation P).command) (leb (plan_writes P) 16777216)
       where
         go : (a l b : Bool)
-            → f (cond a (cond l (cond b (answer.Told (length (made_rows P))) (answer.Refused WriteCount)) (answer.Refused (LanesInside 0))) (answer.Refused LoopsLength))
+            → f (cond a (cond l (cond b (Ok (length (made_rows P))) (Err WriteCount)) (Err (LanesInside 0))) (Err LoopsLength))
             ≡ cond a (cond l (cond b (ask refusal room (Told.value v)) (refusal WriteCount)) (refusal (LanesInside 0))) (refusal LoopsLength)
         go true true true = e
         go true true false = h WriteCount
@@ -130,8 +128,8 @@ module _ (ws : List (List ℕ)) (good : Good ws) where
         go false l b = h LoopsLength
 
     -- the whole list, of an entry whose answer f tells
-    pub make_told : (f : Answer → Told) → ((q : Refusal) → f (answer.Refused q) ≡ refusal q) → (room : List Question) (v : ℕ)
-        → f (answer.Told (length (made_rows P))) ≡ ask refusal room (Told.value v)
+    pub make_told : (f : Answer → Told) → ((q : Refusal) → f (Err q) ≡ refusal q) → (room : List Question) (v : ℕ)
+        → f (Ok (length (made_rows P))) ≡ ask refusal room (Told.value v)
         → f (make_text ws t) ≡ ask refusal (plan_door ws t ++ (plan_questions P ++ (made_questions P ++ room))) (Told.value v)
     unfolding make_text
     make_told f h room v e =
@@ -157,11 +155,11 @@ module _ (ws : List (List ℕ)) (good : Good ws) where
         (table_kept (made_rows P) k k' n n' r I.kinds_left I.numbers_left)
         (table_left (made_rows P) k k' n n' r I.kinds_left I.numbers_left m)
 
-    text_told : (m bytes : ℕ) → told_answer (unless_refused (answer.Told m) (printing S bytes)) ≡ ask refusal (text_room S bytes) (Told.value (length S))
+    text_told : (m bytes : ℕ) → told_answer (unless_refused (Ok m) (printing S bytes)) ≡ ask refusal (text_room S bytes) (Told.value (length S))
     unfolding printing ask
     text_told m bytes = go (leb (length S) bytes)
       where
-        go : (b : Bool) → told_answer (cond b (answer.Told (length S)) (answer.Refused LentSize)) ≡ cond b (Told.value (length S)) (refusal LentSize)
+        go : (b : Bool) → told_answer (cond b (Ok (length S)) (Err LentSize)) ≡ cond b (Told.value (length S)) (refusal LentSize)
         go true = refl
         go false = refl
 

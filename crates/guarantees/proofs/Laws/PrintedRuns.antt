@@ -1,13 +1,14 @@
 -- Demand 3 of the runner: it prints the lines of the plan's value and of the writes counted from the plan; and that every mixing leaves what
 -- a run left. Assumes nothing.
-use Rattle.std.specs.Prelude.{◌≡◌, refl, ℕ, ◌≤◌, T, drop}
+use Rattle.std.specs.Prelude.{◌≡◌, refl, ℕ, ◌≤◌, T, drop, Err}
+use Rattle.loops.specs.Checked.{passing}
+use Rattle.refusals.specs.Answers.{Answer}
 use Rattle.std.proofs.Common.{sym, ap₂, ◌∙◌, arith, le-leb}
 use Rattle.std.proofs.Math.Path.{ap, subst}
 use mathlib.Core.List.{List, ◌++◌, map}
 use Rattle.std.proofs.Math.IntN.{ℤ}
 use Rattle.std.proofs.Math.ListN.{length, length-map, length-append, length-drop}
 use Rattle.refusals.specs.declared.Refusal.{Refusal}
-use Rattle.refusals.specs.declared.Answer.{Answer}
 use Rattle.lines.specs.Lent.{text_rows}
 use Rattle.meaning.specs.Terms.{Plan}
 use Rattle.meaning.specs.Numbers.{clamped32}
@@ -27,7 +28,6 @@ use Rattle.syntax.specs.Reading.{plan_of, loops_of}
 use Rattle.syntax.specs.Theorems.{loops_read}
 use Rattle.typing.specs.Questions.{Question, AllYes}
 use Rattle.typing.proofs.Laws.Questions.{yes_append, yes_parts, end_asked}
-use Rattle.loops.specs.declared.Checked.TheVariants as loops
 use Rattle.loops.specs.Check.{check_loops_text}
 use Rattle.run.specs.Theorems.{run_is_run}
 use Rattle.translate.specs.Accepted.{TextPlan}
@@ -48,7 +48,7 @@ use Rattle.words.specs.Good.{Good}
 
 -- ws is any good table of words.
 module _ (ws : List (List ℕ)) (good : Good ws) where
-  no_pass : {A : Type 0} {w n : ℕ} {q : Refusal} → loops.Refused q ≡ loops.Passes w n → A
+  no_pass : {A : Type 0} {w n : ℕ} {q : Refusal} → Err q ≡ passing w n → A
   no_pass e = absurd (let clash : ◌≡◌ {A = ℕ} 0 1 = cc in omega arith)
 
   -- what a run came to, its store written down again
@@ -124,8 +124,8 @@ module _ (ws : List (List ℕ)) (good : Good ws) where
       printed_run {u} M s' l l' r I room values =
           let m = made_text_holds ws good t M in
           let M' : Loops = loops_of (text_rows ws u) in
-          let passes : check_loops_text ws u ≡ loops.Passes (plan_writes P) (need L) = ap (check_loops_text ws) m.1 ∙ text_passes ws good t y in
-          let asked = (end_asked loops.Refused (loops_door ws u ++ loops_questions M') _ (loops.Passes (plan_writes P) (need L)) (λ q f. no_pass f)
+          let passes : check_loops_text ws u ≡ passing (plan_writes P) (need L) = ap (check_loops_text ws) m.1 ∙ text_passes ws good t y in
+          let asked = (end_asked Err (loops_door ws u ++ loops_questions M') _ (passing (plan_writes P) (need L)) (λ q f. no_pass f)
           (sym (loops_check_asks ws good u) ∙ passes)).0 in
           let yes = yes_parts (loops_door ws u) (loops_questions M') asked in
           let rows : text_rows ws u ≡ loops_rows L = ap (text_rows ws) m.1 ∙ back ws good t y in

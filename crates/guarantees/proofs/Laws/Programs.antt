@@ -1,5 +1,7 @@
 -- Demand 1 of what the two programs print. Assumes nothing.
-use Rattle.std.specs.Prelude.{Bool, ◌≡◌, eqb, leb, ℤ}
+use Rattle.std.specs.Prelude.{Bool, ◌≡◌, eqb, leb, ℤ, Ok, Err}
+use Rattle.loops.specs.Checked.{Checked, passing}
+use Rattle.refusals.specs.Answers.{Answer}
 use Rattle.std.proofs.Math.Bool.{true, false, cond}
 use Rattle.std.proofs.Math.Path.{refl, ap}
 use Rattle.std.proofs.Common.{sym, ◌∙◌}
@@ -8,8 +10,6 @@ use Prim.Native.Nat.{ℕ}
 use Rattle.std.proofs.Math.ListN.{length}
 use Rattle.refusals.specs.declared.Refusal.{Refusal}
 use Rattle.refusals.specs.declared.Refusal.TheVariants.{LentSize, StoreSize}
-use Rattle.refusals.specs.declared.Answer.{Answer}
-use Rattle.refusals.specs.declared.Answer.TheVariants as answer
 use Rattle.words.specs.Kinds.{Row}
 use Rattle.lines.specs.Lent.{text_rows}
 use Rattle.lines.specs.Printing.{text_of, printing}
@@ -24,8 +24,6 @@ use Rattle.syntax.specs.Reading.{plan_of, loops_of}
 use Rattle.interpreter.specs.Orders.{run_of}
 use Rattle.typing.specs.Questions.{Question, question, ask}
 use Rattle.typing.specs.TypeQuestions.{plan_questions}
-use Rattle.loops.specs.declared.Checked.{Checked}
-use Rattle.loops.specs.declared.Checked.TheVariants as loops
 use Rattle.loops.specs.Check.{check_loops_text}
 use Rattle.translate.specs.Entry.{made_rows, make_text}
 use Rattle.translate.specs.Questions.{made_questions}
@@ -49,7 +47,7 @@ use Rattle.guarantees.proofs.Laws.Told.{no_value, no_run, told_asks, told_furthe
 use Rattle.words.specs.Good.{Good}
 
 -- an answer that depends on room alone
-room_answers : (b : Bool) (n : ℕ) (Kept Left : Type 0) (r : Answer) → r ≡ cond b (answer.Told n) (answer.Refused LentSize)
+room_answers : (b : Bool) (n : ℕ) (Kept Left : Type 0) (r : Answer) → r ≡ cond b (Ok n) (Err LentSize)
     → (b ≡ false → Kept) → (b ≡ true → Left) → Answers (question b LentSize ∷ []) n Kept Left (told_answer r)
 unfolding ask
 room_answers true n Kept Left r e kept left =
@@ -118,12 +116,12 @@ module _ (ws : List (List ℕ)) (good : Good ws) where
     unfolding values_run ask
     values_told = go (eqb n 0) ∙ ap (λ (st : State clamped32). ask refusal (values_questions v (length s) L) (Told.value st.writes)) (run_in_order_holds ws good 0 L held)
       where
-        go : (b : Bool) → told_answer (after_values (cond b (answer.Told 0) (filling v n (length s))) L held s).answer
+        go : (b : Bool) → told_answer (after_values (cond b (Ok 0) (filling v n (length s))) L held s).answer
             ≡ ask refusal (cond b [] (fill_questions v n (length s))) (Told.value (run_of L 0 held).writes)
         go true = refl
         go false =
-            told_asks answer.Refused (λ x. told_answer (after_values x L held s).answer) (λ q. refl) (fill_questions v n (length s))
-            (answer.Told (length (lines_of v))) (filling v n (length s)) (filling_asks v n (length s))
+            told_asks Err (λ x. told_answer (after_values x L held s).answer) (λ q. refl) (fill_questions v n (length s))
+            (Ok (length (lines_of v))) (filling v n (length s)) (filling_asks v n (length s))
 
     -- and 14 before them
     passed_told : told_answer (cond (leb (need L) (length s)) (values_run v L s) (refused StoreSize s)).answer
@@ -138,33 +136,33 @@ module _ (ws : List (List ℕ)) (good : Good ws) where
 
     -- ---- what is left
 
-    values_left : (x : Answer) (w : ℕ) → (after_values x L held s).answer ≡ answer.Told w → after_values x L held s ≡ finished (run_of L 0 held)
-    values_left (answer.Told m) w e = refl
-    values_left (answer.Refused q) w e = no_run e
+    values_left : (x : Answer) (w : ℕ) → (after_values x L held s).answer ≡ Ok w → after_values x L held s ≡ finished (run_of L 0 held)
+    values_left (Ok m) w e = refl
+    values_left (Err q) w e = no_run e
 
-    values_kept : (x : Answer) (q : Refusal) → (after_values x L held s).answer ≡ answer.Refused q → after_values x L held s ≡ refused q s
-    values_kept (answer.Told m) q e = no_run (sym e)
-    values_kept (answer.Refused p) q e = let same : p ≡ q = cc in ap (λ (x : Refusal). refused x s) same
+    values_kept : (x : Answer) (q : Refusal) → (after_values x L held s).answer ≡ Err q → after_values x L held s ≡ refused q s
+    values_kept (Ok m) q e = no_run (sym e)
+    values_kept (Err p) q e = let same : p ≡ q = cc in ap (λ (x : Refusal). refused x s) same
 
-    run_left : (c : Checked) (w : ℕ) → (print_checked c v L s).answer ≡ answer.Told w → print_checked c v L s ≡ finished end
+    run_left : (c : Checked) (w : ℕ) → (print_checked c v L s).answer ≡ Ok w → print_checked c v L s ≡ finished end
     unfolding values_run
-    run_left (loops.Passes a m) w e = go (leb m (length s)) e ∙ ap finished (run_in_order_holds ws good 0 L held)
+    run_left (Ok p) w e = go (leb p.need (length s)) e ∙ ap finished (run_in_order_holds ws good 0 L held)
       where
-        go : (b : Bool) → (cond b (values_run v L s) (refused StoreSize s)).answer ≡ answer.Told w
+        go : (b : Bool) → (cond b (values_run v L s) (refused StoreSize s)).answer ≡ Ok w
             → cond b (values_run v L s) (refused StoreSize s) ≡ finished (run_of L 0 held)
         go true f = values_left (ask_values v n (length s)) w f
         go false f = no_run f
-    run_left (loops.Refused q) w e = no_run e
+    run_left (Err q) w e = no_run e
 
-    run_kept : (c : Checked) (q : Refusal) → (print_checked c v L s).answer ≡ answer.Refused q → print_checked c v L s ≡ refused q s
+    run_kept : (c : Checked) (q : Refusal) → (print_checked c v L s).answer ≡ Err q → print_checked c v L s ≡ refused q s
     unfolding values_run
-    run_kept (loops.Passes a m) q e = go (leb m (length s)) e
+    run_kept (Ok p) q e = go (leb p.need (length s)) e
       where
-        go : (b : Bool) → (cond b (values_run v L s) (refused StoreSize s)).answer ≡ answer.Refused q
+        go : (b : Bool) → (cond b (values_run v L s) (refused StoreSize s)).answer ≡ Err q
             → cond b (values_run v L s) (refused StoreSize s) ≡ refused q s
         go true f = values_kept (ask_values v n (length s)) q f
         go false f = let same : StoreSize ≡ q = cc in ap (λ (x : Refusal). refused x s) same
-    run_kept (loops.Refused p) q e = let same : p ≡ q = cc in ap (λ (x : Refusal). refused x s) same
+    run_kept (Err p) q e = let same : p ≡ q = cc in ap (λ (x : Refusal). refused x s) same
 
   pub print_run : (t v : List ℕ) (s s' : List ℤ) (u u' : List ℕ) (r : Answer) → PrintsRun ws t v s u r s' u'
       → (told : Told) × (text : List ℕ) × Answers (output_room (length u)) (length text) ((u' ≡ u) × (s' ≡ s))

@@ -1,9 +1,8 @@
 -- What is told where an answer is the first "no" of questions; a value is no refusal. Assumes nothing.
-use Rattle.std.specs.Prelude.{◌≡◌, refl, List, ◌++◌, ℕ}
+use Rattle.std.specs.Prelude.{◌≡◌, refl, List, ◌++◌, ℕ, Ok, Err}
+use Rattle.refusals.specs.Answers.{Answer}
 use Rattle.std.proofs.Common.{sym, ap, ◌∙◌, arith}
 use Rattle.refusals.specs.declared.Refusal.{Refusal}
-use Rattle.refusals.specs.declared.Answer.{Answer}
-use Rattle.refusals.specs.declared.Answer.TheVariants as answer
 use Rattle.typing.specs.Questions.{Question, ask}
 use Rattle.typing.proofs.Laws.Questions.{ask_append, ask_through}
 use Rattle.guarantees.specs.Told.{Told, refusal, told_answer}
@@ -11,7 +10,7 @@ use Rattle.guarantees.specs.Told.{Told, refusal, told_answer}
 pub no_value : {A : Type 0} {v n l : ℕ} → Told.value v ≡ Told.refused n l → A
 no_value e = absurd (let clash : ◌≡◌ {A = ℕ} 0 1 = cc in omega arith)
 
-pub no_run : {A : Type 0} {q : Refusal} {w : ℕ} → answer.Refused q ≡ answer.Told w → A
+pub no_run : {A : Type 0} {q : Refusal} {w : ℕ} → Err q ≡ Ok w → A
 no_run e = absurd (let clash : ◌≡◌ {A = ℕ} 0 1 = cc in omega arith)
 
 -- an answer v that is told by f, where f hands refusals on
@@ -31,10 +30,10 @@ told_further door more further r end e =
 -- ---- which answer it was
 
 module _ {A : Type 0} where
-  pub answer_refused : (r : Answer) (q : Refusal) → told_answer r ≡ refusal q → ((p : Refusal) → r ≡ answer.Refused p → A) → A
-  answer_refused (answer.Told n) q e f = no_value e
-  answer_refused (answer.Refused p) q e f = f p refl
+  pub answer_refused : (r : Answer) (q : Refusal) → told_answer r ≡ refusal q → ((p : Refusal) → r ≡ Err p → A) → A
+  answer_refused (Ok n) q e f = no_value e
+  answer_refused (Err p) q e f = f p refl
 
-  pub answer_done : (r : Answer) (v : ℕ) → told_answer r ≡ Told.value v → ((n : ℕ) → r ≡ answer.Told n → A) → A
-  answer_done (answer.Told n) v e f = f n refl
-  answer_done (answer.Refused p) v e f = no_value (sym e)
+  pub answer_done : (r : Answer) (v : ℕ) → told_answer r ≡ Told.value v → ((n : ℕ) → r ≡ Ok n → A) → A
+  answer_done (Ok n) v e f = f n refl
+  answer_done (Err p) v e f = no_value (sym e)

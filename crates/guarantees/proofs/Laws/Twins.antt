@@ -1,12 +1,11 @@
 -- The twins: the contract of each, by the answer to its words text. Assumes nothing.
-use Rattle.std.specs.Prelude.{Bool, List, [], ◌∷◌, ℕ, ◌<◌, min, T, length}
+use Rattle.std.specs.Prelude.{Bool, List, [], ◌∷◌, ℕ, ◌<◌, min, T, length, Ok, Err}
 use Rattle.std.proofs.Math.Bool.{true, false, cond}
 use Rattle.std.proofs.Math.Path.{◌≡◌, refl, ap}
 use Rattle.std.proofs.Common.{sym, ◌∙◌, subst, arith}
 use Rattle.refusals.specs.declared.Refusal.{Refusal}
 use Rattle.refusals.specs.declared.Refusal.TheVariants.{WordsForm, WordTwice}
 use Rattle.refusals.specs.Refusals.{refusal_number, refusal_line}
-use Rattle.refusals.specs.declared.Answer.TheVariants as answer
 use Rattle.words.specs.Words.{words}
 use Rattle.words.specs.Good.{distinct}
 use Rattle.own_words.specs.OwnWords.{is_words_text, own_words, ask_words}
@@ -25,22 +24,22 @@ use Rattle.guarantees.proofs.Laws.Programs.{put_answers, shown_answers}
 module _ (w : List ℕ) where
   -- ---- what is answered to it
 
-  words_ask : ask_words w ≡ ask answer.Refused (words_questions w) (answer.Told (length words))
+  words_ask : ask_words w ≡ ask Err (words_questions w) (Ok (length words))
   unfolding ask_words ask
   words_ask = refl
 
-  accepted : AllYes (words_questions w) → ask_words w ≡ answer.Told (length words)
-  accepted h = words_ask ∙ all_asked answer.Refused (words_questions w) (answer.Told (length words)) h
+  accepted : AllYes (words_questions w) → ask_words w ≡ Ok (length words)
+  accepted h = words_ask ∙ all_asked Err (words_questions w) (Ok (length words)) h
 
-  refused : (q : Refusal) → FirstNo (words_questions w) q → ask_words w ≡ answer.Refused q
-  refused q f = words_ask ∙ first_asked answer.Refused (words_questions w) (answer.Told (length words)) q f
+  refused : (q : Refusal) → FirstNo (words_questions w) q → ask_words w ≡ Err q
+  refused q f = words_ask ∙ first_asked Err (words_questions w) (Ok (length words)) q f
 
   -- [16.6] with line 0
-  no_line : (q : Refusal) → ask_words w ≡ answer.Refused q → refusal_line q ≡ 0
+  no_line : (q : Refusal) → ask_words w ≡ Err q → refusal_line q ≡ 0
   unfolding ask_words
   no_line q e = go (is_words_text w) (distinct (own_words w)) e
     where
-      go : (f d : Bool) → cond f (cond d (answer.Told (length words)) (answer.Refused WordTwice)) (answer.Refused WordsForm) ≡ answer.Refused q
+      go : (f d : Bool) → cond f (cond d (Ok (length words)) (Err WordTwice)) (Err WordsForm) ≡ Err q
           → refusal_line q ≡ 0
       go true true e = absurd (let clash : ◌≡◌ {A = ℕ} 0 1 = cc in omega arith)
       go true false e = let same : WordTwice ≡ q = cc in ap refusal_line (sym same)
@@ -65,14 +64,14 @@ module _ (w : List ℕ) where
   -- ---- what a twin promises, by what its contract says of a refused words text
 
   module _ {No : Refusal → Type 0} {Yes : List (List ℕ) → Type 0} where
-    twin : {No' : Refusal → Type 0} → ((q : Refusal) → ask_words w ≡ answer.Refused q → No q → No' q) → Under w Yes No → Twin w No' Yes
+    twin : {No' : Refusal → Type 0} → ((q : Refusal) → ask_words w ≡ Err q → No q → No' q) → Under w Yes No → Twin w No' Yes
     twin refuses under = record {
       first_no_holds = λ q f. let e = refused q f in refuses q e (refused_under e under);
       all_yes = λ h. accepted_under (accepted h) under;
     }
 
   -- a number told to C
-  code : (r : ℕ) (q : Refusal) → ask_words w ≡ answer.Refused q → r ≡ refusal_code q → told_code r ≡ refusal q
+  code : (r : ℕ) (q : Refusal) → ask_words w ≡ Err q → r ≡ refusal_code q → told_code r ≡ refusal q
   code r q asked e =
       let short : min (refusal_line q) 72057594037927935 ≡ refusal_line q = omega (arith, no_line q asked) in
       ap told_code e ∙ refusal_code_holds q ∙ ap (Told.refused (refusal_number q)) short

@@ -1,21 +1,18 @@
 -- Demand 1 of `reads_values`: a text whose first line has the number `0` and that is answered "yes" at the door is that of loops without
 -- inputs, whatever the first line's word is. Assumes nothing.
-use Rattle.std.specs.Prelude.{Bool, true, false, not, ◌&&◌, ◌≡◌, refl, List, [], ◌∷◌, ℕ, T, leb, ℤ, pos, length, get_or, drop}
+use Rattle.std.specs.Prelude.{Bool, true, false, not, ◌&&◌, ◌≡◌, refl, List, [], ◌∷◌, ℕ, T, leb, ℤ, pos, length, get_or, drop, Some, Option, None}
 use Rattle.std.proofs.Common.{true≢false, sym, ap, ◌∙◌, subst, arith, leb→le}
 use Rattle.std.specs.Float.Ieee.Fits.{and_l}
 use Rattle.words.specs.Kinds.{Row}
 use Rattle.words.specs.Words.{bytes, look_up, same_letters}
 use Rattle.words.proofs.Laws.{same_equal}
 use Rattle.numerals.specs.Numerals.{all_digits, value, leading_zero, unsigned, not_below_zero, numeral_of}
-use Rattle.numerals.specs.declared.Numeral.TheVariants.{Is}
 use Rattle.texts.specs.Texts.{lines_of, first_line, after_first, before_comma, after_comma}
 use Rattle.texts.specs.Laws.{lines_next}
 use Rattle.lines.specs.Lent.{text_rows}
 use Rattle.lines.specs.Reading.{line_of, add_row, rows_in, head_of, loops_limits}
 use Rattle.lines.proofs.Laws.{paired_row}
 use Rattle.lines.specs.declared.Heads.TheVariants.{Words}
-use Rattle.lines.specs.declared.Line.{Line}
-use Rattle.lines.specs.declared.Line.TheVariants.{IsRow, NoRow}
 use Rattle.meaning.specs.Loops.{Loops}
 use Rattle.meaning.specs.Rows.{loops_rows}
 use Rattle.typing.specs.Questions.{AllYes}
@@ -24,16 +21,16 @@ use Rattle.typing.proofs.Laws.Questions.{yes_parts}
 use Rattle.programs.specs.Promises.{SaysValuesRead}
 use Rattle.guarantees.specs.Questions.{loops_door}
 
-zero_read : numeral_of (bytes "0") ≡ Is (pos 0)
+zero_read : numeral_of (bytes "0") ≡ Some (pos 0)
 unfolding all_digits value leading_zero unsigned not_below_zero numeral_of
 zero_read = refl
 
 -- the row of a line whose number is `0`
-numbered : (ws : List (List ℕ)) (l : List ℕ) → after_comma l ≡ bytes "0" → (k : ℕ) (z : ℤ) → line_of (look_up ws) l ≡ IsRow k z → z ≡ pos 0
+numbered : (ws : List (List ℕ)) (l : List ℕ) → after_comma l ≡ bytes "0" → (k : ℕ) (z : ℤ) → line_of (look_up ws) l ≡ Some (k, z) → z ≡ pos 0
 unfolding line_of
 numbered ws l number k z e =
-    let read : numeral_of (after_comma l) ≡ Is z = (paired_row (look_up ws (before_comma l)) (numeral_of (after_comma l)) k z e).1 in
-    let zero : numeral_of (after_comma l) ≡ Is (pos 0) = ap numeral_of number ∙ zero_read in
+    let read : numeral_of (after_comma l) ≡ Some z = (paired_row (look_up ws (before_comma l)) (numeral_of (after_comma l)) k z e).1 in
+    let zero : numeral_of (after_comma l) ≡ Some (pos 0) = ap numeral_of number ∙ zero_read in
     cc
 
 pub values_unread : (ws : List (List ℕ)) (t : List ℕ) → SaysValuesRead t false → AllYes (loops_door ws t)
@@ -57,10 +54,10 @@ values_unread ws t says door L rows =
     none [] h = refl
     none (y ∷ x) h = absurd (omega arith)
 
-    go : (R : List Row) (x : Line) → line_of (look_up ws) (first_line t) ≡ x → T (is_row x) → add_row x R ≡ loops_rows L → L.inputs ≡ []
-    go R (IsRow k z) e y g =
+    go : (R : List Row) (x : Option Row) → line_of (look_up ws) (first_line t) ≡ x → T (is_row x) → add_row x R ≡ loops_rows L → L.inputs ≡ []
+    go R (Some (k, z)) e y g =
         let zero : z ≡ pos 0 = numbered ws (first_line t) (number _ refl says) k z e in
         let same : z ≡ pos (length L.inputs) = ap (λ (S : List Row). (get_or S 0 (0, pos 0)).1) g in
         let count : length L.inputs ≡ 0 = cc in
         none L.inputs count
-    go R NoRow e y g = absurd y
+    go R None e y g = absurd y

@@ -1,5 +1,7 @@
 -- `loops::check_with` meets its contract: the table that was lent to the reader holds the text's rows, and their answer is the text's.
-use mathlib.Core.Path.{refl, sym, ◌∙◌}
+use Rattle.std.specs.Prelude.{Ok, Err}
+use borrow.Author.Rules.{rules}
+use mathlib.Core.Path.{◌≡◌, refl, sym, ◌∙◌}
 use native.Mathlib.Omega.{arith}
 use Rattle.words.specs.Tables.{words_in}
 use Rattle.words.specs.Words.{look_up}
@@ -10,48 +12,48 @@ use Rattle.loops.proofs.check_with.Goals as goal
 
 pub slice_bounds-kinds-end : goal.slice_bounds-kinds-end
 slice_bounds-kinds-end c =
+    let told : c.read_loops.result ≡ Ok c.in_ok-rows.rows = search rules in
     let a = c.args in
-    let read_loops = c.read_loops-read in
-    let h = held (look_up (words_in a.table.now)) loops_limits a.text.now read_loops.ensures c.in-Told.is refl refl read_loops.auto.kinds read_loops.auto.numbers in
+    let read_loops = c.read_loops in
+    let h = held (look_up (words_in a.table.now)) loops_limits a.text.now read_loops.ensures told refl refl read_loops.auto.kinds read_loops.auto.numbers in
     omega (arith, h.few)
 
 pub slice_bounds-check_rows-end : goal.slice_bounds-check_rows-end
 slice_bounds-check_rows-end c =
+    let told : c.read_loops.result ≡ Ok c.in_ok-rows.rows = search rules in
     let a = c.args in
-    let read_loops = c.read_loops-read in
-    let h = held (look_up (words_in a.table.now)) loops_limits a.text.now read_loops.ensures c.in-Told.is refl refl read_loops.auto.kinds read_loops.auto.numbers in
+    let read_loops = c.read_loops in
+    let h = held (look_up (words_in a.table.now)) loops_limits a.text.now read_loops.ensures told refl refl read_loops.auto.kinds read_loops.auto.numbers in
     sym h.kinds_front
 
 pub slice_bounds-numbers-end : goal.slice_bounds-numbers-end
 slice_bounds-numbers-end c =
+    let told : c.read_loops.result ≡ Ok c.in_ok-rows.rows = search rules in
     let a = c.args in
-    let read_loops = c.read_loops-read in
-    let h = held (look_up (words_in a.table.now)) loops_limits a.text.now read_loops.ensures c.in-Told.is refl refl read_loops.auto.kinds read_loops.auto.numbers in
+    let read_loops = c.read_loops in
+    let h = held (look_up (words_in a.table.now)) loops_limits a.text.now read_loops.ensures told refl refl read_loops.auto.kinds read_loops.auto.numbers in
     omega (arith, h.few)
 
-pub slice_bounds-check_rows-end-in-Told : goal.slice_bounds-check_rows-end-in-Told
-slice_bounds-check_rows-end-in-Told c =
+pub slice_bounds-check_rows-end-2 : goal.slice_bounds-check_rows-end-2
+slice_bounds-check_rows-end-2 c =
+    let told : c.read_loops.result ≡ Ok c.in_ok-rows.rows = search rules in
     let a = c.args in
-    let read_loops = c.read_loops-read in
-    let h = held (look_up (words_in a.table.now)) loops_limits a.text.now read_loops.ensures c.in-Told.is refl refl read_loops.auto.kinds read_loops.auto.numbers in
+    let read_loops = c.read_loops in
+    let h = held (look_up (words_in a.table.now)) loops_limits a.text.now read_loops.ensures told refl refl read_loops.auto.kinds read_loops.auto.numbers in
     sym h.numbers_front
 
-pub check_rows-requires : goal.check_rows-requires
-check_rows-requires c =
+pub returns-in_err-rows : goal.returns-in_err-rows
+returns-in_err-rows c =
+    let no : c.read_loops.result ≡ Err c.in_err-rows.field-0.0 = search rules in
     let a = c.args in
-    let read_loops = c.read_loops-read in
-    let h = held (look_up (words_in a.table.now)) loops_limits a.text.now read_loops.ensures c.in-Told.is refl refl read_loops.auto.kinds read_loops.auto.numbers in
-    (h.kinds_front ∙ sym h.numbers_front, omega (arith, h.kinds_front, h.few))
+    let read_loops = c.read_loops in
+    let gone : c.from_residual.result ≡ Err c.in_err-rows.field-0.0 = search rules in
+    gone ∙ texts.text_refused (words_in a.table.now) a.text.now read_loops.ensures.answer no
 
-pub returns-in-Refused : goal.returns-in-Refused
-returns-in-Refused c =
+pub returns : goal.returns
+returns c =
+    let told : c.read_loops.result ≡ Ok c.in_ok-rows.rows = search rules in
     let a = c.args in
-    let read_loops = c.read_loops-read in
-    texts.text_refused (words_in a.table.now) a.text.now read_loops.ensures.answer c.in-Refused.is
-
-pub returns-in-Told : goal.returns-in-Told
-returns-in-Told c =
-    let a = c.args in
-    let read_loops = c.read_loops-read in
-    let h = held (look_up (words_in a.table.now)) loops_limits a.text.now read_loops.ensures c.in-Told.is refl refl read_loops.auto.kinds read_loops.auto.numbers in
-    texts.text_checked (words_in a.table.now) a.text.now read_loops.ensures.answer c.in-Told.is h.rows c.check_rows.ensures
+    let read_loops = c.read_loops in
+    let h = held (look_up (words_in a.table.now)) loops_limits a.text.now read_loops.ensures told refl refl read_loops.auto.kinds read_loops.auto.numbers in
+    texts.text_checked (words_in a.table.now) a.text.now read_loops.ensures.answer told h.rows c.check_rows.ensures

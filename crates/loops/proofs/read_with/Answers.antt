@@ -1,5 +1,7 @@
 -- `loops::read_with` meets its contract: the table of its own holds the text's rows, their answer is the text's, and rows that pass are handed over.
-use mathlib.Core.Path.{refl, sym, ap, ◌∙◌}
+use Rattle.std.specs.Prelude.{Ok, Err}
+use borrow.Author.Rules.{rules}
+use mathlib.Core.Path.{◌≡◌, refl, sym, ap, ◌∙◌}
 use native.Mathlib.Omega.{arith}
 use Rattle.words.specs.Tables.{words_in}
 use Rattle.words.specs.Words.{look_up}
@@ -10,75 +12,66 @@ use Rattle.loops.specs.Check.{need_of}
 use Rattle.loops.proofs.Texts as texts
 use Rattle.loops.proofs.read_with.Goals as goal
 
-pub returns-in_default : goal.returns-in_default
-returns-in_default c =
+pub returns-in_err-rows : goal.returns-in_err-rows
+returns-in_err-rows c =
     let a = c.args in
-    let read_loops = c.read_loops-read in
-    let no = c.in_default.is in
+    let no : c.read_loops.result ≡ Err c.in_err-rows.field-0.0 = search rules in
+    let gone : c.from_residual.result ≡ Err c.in_err-rows.field-0.0 = search rules in
     refused_into (text_rows (words_in a.table.now) a.text.now) a.kinds.now a.numbers.now
-    (no ∙ ap need_of (texts.text_refused (words_in a.table.now) a.text.now read_loops.ensures.answer no)) no
+    (gone ∙ ap need_of (texts.text_refused (words_in a.table.now) a.text.now c.read_loops.ensures.answer no)) gone
 
 pub slice_bounds-own_kinds-end : goal.slice_bounds-own_kinds-end
 slice_bounds-own_kinds-end c =
+    let told : c.read_loops.result ≡ Ok c.in_ok-rows.rows = search rules in
     let a = c.args in
-    let read_loops = c.read_loops-read in
-    let h = held (look_up (words_in a.table.now)) loops_limits a.text.now read_loops.ensures c.in-Told.is refl refl read_loops.auto.kinds read_loops.auto.numbers in
+    let read_loops = c.read_loops in
+    let h = held (look_up (words_in a.table.now)) loops_limits a.text.now read_loops.ensures told refl refl read_loops.auto.kinds read_loops.auto.numbers in
     omega (arith, h.few)
 
 pub slice_bounds-its_kinds-end : goal.slice_bounds-its_kinds-end
 slice_bounds-its_kinds-end c =
+    let told : c.read_loops.result ≡ Ok c.in_ok-rows.rows = search rules in
     let a = c.args in
-    let read_loops = c.read_loops-read in
-    let h = held (look_up (words_in a.table.now)) loops_limits a.text.now read_loops.ensures c.in-Told.is refl refl read_loops.auto.kinds read_loops.auto.numbers in
+    let read_loops = c.read_loops in
+    let h = held (look_up (words_in a.table.now)) loops_limits a.text.now read_loops.ensures told refl refl read_loops.auto.kinds read_loops.auto.numbers in
     sym h.kinds_front
 
 pub slice_bounds-own_numbers-end : goal.slice_bounds-own_numbers-end
 slice_bounds-own_numbers-end c =
+    let told : c.read_loops.result ≡ Ok c.in_ok-rows.rows = search rules in
     let a = c.args in
-    let read_loops = c.read_loops-read in
-    let h = held (look_up (words_in a.table.now)) loops_limits a.text.now read_loops.ensures c.in-Told.is refl refl read_loops.auto.kinds read_loops.auto.numbers in
+    let read_loops = c.read_loops in
+    let h = held (look_up (words_in a.table.now)) loops_limits a.text.now read_loops.ensures told refl refl read_loops.auto.kinds read_loops.auto.numbers in
     omega (arith, h.few)
 
 pub slice_bounds-its_numbers-end : goal.slice_bounds-its_numbers-end
 slice_bounds-its_numbers-end c =
+    let told : c.read_loops.result ≡ Ok c.in_ok-rows.rows = search rules in
     let a = c.args in
-    let read_loops = c.read_loops-read in
-    let h = held (look_up (words_in a.table.now)) loops_limits a.text.now read_loops.ensures c.in-Told.is refl refl read_loops.auto.kinds read_loops.auto.numbers in
+    let read_loops = c.read_loops in
+    let h = held (look_up (words_in a.table.now)) loops_limits a.text.now read_loops.ensures told refl refl read_loops.auto.kinds read_loops.auto.numbers in
     sym h.numbers_front
 
-pub check_rows-checked-requires : goal.check_rows-checked-requires
-check_rows-checked-requires c =
+pub returns-in_err-check_rows : goal.returns-in_err-check_rows
+returns-in_err-check_rows c =
     let a = c.args in
-    let read_loops = c.read_loops-read in
-    let h = held (look_up (words_in a.table.now)) loops_limits a.text.now read_loops.ensures c.in-Told.is refl refl read_loops.auto.kinds read_loops.auto.numbers in
-    (h.kinds_front ∙ sym h.numbers_front, omega (arith, h.kinds_front, h.few))
-
-pub returns-in-Refused : goal.returns-in-Refused
-returns-in-Refused c =
-    let a = c.args in
-    let read_loops = c.read_loops-read in
-    let h = held (look_up (words_in a.table.now)) loops_limits a.text.now read_loops.ensures c.in-Told.is refl refl read_loops.auto.kinds read_loops.auto.numbers in
+    let told : c.read_loops.result ≡ Ok c.in_ok-rows.rows = search rules in
+    let read_loops = c.read_loops in
+    let h = held (look_up (words_in a.table.now)) loops_limits a.text.now read_loops.ensures told refl refl read_loops.auto.kinds read_loops.auto.numbers in
+    let no : c.check_rows.result ≡ Err c.in_err-check_rows.field-0.0 = search rules in
+    let gone : c.from_residual-in_err-check_rows.result ≡ Err c.in_err-check_rows.field-0.0 = search rules in
     refused_into (text_rows (words_in a.table.now) a.text.now) a.kinds.now a.numbers.now
-    (ap need_of
-    (sym c.in-Refused.is
-    ∙ texts.text_checked (words_in a.table.now) a.text.now read_loops.ensures.answer c.in-Told.is h.rows c.check_rows-checked.ensures))
-    refl
+    (gone ∙ ap need_of (sym no ∙ texts.text_checked (words_in a.table.now) a.text.now read_loops.ensures.answer told h.rows c.check_rows.ensures))
+    gone
 
-pub hand_over-requires : goal.hand_over-requires
-hand_over-requires c =
+pub returns : goal.returns
+returns c =
     let a = c.args in
-    let read_loops = c.read_loops-read in
-    let h = held (look_up (words_in a.table.now)) loops_limits a.text.now read_loops.ensures c.in-Told.is refl refl read_loops.auto.kinds read_loops.auto.numbers in
-    h.kinds_front ∙ sym h.numbers_front
-
-pub returns-in-Passes : goal.returns-in-Passes
-returns-in-Passes c =
-    let a = c.args in
-    let read_loops = c.read_loops-read in
-    let h = held (look_up (words_in a.table.now)) loops_limits a.text.now read_loops.ensures c.in-Told.is refl refl read_loops.auto.kinds read_loops.auto.numbers in
+    let told : c.read_loops.result ≡ Ok c.in_ok-rows.rows = search rules in
+    let read_loops = c.read_loops in
+    let h = held (look_up (words_in a.table.now)) loops_limits a.text.now read_loops.ensures told refl refl read_loops.auto.kinds read_loops.auto.numbers in
+    let passes : c.check_rows.result ≡ Ok c.in_ok-check_rows.field-0 = search rules in
     told_into
     (ap need_of
-    (sym (texts.text_checked (words_in a.table.now) a.text.now read_loops.ensures.answer c.in-Told.is
-    h.rows c.check_rows-checked.ensures)
-    ∙ c.in-Passes.is))
+    (sym (texts.text_checked (words_in a.table.now) a.text.now read_loops.ensures.answer told h.rows c.check_rows.ensures) ∙ passes))
     h.rows c.hand_over.ensures

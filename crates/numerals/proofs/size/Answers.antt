@@ -10,10 +10,10 @@ pub returns-then-number-lt0 : goal.returns-then-number-lt0
 returns-then-number-lt0 c =
     let h = c.ranges.number in
     let written = ap length (below_zero_holds h c.absolute.ensures c.if-number-lt0.true) in
-    omega (arith, c.digit_count-digits.ensures.value, written, decimal_length _ h)
+    omega (arith, c.natural_size-digits.ensures.0, written, decimal_length _ h)
 
 pub returns : goal.returns
 returns c =
     let h = c.ranges.number in
     let written = ap length (not_below_zero_holds h c.absolute.ensures c.if-number-lt0.false) in
-    omega (arith, c.digit_count-digits.ensures.value, written, decimal_length _ h)
+    omega (arith, c.natural_size-digits.ensures.0, written, decimal_length _ h)

@@ -1,33 +1,28 @@
-use mathlib.Core.Path.{refl}
+-- `is_lower_case` meets its contract: the test holds of every letter.
+use Rattle.std.specs.List.{list_all}
+use Rattle.std.proofs.lemmas.Iterator.{YieldsList-from_slice}
+use Rattle.std.proofs.lemmas.Iterator.Search.{all_from_yields_List}
+use mathlib.Core.Path.{◌≡◌, refl, ap, ◌∙◌}
+use mathlib.Core.Bool.{Bool, ◌&&◌}
+use mathlib.Core.List.{List, [], ◌∷◌}
+use Prim.Native.Nat.{ℕ}
+use lib.Dec.{leb}
 use borrow.Author.Rules.{rules}
-use Rattle.own_words.proofs.Letters.{lower_next, lower_below, lower_above, lower_end}
+use borrow.Author.Tests.{tests}
+use Rattle.words.specs.Good.{lower_case}
 use Rattle.own_words.proofs.is_lower_case.Goals as goal
 
-pub loop-i-init : goal.loop-i-init
-loop-i-init c = (search rules, refl)
+between : ℕ → Bool
+between b = leb 97 b && leb b 122
 
-pub returns-then-letters-i-lt97 : goal.returns-then-letters-i-lt97
-returns-then-letters-i-lt97 c =
-    let a = c.args in
-    let turn = c.loop-i in
-    lower_below a.letters.now turn.i turn.invariant.1 c.loop-i-test.true c.if-letters-i-lt97.true
-
-pub returns-then-letters-i-gt122 : goal.returns-then-letters-i-gt122
-returns-then-letters-i-gt122 c =
-    let a = c.args in
-    let turn = c.loop-i in
-    lower_above a.letters.now turn.i turn.invariant.1 c.loop-i-test.true c.if-letters-i-gt122.true
-
-pub loop-i-preserved : goal.loop-i-preserved
-loop-i-preserved c =
-    let a = c.args in
-    let turn = c.loop-i in (
-      search rules,
-      lower_next a.letters.now turn.i turn.invariant.1 c.loop-i-test.true
-          c.if-letters-i-lt97.false c.if-letters-i-gt122.false,
-    )
+all_between : (l : List ℕ) → list_all between l ≡ lower_case l
+unfolding between
+all_between [] = refl
+all_between (b ∷ bs) = ap (λ (t : Bool). between b && t) (all_between bs)
 
 pub returns : goal.returns
+unfolding between
 returns c =
-    let turn = c.loop-i in
-    lower_end c.args.letters.now turn.i turn.invariant.1 c.loop-i-test.false
+    all_from_yields_List between _ _ c.all.result c.all.ensures.ran (YieldsList-from_slice c.args.letters.now c.iter.ensures.rest)
+    (λ x b q k. search (rules, tests))
+    ∙ all_between c.args.letters.now

@@ -1,9 +1,7 @@
 -- `is_own_line` meets its contract: the front is looked up among the built-in words, each found at its own place.
-use mathlib.Core.Path.{◌≡◌, sym, ap, ◌∙◌}
+use mathlib.Core.Path.{sym}
 use lib.Seq.{length-take-le}
-use Prim.Native.Nat.{ℕ}
-use native.Mathlib.Omega.{arith}
-use Rattle.words.specs.declared.Found.TheVariants.{At}
+use Rattle.own_words.proofs.Rows.{at_place, not_at_place}
 use Rattle.own_words.proofs.Lines.{not_there, no_comma, there}
 use Rattle.own_words.proofs.is_own_line.Goals as goal
 
@@ -12,19 +10,11 @@ slice_bounds-find-end c =
     sym
     (length-take-le c.field_length-comma.result c.args.line.now c.field_length-comma.ensures.1)
 
-pub returns-in_default : goal.returns-in_default
-returns-in_default c =
+pub returns-then-ne : goal.returns-then-ne
+returns-then-ne c =
     let field-length = c.field_length-comma in
-    let none = c.in_default.is in
     not_there c.args.kind c.args.line.now field-length.result c.requires.1 field-length.ensures.0 c.requires.0
-    c.find-found.ensures.0 (λ e. let z : ◌≡◌ {A = ℕ} 0 1 = cc in omega arith)
-
-pub returns-then-front-kind : goal.returns-then-front-kind
-returns-then-front-kind c =
-    let field-length = c.field_length-comma in
-    let found = c.in-At.is in
-    not_there c.args.kind c.args.line.now field-length.result c.requires.1 field-length.ensures.0 c.requires.0
-    c.find-found.ensures.0 (λ e. c.if-front-kind.true cc)
+    c.find-front.ensures.0 (not_at_place c.find-front.result.found c.args.kind c.ne.ensures c.if-ne.true)
 
 pub returns-then-line-comma : goal.returns-then-line-comma
 returns-then-line-comma c =
@@ -35,7 +25,6 @@ returns-then-line-comma c =
 pub returns : goal.returns
 returns c =
     let field-length = c.field_length-comma in
-    let same : c.in-At.front ≡ c.args.kind = omega arith in
     there c.args.kind c.args.line.now field-length.result c.requires.1 field-length.ensures.0 c.requires.0
-    c.find-found.ensures.0
-    (c.in-At.is ∙ ap At same) c.is_own_word.ensures
+    c.find-front.ensures.0
+    (at_place c.find-front.result.found c.args.kind c.ne.ensures c.if-ne.false) c.is_own_word.ensures

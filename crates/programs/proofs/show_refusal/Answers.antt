@@ -1,11 +1,6 @@
--- `programs::show_refusal` meets its contract: nothing is put where there is too little room.
-use Rattle.programs.proofs.Outcomes.{lent_short, refusal_shown}
+-- `programs::show_refusal` meets its contract: where there is room for the longest text, there is room for a refusal's line.
+use Rattle.programs.proofs.Outcomes.{refusal_shown}
 use Rattle.programs.proofs.show_refusal.Goals as goal
 
-pub returns-then-lent-lt-LONGEST_OUTPUT : goal.returns-then-lent-lt-LONGEST_OUTPUT
-returns-then-lent-lt-LONGEST_OUTPUT c = λ s. lent_short _ s _ s c.if-lent-lt-LONGEST_OUTPUT.true
-
 pub returns : goal.returns
-returns c =
-    let put-refusal = c.put_refusal in
-    λ s. refusal_shown _ s _ c.if-lent-lt-LONGEST_OUTPUT.false put-refusal.ensures.1 put-refusal.ensures.0
+returns c s = refusal_shown _ s _ c.if-lent-lt-LONGEST_OUTPUT.false c.put_refusal.ensures.1 c.put_refusal.ensures.0

@@ -11,45 +11,45 @@ use Rattle.programs.proofs.translator_with.Goals as goal
 pub slice_bounds-kinds-end : goal.slice_bounds-kinds-end
 slice_bounds-kinds-end c =
     let a = c.args in
-    let rows-with = c.rows_with-made in
-    let few = laws.few_rows (words_in a.table.now) a.plan.now rows-with.result _ _ _ _ refl refl rows-with.ensures c.in-Told.rows c.in-Told.is in
+    let rows-with = c.rows_with in
+    let few = laws.few_rows (words_in a.table.now) a.plan.now rows-with.result _ _ _ _ refl refl rows-with.ensures c.in-Ok.rows c.in-Ok.is in
     omega (arith, few)
 
 pub slice_bounds-print-end : goal.slice_bounds-print-end
 slice_bounds-print-end c =
     let a = c.args in
-    let rows-with = c.rows_with-made in
-    let few = laws.few_rows (words_in a.table.now) a.plan.now rows-with.result _ _ _ _ refl refl rows-with.ensures c.in-Told.rows c.in-Told.is in
+    let rows-with = c.rows_with in
+    let few = laws.few_rows (words_in a.table.now) a.plan.now rows-with.result _ _ _ _ refl refl rows-with.ensures c.in-Ok.rows c.in-Ok.is in
     let kept : length rows-with.new.kinds ≡ 4096 = rows-with.auto.kinds in
-    sym (length-take-le c.in-Told.rows rows-with.new.kinds (omega (arith, kept, few)))
+    sym (length-take-le c.in-Ok.rows rows-with.new.kinds (omega (arith, kept, few)))
 
 pub slice_bounds-numbers-end : goal.slice_bounds-numbers-end
 slice_bounds-numbers-end c =
     let a = c.args in
-    let rows-with = c.rows_with-made in
-    let few = laws.few_rows (words_in a.table.now) a.plan.now rows-with.result _ _ _ _ refl refl rows-with.ensures c.in-Told.rows c.in-Told.is in
+    let rows-with = c.rows_with in
+    let few = laws.few_rows (words_in a.table.now) a.plan.now rows-with.result _ _ _ _ refl refl rows-with.ensures c.in-Ok.rows c.in-Ok.is in
     omega (arith, few)
 
-pub slice_bounds-print-end-in-Told : goal.slice_bounds-print-end-in-Told
-slice_bounds-print-end-in-Told c =
+pub slice_bounds-print-end-in-Ok : goal.slice_bounds-print-end-in-Ok
+slice_bounds-print-end-in-Ok c =
     let a = c.args in
-    let rows-with = c.rows_with-made in
-    let few = laws.few_rows (words_in a.table.now) a.plan.now rows-with.result _ _ _ _ refl refl rows-with.ensures c.in-Told.rows c.in-Told.is in
+    let rows-with = c.rows_with in
+    let few = laws.few_rows (words_in a.table.now) a.plan.now rows-with.result _ _ _ _ refl refl rows-with.ensures c.in-Ok.rows c.in-Ok.is in
     let kept : length rows-with.new.numbers ≡ 4096 = rows-with.auto.numbers in
-    sym (length-take-le c.in-Told.rows rows-with.new.numbers (omega (arith, kept, few)))
+    sym (length-take-le c.in-Ok.rows rows-with.new.numbers (omega (arith, kept, few)))
 
-pub returns-in-Refused : goal.returns-in-Refused
-returns-in-Refused c =
+pub returns-in-Err : goal.returns-in-Err
+returns-in-Err c =
     let a = c.args in
-    let rows-with = c.rows_with-made in
+    let rows-with = c.rows_with in
     let put-refusal = c.put_refusal in
-    laws.text_refused (words_in a.table.now) a.plan.now rows-with.result _ _ _ _ refl refl rows-with.ensures _ c.in-Refused.is
+    laws.text_refused (words_in a.table.now) a.plan.now rows-with.result _ _ _ _ refl refl rows-with.ensures _ c.in-Err.is
     put-refusal.ensures.0
 
-pub returns-in-Told : goal.returns-in-Told
-returns-in-Told c =
+pub returns-in-Ok : goal.returns-in-Ok
+returns-in-Ok c =
     let a = c.args in
-    let rows-with = c.rows_with-made in
+    let rows-with = c.rows_with in
     let print = c.print in
     laws.text_printed (words_in a.table.now) a.plan.now rows-with.result _ _ _ _ refl refl rows-with.ensures
-    c.in-Told.rows c.in-Told.is print.ensures
+    c.in-Ok.rows c.in-Ok.is print.ensures

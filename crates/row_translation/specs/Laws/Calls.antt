@@ -111,12 +111,6 @@ module _ (ks : List ℕ) (ns : List ℤ) (C Y : List ℕ) (N : List ℤ) (T : Li
         stands_first ks ns C Y N T s I Γ Δ e S h U s'
         (variables_kept Y N T U s s' Δ S.variables F.node.grown (omega (arith, F.len)) F.variables)
 
-    pub paired_count : is_paired k ≡ true → operand_count e ≡ 2
-    paired_count h = (paired_term I e (ap is_paired (sym kind) ∙ h)).count
-
-    pub regrouped_count : is_regrouped k ≡ true → operand_count e ≡ 1
-    regrouped_count h = (regrouped_term I e (ap is_regrouped (sym kind) ∙ h)).count
-
     -- the second of two that are written
     pub stands_in_second : is_paired k ≡ true → (U W X : List ℕ) (i n j m P : ℕ) (s₁ : State) (o o' : Table) (one : Translated) (s₂ : State) (Q : Acceptor)
         → IntoPart T U i n P s.len s s₁ → Written Y N I Γ Δ (first_operand e) Q s₁ U W o o' one → IntoPart W X j m P one.len s s₂
@@ -127,3 +121,9 @@ module _ (ks : List ℕ) (ns : List ℤ) (C Y : List ℕ) (N : List ℤ) (T : Li
         stands_second ks ns C Y N T s I Γ Δ e S q.count one.rows A.passed q.opens X s₂
         (variables_kept Y N T X s s₂ Δ S.variables (grown_more T W X s.len one.len (omega (arith, F.len, A.more)) g G.node.grown)
         (omega (arith, F.len, A.more, G.len)) G.variables)
+
+    pub paired_count : is_paired k ≡ true → operand_count e ≡ 2
+    paired_count h = (paired_term I e (ap is_paired (sym kind) ∙ h)).count
+
+    pub regrouped_count : is_regrouped k ≡ true → operand_count e ≡ 1
+    regrouped_count h = (regrouped_term I e (ap is_regrouped (sym kind) ∙ h)).count

@@ -15,7 +15,7 @@ use Rattle.syntax.specs.Standing.{first_operand, second_operand, third_operand}
 use Rattle.syntax.proofs.Standing.{its_kind, rows_of_three}
 use Rattle.syntax.proofs.Front.{part}
 use Rattle.type_table.specs.Table.{type_at}
-use Rattle.emission.specs.Table.{Table, table, put_rows}
+use Rattle.emission.specs.Table.{Table, put_rows}
 use Rattle.emission.specs.References.{expression_at, acceptor_at}
 use Rattle.emission.specs.Laws.Table.{put_append}
 use Rattle.emission.specs.Growth.{Grown}
@@ -95,9 +95,9 @@ reduction_rows I z a b Γ Δ c r A Z o t et n en =
 
 module _ (Y : List ℕ) (N : List ℤ) (I Γ : List DataType) (Δ : List Expression) (s : State) (T : List ℕ) (e : Term) (ks : List ℕ) (ns : List ℤ) (C : List ℕ)
     (S : Stands ks ns C Y N T s I Γ Δ e) (k p : ℕ) (ek : k ≡ get_or ks 0 0) (hk : k ≡ word_redseq) (ep : p ≡ get_or C 0 0) (hy : length Y ≤ 65536)
-    (U W X : List ℕ) (o : Table) (K K₁ : List ℕ) (M M₁ : List ℤ) (array : Translated) (s₁ : State) (start : Translated) (s₂ : State)
-    (A : Used Y N I Γ Δ (second_operand e) s T U o (table K M array.to) array) (G : AfterUse s array s₁)
-    (B : Used Y N I Γ Δ (first_operand e) s₁ U W (table K M s₁.to) (table K₁ M₁ start.to) start)
+    (U W X : List ℕ) (o o₁ o₂ : Table) (array : Translated) (s₁ : State) (start : Translated) (s₂ : State)
+    (A : Used Y N I Γ Δ (second_operand e) s T U o o₁ array) (G : AfterUse s array s₁)
+    (B : Used Y N I Γ Δ (first_operand e) s₁ U W o₁ o₂ start)
     (H : ReductionEntered W X p array.value (body_region (type_at Y p) start.regions) s start s₂) (hl : start.len + 3 ≤ 1024) (hr : start.regions < 65535)
     (hc : s.counters < 65536) where
   -- the region that its body is written into
@@ -168,14 +168,14 @@ module _ (Y : List ℕ) (N : List ℤ) (I Γ : List DataType) (Δ : List Express
       (Expression.index array_used (Offset.counter s.counters)) total_used h (omega (arith, H.round.len))
       (omega (arith, H.round.len)) its_element its_total H.round.variables H.round.count)
 
-  module _ (Z Q K₂ K₃ K₄ : List ℕ) (M₂ M₃ M₄ : List ℤ) (a n m : ℕ) (body r : Translated) where
+  module _ (Z Q : List ℕ) (o₃ o₄ o₅ : Table) (a n m : ℕ) (body r : Translated) where
     pub used_reduce : a ≡ length (term_rows (first_operand e)) → n ≡ array_length (type_at Y (get_or C (1 + a) 0)) → m ≡ 1 + a + array.rows
-        → table K₂ M₂ s₂.to ≡ entered_rows (type_at Y p) n (expression_at Y N W start.value) s.counters start.regions (table K₁ M₁ start.to)
+        → o₃ ≡ entered_rows (type_at Y p) n (expression_at Y N W start.value) s.counters start.regions o₂
         → Written Y N I (type_of I Γ (first_operand e) ∷ element (type_of I Γ (second_operand e)) ∷ Γ) (total_used ∷ Expression.index array_used (Offset.counter s.counters) ∷ Δ) (third_operand e)
-        (acceptor_at Y X (start.len + 2)) s₂ X Z (table K₂ M₂ s₂.to) (table K₃ M₃ body.to) body
+        (acceptor_at Y X (start.len + 2)) s₂ X Z o₃ o₄ body
         → ReductionLeft Z Q start.len start.regions m body r
-        → table K₄ M₄ r.to ≡ left_rows (type_at Y p) (expression_at Y N Z (start.len + 2)) (acceptor_at Y Z start.len) s.counters start.regions (table K₃ M₃ body.to)
-        → Used Y N I Γ Δ e s T Q o (table K₄ M₄ r.to) r
+        → o₅ ≡ left_rows (type_at Y p) (expression_at Y N Z (start.len + 2)) (acceptor_at Y Z start.len) s.counters start.regions o₄
+        → Used Y N I Γ Δ e s T Q o o₅ r
     used_reduce ea en em q₁ D L q₂ =
         let z : Term = first_operand e in
         let f : Term = second_operand e in
@@ -210,32 +210,32 @@ module _ (Y : List ℕ) (N : List ℤ) (I Γ : List DataType) (Δ : List Express
         ∙ its_total in
         let x : List Row = use_rows I f Γ Δ c s.regions in
         let y : List Row = use_rows I z Γ Δ c (s.regions + regions_opened f) in
-        let o₁ : table K₁ M₁ start.to ≡ put_rows y (put_rows x o)
+        let r₂ : o₂ ≡ put_rows y (put_rows x o)
         = B.rows
-        ∙ ap₂ (λ (i j : ℕ). put_rows (use_rows I z Γ Δ i j) (table K M s₁.to)) G.counters eg₁
-        ∙ ap (put_rows y) (ap (table K M) G.to ∙ A.rows) in
-        let o₂ : table K₂ M₂ s₂.to ≡ entered_rows t n start_used c g (put_rows y (put_rows x o))
+        ∙ ap₂ (λ (i j : ℕ). put_rows (use_rows I z Γ Δ i j) o₁) G.counters eg₁
+        ∙ ap (put_rows y) A.rows in
+        let r₃ : o₃ ≡ entered_rows t n start_used c g (put_rows y (put_rows x o))
         = q₁
-        ∙ ap₂ (λ (u : DataType) (E : Expression). entered_rows u n E c g (table K₁ M₁ start.to)) its_type its_start
-        ∙ ap (entered_rows t n start_used c g) o₁ in
-        let o₃ : table K₃ M₃ body.to
+        ∙ ap₂ (λ (u : DataType) (E : Expression). entered_rows u n E c g o₂) its_type its_start
+        ∙ ap (entered_rows t n start_used c g) r₂ in
+        let r₄ : o₄
         ≡ put_rows (command_rows (write_term I b Γ' Δ' (c + 1) (body_region t g + 1) (Acceptor.region (body_region t g) t)))
         (entered_rows t n start_used c g (put_rows y (put_rows x o)))
         = D.rows
-        ∙ ap₂ (λ (i j : ℕ). put_rows (command_rows (write_term I b Γ' Δ' i j (acceptor_at Y X (tot + 2)))) (table K₂ M₂ s₂.to)) H.round.counters
+        ∙ ap₂ (λ (i j : ℕ). put_rows (command_rows (write_term I b Γ' Δ' i j (acceptor_at Y X (tot + 2)))) o₃) H.round.counters
         (H.round.regions ∙ ap (λ (u : DataType). body_region u g + 1) its_type)
-        ∙ ap₂ (λ (P : Acceptor) (u : Table). put_rows (command_rows (write_term I b Γ' Δ' (c + 1) (body_region t g + 1) P)) u) eP o₂ in
-        let o₄ : table K₄ M₄ r.to ≡ put_rows (reduce_rows I z f b Γ Δ c g array_used start_used) (put_rows y (put_rows x o))
+        ∙ ap₂ (λ (P : Acceptor) (u : Table). put_rows (command_rows (write_term I b Γ' Δ' (c + 1) (body_region t g + 1) P)) u) eP r₃ in
+        let r₅ : o₅ ≡ put_rows (reduce_rows I z f b Γ Δ c g array_used start_used) (put_rows y (put_rows x o))
         = q₂
-        ∙ ap (λ (u : DataType). left_rows u (expression_at Y N Z (tot + 2)) (acceptor_at Y Z tot) c g (table K₃ M₃ body.to)) its_type
-        ∙ ap₂ (λ (E : Expression) (P : Acceptor). left_rows t E P c g (table K₃ M₃ body.to)) eN eT
-        ∙ ap (left_rows t (Expression.region (body_region t g) t) (Acceptor.region g t) c g) o₃
+        ∙ ap (λ (u : DataType). left_rows u (expression_at Y N Z (tot + 2)) (acceptor_at Y Z tot) c g o₄) its_type
+        ∙ ap₂ (λ (E : Expression) (P : Acceptor). left_rows t E P c g o₄) eN eT
+        ∙ ap (left_rows t (Expression.region (body_region t g) t) (Acceptor.region g t) c g) r₄
         ∙ reduction_rows I z f b Γ Δ c g array_used start_used (put_rows y (put_rows x o)) t refl n
         (en ∙ ap array_length (type_array ks ns C Y N T s I Γ Δ e S reduction.count a ea reduction.opens).1) in
         record {
           passed = omega (arith, L.rows, em, ea, A.passed, D.passed, rows_of_three e (omega (arith, reduction.count)));
           rows =
-              o₄
+              r₅
               ∙ ap (λ (i : ℕ). put_rows (reduce_rows I z f b Γ Δ c i array_used start_used) (put_rows y (put_rows x o))) eg
               ∙ sym (put_append y _ (put_rows x o))
               ∙ sym (put_append x _ o)

@@ -1,5 +1,5 @@
 -- A use of a term from the uses of its operands and the clause around them: one law for each way out. o is the table of rows at
--- the beginning; kinds and numbers at the end are K and M. Assumes nothing.
+-- the beginning. Assumes nothing.
 use Rattle.std.specs.Prelude.{◌≡◌, refl, true, false, ℤ, pos, length, get_or}
 use Rattle.std.proofs.Math.Path.{ap, ap₂, sym}
 use Rattle.std.proofs.Common.{◌∙◌, arith}
@@ -31,21 +31,22 @@ use Rattle.row_translation.specs.Laws.Operands.{type_here, type_first}
 use Rattle.clauses.specs.declared.State.{State}
 use Rattle.clauses.specs.declared.Translated.{Translated}
 
--- rows put behind rows, and the end named otherwise
+-- no rows put behind rows
 no_rows : (o : Table) → o ≡ put_rows [] o
 unfolding put_rows
 no_rows o = refl
 
+-- and the end named otherwise
 end_as : (K : List ℕ) (M : List ℤ) (i j : ℕ) → i ≡ j → table K M i ≡ table K M j
 end_as K M i j e = ap (table K M) e
 
 module _ (Y : List ℕ) (N : List ℤ) (I Γ : List DataType) (Δ : List Expression) (s : State) (T : List ℕ) where
   -- ---- one operand
 
-  module _ (e : Term) (U W : List ℕ) (o : Table) (K : List ℕ) (M : List ℤ) (k n : ℕ) (one r : Translated) where
+  module _ (e : Term) (U W : List ℕ) (o o₁ : Table) (k n : ℕ) (one r : Translated) where
     over_one : k ≡ term_kind e → n ≡ number_over k (term_number e) (type_of I Γ (first_operand e)) → n < 65536 → one.len < 1024 → OneOperand I e
-        → Used Y N I Γ Δ (first_operand e) s T U o (table K M one.to) one → OverOne U W (node_kind k) n one r
-        → Used Y N I Γ Δ e s T W o (table K M r.to) r
+        → Used Y N I Γ Δ (first_operand e) s T U o o₁ one → OverOne U W (node_kind k) n one r
+        → Used Y N I Γ Δ e s T W o o₁ r
     over_one ek en hn hl q A B =
         let E : Expression = expression_at Y N U one.value in
         let F : Expression = expression_at Y N U 0 in
@@ -53,7 +54,7 @@ module _ (Y : List ℕ) (N : List ℤ) (I Γ : List DataType) (Δ : List Express
         let v : n ≡ number_over (term_kind e) (term_number e) (type_of I Γ (first_operand e)) = en ∙ ap (λ (i : ℕ). number_over i (term_number e) (type_of I Γ (first_operand e))) ek in
         record {
           passed = omega (arith, B.rows, A.passed, rows_of_one e q.count);
-          rows = end_as K M r.to one.to B.to ∙ A.rows ∙ ap (λ (l : List Row). put_rows l o) (sym (q.rows Γ Δ s.counters s.regions));
+          rows = A.rows ∙ ap (λ (l : List Row). put_rows l o) (sym (q.rows Γ Δ s.counters s.regions));
           value =
               ap (expression_at Y N W) B.value
               ∙ pushed_reads U W one.len (node_kind k) 0 n one.value 0 B.node hl (omega arith) hn A.below z Y N
@@ -71,8 +72,8 @@ module _ (Y : List ℕ) (N : List ℤ) (I Γ : List DataType) (Δ : List Express
     pub used_over_one : (ks : List ℕ) (ns : List ℤ) (C : List ℕ) (m p : ℕ) → Stands ks ns C Y N T s I Γ Δ e
         → k ≡ get_or ks 0 0 → m ≡ as_natural (get_or ns 0 (pos 0)) → p ≡ get_or C 1 0 → is_leaf k ≡ false → has_one_operand k ≡ true
         → n ≡ number_over k m (type_at Y p) → n < 65536 → one.len < 1024
-        → Used Y N I Γ Δ (first_operand e) s T U o (table K M one.to) one → OverOne U W (node_kind k) n one r
-        → Used Y N I Γ Δ e s T W o (table K M r.to) r
+        → Used Y N I Γ Δ (first_operand e) s T U o o₁ one → OverOne U W (node_kind k) n one r
+        → Used Y N I Γ Δ e s T W o o₁ r
     used_over_one ks ns C m p S ek em ep hk hb en hn hl A B =
         let f : k ≡ term_kind e = ek ∙ its_kind ks ns (length I) (length Γ) e S.rows in
         let q : OneOperand I e = one_operand I e (ap has_one_operand (sym f) ∙ hb) in
@@ -82,11 +83,11 @@ module _ (Y : List ℕ) (N : List ℤ) (I Γ : List DataType) (Δ : List Express
 
   -- ---- two operands
 
-  module _ (e : Term) (U W X : List ℕ) (o : Table) (K K' : List ℕ) (M M' : List ℤ) (k : ℕ) (one : Translated) (s' : State) (two r : Translated) where
+  module _ (e : Term) (U W X : List ℕ) (o o₁ o₂ : Table) (k : ℕ) (one : Translated) (s' : State) (two r : Translated) where
     over_two_holds : k ≡ term_kind e → two.len < 1024 → TwoOperands I e
-        → Used Y N I Γ Δ (first_operand e) s T U o (table K M one.to) one → AfterUse s one s'
-        → Used Y N I Γ Δ (second_operand e) s' U W (table K M s'.to) (table K' M' two.to) two
-        → OverTwo W X k one two r → Used Y N I Γ Δ e s T X o (table K' M' r.to) r
+        → Used Y N I Γ Δ (first_operand e) s T U o o₁ one → AfterUse s one s'
+        → Used Y N I Γ Δ (second_operand e) s' U W o₁ o₂ two
+        → OverTwo W X k one two r → Used Y N I Γ Δ e s T X o o₂ r
     over_two_holds ek hl q A G B H =
         let c : ℕ = s.counters in
         let a : Term = first_operand e in
@@ -102,10 +103,9 @@ module _ (Y : List ℕ) (N : List ℤ) (I Γ : List DataType) (Δ : List Express
         record {
           passed = omega (arith, H.rows, A.passed, B.passed, rows_of_two e q.count);
           rows =
-              end_as K' M' r.to two.to H.to
-              ∙ B.rows
-              ∙ ap₂ (λ (i j : ℕ). put_rows (use_rows I b Γ Δ i j) (table K M s'.to)) G.counters g
-              ∙ ap (put_rows y) (end_as K M s'.to one.to G.to ∙ A.rows)
+              B.rows
+              ∙ ap₂ (λ (i j : ℕ). put_rows (use_rows I b Γ Δ i j) o₁) G.counters g
+              ∙ ap (put_rows y) A.rows
               ∙ sym (put_append x y o)
               ∙ ap (λ (l : List Row). put_rows l o) (sym (q.rows Γ Δ c s.regions));
           value =
@@ -125,21 +125,21 @@ module _ (Y : List ℕ) (N : List ℤ) (I Γ : List DataType) (Δ : List Express
 
     pub used_over_two : (ks : List ℕ) (ns : List ℤ) (C : List ℕ) → Stands ks ns C Y N T s I Γ Δ e
         → k ≡ get_or ks 0 0 → is_leaf k ≡ false → is_map k ≡ false → (k ≡ word_redseq → ⊥) → has_one_operand k ≡ false → two.len < 1024
-        → Used Y N I Γ Δ (first_operand e) s T U o (table K M one.to) one → AfterUse s one s'
-        → Used Y N I Γ Δ (second_operand e) s' U W (table K M s'.to) (table K' M' two.to) two
-        → OverTwo W X k one two r → Used Y N I Γ Δ e s T X o (table K' M' r.to) r
+        → Used Y N I Γ Δ (first_operand e) s T U o o₁ one → AfterUse s one s'
+        → Used Y N I Γ Δ (second_operand e) s' U W o₁ o₂ two
+        → OverTwo W X k one two r → Used Y N I Γ Δ e s T X o o₂ r
     used_over_two ks ns C S ek hk hm hr hb hl A G B H =
         let f : k ≡ term_kind e = ek ∙ its_kind ks ns (length I) (length Γ) e S.rows in
         over_two_holds f hl (two_operands I e (ap is_leaf (sym f) ∙ hk) (ap is_map (sym f) ∙ hm) (λ x. hr (f ∙ x)) (ap has_one_operand (sym f) ∙ hb)) A G B H
 
   -- ---- a map: a region is opened, and the map written there
 
-  module _ (e : Term) (U W : List ℕ) (o : Table) (K K' : List ℕ) (M M' : List ℤ) (k p : ℕ) (s' : State) (w r : Translated) where
+  module _ (e : Term) (U W : List ℕ) (o o₁ o₂ : Table) (k p : ℕ) (s' : State) (w r : Translated) where
     pub used_map : (ks : List ℕ) (ns : List ℤ) (C : List ℕ) → Stands ks ns C Y N T s I Γ Δ e
         → k ≡ get_or ks 0 0 → p ≡ get_or C 0 0 → is_map k ≡ true → length Y ≤ 65536 → 1 ≤ s.len → s.len < 1024 → s.regions < 65535
-        → RegionOpened T U p s s' → table K M s'.to ≡ region_rows (type_at Y p) o
-        → Written Y N I Γ Δ e (acceptor_at Y U s.len) s' U W (table K M s'.to) (table K' M' w.to) w
-        → RegionUsed s w r → Used Y N I Γ Δ e s T W o (table K' M' r.to) r
+        → RegionOpened T U p s s' → o₁ ≡ region_rows (type_at Y p) o
+        → Written Y N I Γ Δ e (acceptor_at Y U s.len) s' U W o₁ o₂ w
+        → RegionUsed s w r → Used Y N I Γ Δ e s T W o o₂ r
     unfolding put_rows
     used_map ks ns C S ek ep hm hy h1 hl hr R er A B =
         let f : k ≡ term_kind e = ek ∙ its_kind ks ns (length I) (length Γ) e S.rows in
@@ -157,10 +157,9 @@ module _ (Y : List ℕ) (N : List ℤ) (I Γ : List DataType) (Δ : List Express
         record {
           passed = B.rows ∙ A.passed;
           rows =
-              end_as K' M' r.to w.to B.to
-              ∙ A.rows
-              ∙ ap₂ (λ (i j : ℕ). put_rows (command_rows (write_term I e Γ Δ i j (acceptor_at Y U s.len))) (table K M s'.to)) R.counters g
-              ∙ ap (λ (Q : Acceptor). put_rows (command_rows (write_term I e Γ Δ c (suc s.regions) Q)) (table K M s'.to)) P
+              A.rows
+              ∙ ap₂ (λ (i j : ℕ). put_rows (command_rows (write_term I e Γ Δ i j (acceptor_at Y U s.len))) o₁) R.counters g
+              ∙ ap (λ (Q : Acceptor). put_rows (command_rows (write_term I e Γ Δ c (suc s.regions) Q)) o₁) P
               ∙ ap (put_rows (command_rows (write_term I e Γ Δ c (suc s.regions) (Acceptor.region s.regions t)))) (er ∙ ap (λ (y : DataType). region_rows y o) et)
               ∙ ap (λ (l : List Row). put_rows l o) (sym (q.rows Γ Δ c s.regions));
           value =

@@ -21,7 +21,7 @@ use Rattle.syntax.specs.Standing.{term_kind, term_number, first_operand, second_
 use Rattle.syntax.proofs.Standing.{its_kind, its_number, rows_of_one, rows_of_two}
 use Rattle.syntax.proofs.Front.{part}
 use Rattle.type_table.specs.Table.{type_at}
-use Rattle.emission.specs.Table.{Table, table, put_row, put_rows}
+use Rattle.emission.specs.Table.{Table, put_row, put_rows}
 use Rattle.emission.specs.References.{class_of, expression_at, acceptor_at}
 use Rattle.emission.specs.Laws.Table.{put_append}
 use Rattle.emission.specs.Growth.{Grown}
@@ -50,12 +50,12 @@ module _ (Y : List ℕ) (N : List ℤ) (I Γ : List DataType) (Δ : List Express
 
   -- ---- a use, then an assignment by type; p is the place of the type
 
-  module _ (U W K K' : List ℕ) (M M' : List ℤ) (p : ℕ) (used r : Translated) where
+  module _ (U W : List ℕ) (o₁ o₂ : Table) (p : ℕ) (used r : Translated) where
     pub written_assigned : p ≡ get_or C 0 0 → is_map k ≡ false → is_paired k ≡ false → is_regrouped k ≡ false
-        → Used Y N I Γ Δ e s T U o (table K M used.to) used
-        → table K' M' r.to ≡ put_rows (command_rows (assign (type_at Y p) (expression_at Y N U used.value) (acceptor_at Y U target) s.counters used.regions)) (table K M used.to)
+        → Used Y N I Γ Δ e s T U o o₁ used
+        → o₂ ≡ put_rows (command_rows (assign (type_at Y p) (expression_at Y N U used.value) (acceptor_at Y U target) s.counters used.regions)) o₁
         → Grown U W used.len → r.rows ≡ used.rows → r.len ≡ used.len
-        → Written Y N I Γ Δ e (acceptor_at Y T target) s T W o (table K' M' r.to) r
+        → Written Y N I Γ Δ e (acceptor_at Y T target) s T W o o₂ r
     written_assigned ep hm hp hg A q g er el =
         let P : Acceptor = acceptor_at Y T target in
         let c : ℕ = s.counters in
@@ -66,9 +66,9 @@ module _ (Y : List ℕ) (N : List ℤ) (I Γ : List DataType) (Δ : List Express
           passed = er ∙ A.passed;
           rows =
               q
-              ∙ ap (λ (u : DataType). put_rows (command_rows (assign u (expression_at Y N U used.value) (acceptor_at Y U target) c used.regions)) (table K M used.to)) t
-              ∙ ap (λ (E : Expression). put_rows (command_rows (assign (type_of I Γ e) E (acceptor_at Y U target) c used.regions)) (table K M used.to)) A.value
-              ∙ ap₂ (λ (Q : Acceptor) (i : ℕ). put_rows (command_rows (assign (type_of I Γ e) (expression_of I e Γ Δ s.regions) Q c i)) (table K M used.to))
+              ∙ ap (λ (u : DataType). put_rows (command_rows (assign u (expression_at Y N U used.value) (acceptor_at Y U target) c used.regions)) o₁) t
+              ∙ ap (λ (E : Expression). put_rows (command_rows (assign (type_of I Γ e) E (acceptor_at Y U target) c used.regions)) o₁) A.value
+              ∙ ap₂ (λ (Q : Acceptor) (i : ℕ). put_rows (command_rows (assign (type_of I Γ e) (expression_of I e Γ Δ s.regions) Q c i)) o₁)
               (writes_on T U s.len target ht A.grown Y) A.regions
               ∙ ap (put_rows y) A.rows
               ∙ sym (put_append x y o)
@@ -85,8 +85,8 @@ module _ (Y : List ℕ) (N : List ℤ) (I Γ : List DataType) (Δ : List Express
   abbrev pub element_of : Expression → Expression
   element_of E = Expression.index E (Offset.counter s.counters)
 
-  module _ (U W : List ℕ) (K : List ℕ) (M : List ℤ) (used : Translated) (s' : State)
-      (A : Used Y N I Γ Δ (first_operand e) s T U o (table K M used.to) used) (H : MapEntered U W target s used s')
+  module _ (U W : List ℕ) (o₁ : Table) (used : Translated) (s' : State)
+      (A : Used Y N I Γ Δ (first_operand e) s T U o o₁ used) (H : MapEntered U W target s used s')
       (hl : used.len + 2 ≤ 1024) (hc : s.counters < 65535) (hm : is_map k ≡ true) where
     map_here : MapTerm I e
     map_here = map_term I e (ap is_map (sym kind) ∙ hm)
@@ -114,14 +114,14 @@ module _ (Y : List ℕ) (N : List ℤ) (I Γ : List DataType) (Δ : List Express
         (variables_one Y N T W s s' Δ S.variables map_grown (omega (arith, A.more, H.len)) used.len (element_of (expression_of I (first_operand e) Γ Δ s.regions)) h
         (omega (arith, H.len)) its_element H.variables H.count)
 
-    pub written_map : (X K₁ K₂ : List ℕ) (M₁ M₂ : List ℤ) (p : ℕ) (w r : Translated) → p ≡ get_or C 0 0
-        → table K₁ M₁ s'.to ≡ map_rows k (type_at Y p) (table K M used.to)
+    pub written_map : (X : List ℕ) (o₂ o₃ : Table) (p : ℕ) (w r : Translated) → p ≡ get_or C 0 0
+        → o₂ ≡ map_rows k (type_at Y p) o₁
         → Written Y N I (element (type_of I Γ (first_operand e)) ∷ Γ) (element_of (expression_of I (first_operand e) Γ Δ s.regions) ∷ Δ) (second_operand e)
-        (acceptor_at Y W (used.len + 1)) s' W X (table K₁ M₁ s'.to) (table K₂ M₂ w.to) w
+        (acceptor_at Y W (used.len + 1)) s' W X o₂ o₃ w
         → Later (1 + used.rows) w r
-        → Written Y N I Γ Δ e (acceptor_at Y T target) s T X o (table K₂ M₂ r.to) r
+        → Written Y N I Γ Δ e (acceptor_at Y T target) s T X o o₃ r
     unfolding put_rows
-    written_map X K₁ K₂ M₁ M₂ p w r ep q B L =
+    written_map X o₂ o₃ p w r ep q B L =
         let a : Term = first_operand e in
         let b : Term = second_operand e in
         let c : ℕ = s.counters in
@@ -133,14 +133,13 @@ module _ (Y : List ℕ) (N : List ℤ) (I Γ : List DataType) (Δ : List Express
         let eg : s'.regions ≡ s.regions + regions_opened a = H.regions ∙ A.regions in
         let x : List Row = use_rows I a Γ Δ c s.regions in
         let y : List Row = command_rows (write_term I b Γ' Δ' (suc c) (s.regions + regions_opened a) (Acceptor.index P (Offset.counter c))) in
-        let z : table K₁ M₁ s'.to ≡ map_rows (term_kind e) (type_of I Γ e) (put_rows x o)
-        = q ∙ ap₂ (λ (i : ℕ) (u : DataType). map_rows i u (table K M used.to)) kind t ∙ ap (map_rows (term_kind e) (type_of I Γ e)) A.rows in
+        let z : o₂ ≡ map_rows (term_kind e) (type_of I Γ e) (put_rows x o)
+        = q ∙ ap₂ (λ (i : ℕ) (u : DataType). map_rows i u o₁) kind t ∙ ap (map_rows (term_kind e) (type_of I Γ e)) A.rows in
         record {
           passed = omega (arith, L.rows, A.passed, B.passed, rows_of_two e map_here.count);
           rows =
-              ap (table K₂ M₂) L.to
-              ∙ B.rows
-              ∙ ap₂ (λ (i j : ℕ). put_rows (command_rows (write_term I b Γ' Δ' i j (acceptor_at Y W (used.len + 1)))) (table K₁ M₁ s'.to)) ec eg
+              B.rows
+              ∙ ap₂ (λ (i j : ℕ). put_rows (command_rows (write_term I b Γ' Δ' i j (acceptor_at Y W (used.len + 1)))) o₂) ec eg
               ∙ ap₂ (λ (Q : Acceptor) (u : Table). put_rows (command_rows (write_term I b Γ' Δ' (suc c) (s.regions + regions_opened a) Q)) u) its_place z
               ∙ sym (put_append x _ o)
               ∙ ap (λ (l : List Row). put_rows l o) (sym (map_here.writes Γ Δ c s.regions P));
@@ -151,16 +150,16 @@ module _ (Y : List ℕ) (N : List ℤ) (I Γ : List DataType) (Δ : List Express
 
   -- ---- a `zip` or a `pair`: the operands are written one after the other, each into its part
 
-  module _ (U W X Z K K₁ K₂ : List ℕ) (M M₁ M₂ : List ℤ) (s₁ : State) (one : Translated) (s₂ : State) (two r : Translated) where
+  module _ (U W X Z : List ℕ) (o₁ o₂ o₃ : Table) (s₁ : State) (one : Translated) (s₂ : State) (two r : Translated) where
     pub written_paired : is_paired k ≡ true → one.len < 1024
-        → IntoPart T U (first_part k) 0 target s.len s s₁ → table K M s₁.to ≡ put_row o (word_seq, pos 0)
-        → Written Y N I Γ Δ (first_operand e) (acceptor_at Y U s.len) s₁ U W (table K M s₁.to) (table K₁ M₁ one.to) one
-        → IntoPart W X (second_part k) 0 target one.len s s₂ → s₂.to ≡ one.to
-        → Written Y N I Γ Δ (second_operand e) (acceptor_at Y X one.len) s₂ X Z (table K₁ M₁ s₂.to) (table K₂ M₂ two.to) two
+        → IntoPart T U (first_part k) 0 target s.len s s₁ → o₁ ≡ put_row o (word_seq, pos 0)
+        → Written Y N I Γ Δ (first_operand e) (acceptor_at Y U s.len) s₁ U W o₁ o₂ one
+        → IntoPart W X (second_part k) 0 target one.len s s₂
+        → Written Y N I Γ Δ (second_operand e) (acceptor_at Y X one.len) s₂ X Z o₂ o₃ two
         → Later (1 + one.rows) two r
-        → Written Y N I Γ Δ e (acceptor_at Y T target) s T Z o (table K₂ M₂ r.to) r
+        → Written Y N I Γ Δ e (acceptor_at Y T target) s T Z o o₃ r
     unfolding put_rows
-    written_paired hp hl F q A G eto B L =
+    written_paired hp hl F q A G B L =
         let a : Term = first_operand e in
         let b : Term = second_operand e in
         let c : ℕ = s.counters in
@@ -179,17 +178,16 @@ module _ (Y : List ℕ) (N : List ℤ) (I Γ : List DataType) (Δ : List Express
         ∙ ap₂ (λ (i : ℕ) (u : Acceptor). write_by (class_of (second_part i)) Y (second_part i) 0 0 u) kind (writes_on T W s.len target ht gT Y) in
         let x : List Row = command_rows (write_term I a Γ Δ c g Q) in
         let y : List Row = command_rows (write_term I b Γ Δ c g R) in
-        let z₁ : table K₁ M₁ one.to ≡ put_rows x (put_row o (word_seq, pos 0))
+        let z₁ : o₂ ≡ put_rows x (put_row o (word_seq, pos 0))
         = A.rows
-        ∙ ap₂ (λ (i j : ℕ). put_rows (command_rows (write_term I a Γ Δ i j (acceptor_at Y U s.len))) (table K M s₁.to)) F.counters F.regions
+        ∙ ap₂ (λ (i j : ℕ). put_rows (command_rows (write_term I a Γ Δ i j (acceptor_at Y U s.len))) o₁) F.counters F.regions
         ∙ ap₂ (λ (u : Acceptor) (v : Table). put_rows (command_rows (write_term I a Γ Δ c g u)) v) eQ q in
         record {
           passed = omega (arith, L.rows, A.passed, B.passed, rows_of_two e d.count);
           rows =
-              ap (table K₂ M₂) L.to
-              ∙ B.rows
-              ∙ ap₂ (λ (i j : ℕ). put_rows (command_rows (write_term I b Γ Δ i j (acceptor_at Y X one.len))) (table K₁ M₁ s₂.to)) G.counters G.regions
-              ∙ ap₂ (λ (u : Acceptor) (v : Table). put_rows (command_rows (write_term I b Γ Δ c g u)) v) eR (ap (table K₁ M₁) eto ∙ z₁)
+              B.rows
+              ∙ ap₂ (λ (i j : ℕ). put_rows (command_rows (write_term I b Γ Δ i j (acceptor_at Y X one.len))) o₂) G.counters G.regions
+              ∙ ap₂ (λ (u : Acceptor) (v : Table). put_rows (command_rows (write_term I b Γ Δ c g u)) v) eR z₁
               ∙ sym (put_append x y (put_row o (word_seq, pos 0)))
               ∙ ap (λ (l : List Row). put_rows l o) (sym (d.writes Y Γ Δ c g P));
           grown =
@@ -201,14 +199,14 @@ module _ (Y : List ℕ) (N : List ℤ) (I Γ : List DataType) (Δ : List Express
 
   -- ---- a `split` or a `join`, [18.12] an `asvec` or an `asscal`: the operand is written into the place, regrouped; m is the number of its row, p the place of its type
 
-  module _ (U W K K₁ : List ℕ) (M M₁ : List ℤ) (m p n : ℕ) (s₁ : State) (w r : Translated) where
+  module _ (U W : List ℕ) (o₁ : Table) (m p n : ℕ) (s₁ : State) (w r : Translated) where
     pub written_regrouped : is_regrouped k ≡ true → m ≡ as_natural (get_or ns 0 (pos 0)) → p ≡ get_or C 1 0 → is_leaf k ≡ false
         → n ≡ number_over k m (type_at Y p) → n < 65536 → s.len < 1024
-        → IntoPart T U (regrouped_by k) n target s.len s s₁ → table K M s₁.to ≡ o
-        → Written Y N I Γ Δ (first_operand e) (acceptor_at Y U s.len) s₁ U W (table K M s₁.to) (table K₁ M₁ w.to) w
+        → IntoPart T U (regrouped_by k) n target s.len s s₁
+        → Written Y N I Γ Δ (first_operand e) (acceptor_at Y U s.len) s₁ U W o o₁ w
         → Later 1 w r
-        → Written Y N I Γ Δ e (acceptor_at Y T target) s T W o (table K₁ M₁ r.to) r
-    written_regrouped hr em ep hk en hn hl F q A L =
+        → Written Y N I Γ Δ e (acceptor_at Y T target) s T W o o₁ r
+    written_regrouped hr em ep hk en hn hl F A L =
         let a : Term = first_operand e in
         let c : ℕ = s.counters in
         let g : ℕ = s.regions in
@@ -225,10 +223,9 @@ module _ (Y : List ℕ) (N : List ℤ) (I Γ : List DataType) (Δ : List Express
         record {
           passed = omega (arith, L.rows, A.passed, rows_of_one e d.count);
           rows =
-              ap (table K₁ M₁) L.to
-              ∙ A.rows
-              ∙ ap₂ (λ (i z : ℕ). put_rows (command_rows (write_term I a Γ Δ i z (acceptor_at Y U s.len))) (table K M s₁.to)) F.counters F.regions
-              ∙ ap₂ (λ (u : Acceptor) (z : Table). put_rows (command_rows (write_term I a Γ Δ c g u)) z) eQ q
+              A.rows
+              ∙ ap₂ (λ (i z : ℕ). put_rows (command_rows (write_term I a Γ Δ i z (acceptor_at Y U s.len))) o) F.counters F.regions
+              ∙ ap (λ (u : Acceptor). put_rows (command_rows (write_term I a Γ Δ c g u)) o) eQ
               ∙ ap (λ (u : Command). put_rows (command_rows u) o) (sym (d.writes Y Γ Δ c g P));
           grown = grown_more T U W s.len s₁.len (omega (arith, F.len)) F.node.grown A.grown;
           more = omega (arith, F.len, A.more, L.len);

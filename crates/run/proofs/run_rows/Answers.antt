@@ -1,5 +1,9 @@
 -- `run::run_rows` meets its contract: each return is a law of Entries.
-use mathlib.Core.Path.{refl, sym, ◌∙◌}
+use Rattle.std.specs.Prelude.{Ok, Err}
+use mathlib.Core.Path.{◌≡◌, refl, sym, ap, ◌∙◌}
+use borrow.Author.Rules.{rules}
+use Rattle.refusals.specs.Answers.{Answer}
+use Rattle.run.specs.Run.{outcome}
 use native.Mathlib.Omega.{arith}
 use Rattle.words.proofs.Laws.{rows_length}
 use Rattle.syntax.proofs.Tables.{kinds_length, numbers_length}
@@ -7,50 +11,40 @@ use Rattle.store.specs.Store.{store_of}
 use Rattle.run.proofs.Entries as entries
 use Rattle.run.proofs.run_rows.Goals as goal
 
-pub slice_bounds-run_passing-end : goal.slice_bounds-run_passing-end
-slice_bounds-run_passing-end c =
-    let row_count = c.row_count-rows in
-    let a = c.args in
-    let rows = row_count.ensures.0 ∙ rows_length a.kinds.now a.numbers.now in
-    sym (kinds_length a.kinds.now a.numbers.now rows)
-
-pub slice_bounds-run_passing-end-in-Passes : goal.slice_bounds-run_passing-end-in-Passes
-slice_bounds-run_passing-end-in-Passes c =
-    let row_count = c.row_count-rows in
-    let a = c.args in
-    let rows = row_count.ensures.0 ∙ rows_length a.kinds.now a.numbers.now in
-    sym (numbers_length a.kinds.now a.numbers.now rows)
-
 pub run_passing-requires : goal.run_passing-requires
 run_passing-requires c =
     let row_count = c.row_count-rows in
     let a = c.args in
-    let check_table_holds = c.check_table-checked in
+    let check_table_holds = c.check_table in
+    let told : c.check_table.result ≡ Ok c.in_ok-counted.counted = search rules in
     let rows = row_count.ensures.0 ∙ rows_length a.kinds.now a.numbers.now in
     let k = kinds_length a.kinds.now a.numbers.now rows in
     let few = entries.table_few a.kinds.now a.numbers.now a.order (store_of a.cells.now a.bytes.now)
-    check_table_holds.result check_table_holds.ensures c.in-Passes.writes c.in-Passes.need row_count.result c.in-Passes.is rows in
+    check_table_holds.result check_table_holds.ensures c.in_ok-counted.counted.writes c.in_ok-counted.counted.need row_count.result told rows in
     (k ∙ sym (numbers_length a.kinds.now a.numbers.now rows), omega (arith, k, few))
 
-pub returns-in-Refused : goal.returns-in-Refused
-returns-in-Refused c =
+pub returns-in_err-counted : goal.returns-in_err-counted
+returns-in_err-counted c =
     let a = c.args in
-    let check_table_holds = c.check_table-checked in
+    let no : c.check_table.result ≡ Err c.in_err-counted.field-0.0 = search rules in
+    let gone : c.from_residual.result ≡ Err c.in_err-counted.field-0.0 = search rules in
     record {
       frame = refl;
-      result = entries.table_refused a.kinds.now a.numbers.now a.order (store_of a.cells.now a.bytes.now)
-          check_table_holds.result check_table_holds.ensures _ c.in-Refused.is;
+      result = ap (λ (x : Answer). outcome x (store_of a.cells.now a.bytes.now)) gone
+          ∙ entries.table_refused a.kinds.now a.numbers.now a.order (store_of a.cells.now a.bytes.now)
+          c.check_table.result c.check_table.ensures _ no;
     }
 
-pub returns-in-Passes : goal.returns-in-Passes
-returns-in-Passes c =
+pub returns : goal.returns
+returns c =
     let row_count = c.row_count-rows in
     let a = c.args in
-    let check_table_holds = c.check_table-checked in
+    let check_table_holds = c.check_table in
+    let told : c.check_table.result ≡ Ok c.in_ok-counted.counted = search rules in
     let rows = row_count.ensures.0 ∙ rows_length a.kinds.now a.numbers.now in
     record {
       frame = c.run_passing.ensures.frame;
       result = entries.table_run a.kinds.now a.numbers.now a.order (store_of a.cells.now a.bytes.now)
-          check_table_holds.result check_table_holds.ensures c.in-Passes.writes c.in-Passes.need row_count.result c.in-Passes.is rows
+          check_table_holds.result check_table_holds.ensures c.in_ok-counted.counted.writes c.in_ok-counted.counted.need row_count.result told rows
           c.run_passing.result (store_of c.run_passing.new.cells c.run_passing.new.bytes) c.run_passing.ensures.result;
     }

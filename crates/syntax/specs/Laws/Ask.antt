@@ -1,14 +1,10 @@
 -- What one row is asked: the answers to questions 4, 5, 6 and 18, one by one and together. Assumes nothing.
-use Rattle.std.specs.Prelude.{◌≡◌, refl, Bool, true, false, ◌&&◌, List, ◌∷◌, ◌++◌, ℕ, suc, ◌+◌, leb}
+use Rattle.std.specs.Prelude.{◌≡◌, refl, Bool, true, false, ◌&&◌, List, ◌∷◌, ◌++◌, ℕ, suc, ◌+◌, leb, Ok, Err, Option, Some, None}
 use Rattle.std.proofs.Common.{arith, leb-true, le-leb}
 use Rattle.refusals.specs.declared.Refusal.TheVariants.{RowDue, NumberRange, NameCount, LanesInside}
-use Rattle.refusals.specs.declared.Answer.{Answer}
-use Rattle.refusals.specs.declared.Answer.TheVariants.{Told, Refused}
-use Rattle.refusals.specs.Answers.{after}
+use Rattle.refusals.specs.Answers.{after, Answer}
 use Rattle.words.specs.Kinds.{Row}
 use Rattle.words.specs.Words.{operands_of}
-use Rattle.words.specs.declared.Operands.{Operands}
-use Rattle.words.specs.declared.Operands.TheVariants.{Count, NotOfSort}
 use Rattle.syntax.specs.declared.names.Names.{Names}
 use Rattle.syntax.specs.declared.operands.Due.{Due}
 use Rattle.syntax.specs.Ranges.{as_natural, in_range}
@@ -17,26 +13,26 @@ use Rattle.syntax.specs.Operands.{inputs_counted, operands_due}
 use Rattle.syntax.specs.Walk.{first_no, ask_row, walk_from}
 
 module _ (d : Due) (k n line : ℕ) where
-  pub ask_due : operands_of k d.sort ≡ NotOfSort → Refused (RowDue line) ≡ ask_row d k n line
+  pub ask_due : operands_of k d.sort ≡ None → Err (RowDue line) ≡ ask_row d k n line
   unfolding ask_row
   ask_due e = rw e
 
-  module _ {m : ℕ} (of : operands_of k d.sort ≡ Count m) where
-    pub ask_range : in_range d.sort d.names k n ≡ false → Refused (NumberRange line) ≡ ask_row d k n line
+  module _ {m : ℕ} (of : operands_of k d.sort ≡ Some m) where
+    pub ask_range : in_range d.sort d.names k n ≡ false → Err (NumberRange line) ≡ ask_row d k n line
     unfolding ask_row
     ask_range r = rw (of, r)
 
-    pub ask_names : in_range d.sort d.names k n ≡ true → names_fit (opened_by k n d.names) ≡ false → Refused (NameCount line) ≡ ask_row d k n line
+    pub ask_names : in_range d.sort d.names k n ≡ true → names_fit (opened_by k n d.names) ≡ false → Err (NameCount line) ≡ ask_row d k n line
     unfolding ask_row
     ask_names r f = rw (of, r, f)
 
     pub ask_lanes : in_range d.sort d.names k n ≡ true → names_fit (opened_by k n d.names) ≡ true → lanes_fit (opened_by k n d.names) ≡ false
-        → Refused (LanesInside line) ≡ ask_row d k n line
+        → Err (LanesInside line) ≡ ask_row d k n line
     unfolding ask_row
     ask_lanes r f g = rw (of, r, f, g)
 
     pub ask_passed : in_range d.sort d.names k n ≡ true → names_fit (opened_by k n d.names) ≡ true → lanes_fit (opened_by k n d.names) ≡ true
-        → Told (inputs_counted d.sort n + m) ≡ ask_row d k n line
+        → Ok (inputs_counted d.sort n + m) ≡ ask_row d k n line
     unfolding ask_row
     ask_passed r f g = rw (of, r, f, g)
 
@@ -44,37 +40,37 @@ module _ (d : Due) (k n line : ℕ) where
 
 pub record Asked (d : Due) (k n m : ℕ) : Type 0 where
   pub count : ℕ
-  pub of : operands_of k d.sort ≡ Count count
+  pub of : operands_of k d.sort ≡ Some count
   pub operands : m ≡ inputs_counted d.sort n + count
   pub ranged : in_range d.sort d.names k n ≡ true
   pub fit : names_fit (opened_by k n d.names) ≡ true
   pub apart : lanes_fit (opened_by k n d.names) ≡ true
 
-pub asked : (d : Due) (k n line m : ℕ) → ask_row d k n line ≡ Told m → Asked d k n m
+pub asked : (d : Due) (k n line m : ℕ) → ask_row d k n line ≡ Ok m → Asked d k n m
 unfolding ask_row
 asked d k n line m e =
     go (operands_of k d.sort) refl (in_range d.sort d.names k n) refl (names_fit (opened_by k n d.names)) refl (lanes_fit (opened_by k n d.names)) refl e
   where
-    go : (o : Operands) → operands_of k d.sort ≡ o → (r : Bool) → in_range d.sort d.names k n ≡ r → (f : Bool) → names_fit (opened_by k n d.names) ≡ f
+    go : (o : Option ℕ) → operands_of k d.sort ≡ o → (r : Bool) → in_range d.sort d.names k n ≡ r → (f : Bool) → names_fit (opened_by k n d.names) ≡ f
         → (a : Bool) → lanes_fit (opened_by k n d.names) ≡ a
-        → first_no o r f a (inputs_counted d.sort n) line ≡ Told m → Asked d k n m
-    go NotOfSort p r q f g a l e = absurd (let y : ◌≡◌ {A = ℕ} 0 1 = cc in omega arith)
-    go (Count c) p true q true g true l e = record { count = c; of = p; operands = cc; ranged = q; fit = g; apart = l }
-    go (Count c) p true q true g false l e = absurd (let y : ◌≡◌ {A = ℕ} 0 1 = cc in omega arith)
-    go (Count c) p true q false g a l e = absurd (let y : ◌≡◌ {A = ℕ} 0 1 = cc in omega arith)
-    go (Count c) p false q f g a l e = absurd (let y : ◌≡◌ {A = ℕ} 0 1 = cc in omega arith)
+        → first_no o r f a (inputs_counted d.sort n) line ≡ Ok m → Asked d k n m
+    go None p r q f g a l e = absurd (let y : ◌≡◌ {A = ℕ} 0 1 = cc in omega arith)
+    go (Some c) p true q true g true l e = record { count = c; of = p; operands = cc; ranged = q; fit = g; apart = l }
+    go (Some c) p true q true g false l e = absurd (let y : ◌≡◌ {A = ℕ} 0 1 = cc in omega arith)
+    go (Some c) p true q false g a l e = absurd (let y : ◌≡◌ {A = ℕ} 0 1 = cc in omega arith)
+    go (Some c) p false q f g a l e = absurd (let y : ◌≡◌ {A = ℕ} 0 1 = cc in omega arith)
 
 -- the first row of a walk that finds nothing wrong passes, and so does the walk behind it
-pub walked : (p m : ℕ) (d : Due) (ds : List Due) (r : Row) (rs : List Row) → walk_from p (d ∷ ds) (r ∷ rs) ≡ Told m
-    → (c : ℕ) × (ask_row d r.0 (as_natural r.1) (suc p) ≡ Told c) × (walk_from (suc p) (operands_due d r.0 (as_natural r.1) c ++ ds) rs ≡ Told m)
+pub walked : (p m : ℕ) (d : Due) (ds : List Due) (r : Row) (rs : List Row) → walk_from p (d ∷ ds) (r ∷ rs) ≡ Ok m
+    → (c : ℕ) × (ask_row d r.0 (as_natural r.1) (suc p) ≡ Ok c) × (walk_from (suc p) (operands_due d r.0 (as_natural r.1) c ++ ds) rs ≡ Ok m)
 unfolding walk_from
 walked p m d ds r rs e = go (ask_row d r.0 (as_natural r.1) (suc p)) refl e
   where
     go : (x : Answer) → ask_row d r.0 (as_natural r.1) (suc p) ≡ x
-        → after x (λ c. walk_from (suc p) (operands_due d r.0 (as_natural r.1) c ++ ds) rs) ≡ Told m
-        → (c : ℕ) × (ask_row d r.0 (as_natural r.1) (suc p) ≡ Told c) × (walk_from (suc p) (operands_due d r.0 (as_natural r.1) c ++ ds) rs ≡ Told m)
-    go (Told c) q e = (c, q, e)
-    go (Refused x) q e = absurd (let y : ◌≡◌ {A = ℕ} 0 1 = cc in omega arith)
+        → after x (λ c. walk_from (suc p) (operands_due d r.0 (as_natural r.1) c ++ ds) rs) ≡ Ok m
+        → (c : ℕ) × (ask_row d r.0 (as_natural r.1) (suc p) ≡ Ok c) × (walk_from (suc p) (operands_due d r.0 (as_natural r.1) c ++ ds) rs ≡ Ok m)
+    go (Ok c) q e = (c, q, e)
+    go (Err x) q e = absurd (let y : ◌≡◌ {A = ℕ} 0 1 = cc in omega arith)
 
 -- ---- the test of names, as a fact
 

@@ -1,5 +1,5 @@
 -- [18.15] Loops that are in range but for question 18: the walk passes their rows, or question 18 turns one of them away. Assumes nothing.
-use Rattle.std.specs.Prelude.{◌≡◌, Bool, true, false, cond, ◌⊎◌, leb, ℤ}
+use Rattle.std.specs.Prelude.{◌≡◌, Bool, true, false, cond, ◌⊎◌, leb, ℤ, Ok, Err, Some}
 use Rattle.std.proofs.Math.Path.{refl, ap}
 use Rattle.std.proofs.Common.{sym, ◌∙◌, inl, zero-add, add-zero, le-leb, leb-true}
 use Rattle.std.proofs.Math.Logic.{inr}
@@ -9,14 +9,11 @@ use native.Mathlib.Omega.{arith}
 use Rattle.std.proofs.Math.IntN.{pos}
 use Rattle.std.proofs.Math.ListN.{length}
 use Rattle.refusals.specs.declared.Refusal.TheVariants.{LineForm, LanesInside}
-use Rattle.refusals.specs.declared.Answer.{Answer}
-use Rattle.refusals.specs.declared.Answer.TheVariants.{Told, Refused}
-use Rattle.refusals.specs.Answers.{after}
+use Rattle.refusals.specs.Answers.{after, Answer}
 use Rattle.words.specs.Kinds.{Row, word_loops, word_cells, word_seq, word_for, word_par, word_new, word_lanes}
 use Rattle.words.specs.Groups.{is_listed, one_of}
 use Rattle.words.proofs.Laws.{word_listed}
 use Rattle.words.specs.Words.{operands_of, table}
-use Rattle.words.specs.declared.Operands.TheVariants.{Count}
 use Rattle.words.specs.declared.Sort.TheVariants as sort
 use Rattle.meaning.specs.Terms.{LoopKind}
 use Rattle.meaning.specs.Loops.{Command, Loops, seq, loop, new}
@@ -41,7 +38,7 @@ Listed a = (q : ℕ) (v : Answer) → listed_from q a v ≡ v
 
 -- question 18 turns a row away, whatever is due and stands behind
 abbrev TurnedAway : List Due → List Row → Type 0
-TurnedAway os a = (p : ℕ) (ds : List Due) (R : List Row) → (l : ℕ) × (walk_from p (os ++ ds) (a ++ R) ≡ Refused (LanesInside l))
+TurnedAway os a = (p : ℕ) (ds : List Due) (R : List Row) → (l : ℕ) × (walk_from p (os ++ ds) (a ++ R) ≡ Err (LanesInside l))
 
 record Walked (os : List Due) (a : List Row) : Type 0 where
   listed : Listed a
@@ -53,7 +50,7 @@ passing : (os : List Due) (a : List Row) → Passes os a → Walked os a
 unfolding walk_from
 passing os a f = record {
   listed = walk_listed a 0 (length a) os
-      (sym (ap (walk_from 0 os) (append-nil a)) ∙ sym (ap (λ (ds : List Due). walk_from 0 ds (a ++ [])) (append-nil os)) ∙ f 0 [] [] ∙ ap Told (zero-add (length a)));
+      (sym (ap (walk_from 0 os) (append-nil a)) ∙ sym (ap (λ (ds : List Due). walk_from 0 ds (a ++ [])) (append-nil os)) ∙ f 0 [] [] ∙ ap Ok (zero-add (length a)));
   ends = inl f;
 }
 
@@ -62,12 +59,12 @@ unfolding listed_from
 listed_append [] R q v = ap (λ (n : ℕ). listed_from n R v) (sym (add-zero q))
 listed_append (r ∷ a) R q v =
     let e : suc q + length a ≡ q + suc (length a) = omega arith in
-    ap (λ (x : Answer). cond (is_listed r.0) x (Refused (LineForm (suc q))))
+    ap (λ (x : Answer). cond (is_listed r.0) x (Err (LineForm (suc q))))
     (listed_append a R (suc q) v ∙ ap (λ (n : ℕ). listed_from (suc q) a (listed_from n R v)) e)
 
 listed_row : (k : ℕ) (z : ℤ) (a : List Row) → is_listed k ≡ true → Listed a → Listed ((k, z) ∷ a)
 unfolding listed_from
-listed_row k z a e f q v = ap (λ (b : Bool). cond b (listed_from (suc q) a v) (Refused (LineForm (suc q)))) e ∙ f (suc q) v
+listed_row k z a e f q v = ap (λ (b : Bool). cond b (listed_from (suc q) a v) (Err (LineForm (suc q)))) e ∙ f (suc q) v
 
 both_walked : (d : Due) (os : List Due) (a b : List Row) → Walked (d ∷ []) a → Walked os b → Walked (d ∷ os) (a ++ b)
 both_walked d os a b f g = record {
@@ -86,7 +83,7 @@ both_walked d os a b f g = record {
 
 -- ---- a row, and its operands
 
-module _ (d : Due) (k : ℕ) (z : ℤ) (c : ℕ) (a : List Row) (of : operands_of k d.sort ≡ Count c)
+module _ (d : Due) (k : ℕ) (z : ℤ) (c : ℕ) (a : List Row) (of : operands_of k d.sort ≡ Some c)
     (r : in_range d.sort d.names k (as_natural z) ≡ true) where
   -- the names that it opens
   abbrev M : Names
@@ -188,8 +185,8 @@ module _ (L : Loops) (few : length L.inputs ≤ 8) (cells : AllCounts L.inputs) 
       (command_walked (inputs_only K) (small K) L.command command))
       L.inputs cells))
 
-  pub lanes_asked : (walk_table sort.Loops (loops_rows L) ≡ Told (length (loops_rows L)))
-      ⊎ ((l : ℕ) × (walk_table sort.Loops (loops_rows L) ≡ Refused (LanesInside l)))
+  pub lanes_asked : (walk_table sort.Loops (loops_rows L) ≡ Ok (length (loops_rows L)))
+      ⊎ ((l : ℕ) × (walk_table sort.Loops (loops_rows L) ≡ Err (LanesInside l)))
   unfolding walk_table walk_from
   lanes_asked = go loops_walked.ends
     where
@@ -200,6 +197,6 @@ module _ (L : Loops) (few : length L.inputs ≤ 8) (cells : AllCounts L.inputs) 
       whole = loops_walked.listed 0 _ ∙ ap (walk_from 0 (due sort.Loops no_names ∷ [])) (sym (append-nil R))
 
       go : Passes (due sort.Loops no_names ∷ []) R ⊎ TurnedAway (due sort.Loops no_names ∷ []) R
-          → (walk_table sort.Loops R ≡ Told (length R)) ⊎ ((l : ℕ) × (walk_table sort.Loops R ≡ Refused (LanesInside l)))
-      go (inl x) = inl (whole ∙ x 0 [] [] ∙ ap Told (zero-add (length R)))
+          → (walk_table sort.Loops R ≡ Ok (length R)) ⊎ ((l : ℕ) × (walk_table sort.Loops R ≡ Err (LanesInside l)))
+      go (inl x) = inl (whole ∙ x 0 [] [] ∙ ap Ok (zero-add (length R)))
       go (inr x) = let t = x 0 [] [] in inr (t.0, whole ∙ t.1)

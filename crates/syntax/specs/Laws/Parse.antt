@@ -1,8 +1,7 @@
 -- Rows that walk well are those of trees in range. Assumes nothing.
-use Rattle.std.specs.Prelude.{◌≡◌, refl, Bool, true, false, cond, List, [], ◌∷◌, ◌++◌, ℕ, zero, suc, ◌+◌, ◌≤◌, eqb, ℤ}
+use Rattle.std.specs.Prelude.{◌≡◌, refl, Bool, true, false, cond, List, [], ◌∷◌, ◌++◌, ℕ, zero, suc, ◌+◌, ◌≤◌, eqb, ℤ, Ok}
 use Rattle.std.proofs.Common.{ap, subst, arith, leb-true, eqb-true}
 use Rattle.words.specs.Kinds.{Row, word_plan, word_redseq, word_loops, word_new}
-use Rattle.refusals.specs.declared.Answer.TheVariants.{Told}
 use Rattle.words.specs.Words.{table}
 use Rattle.words.specs.declared.Sort.{Sort}
 use Rattle.words.specs.declared.Sort.TheVariants as sort
@@ -84,7 +83,7 @@ node d k z m a h q f =
     each_word d.sort (Node d) (nodes d.sort d.names h) k q.count q.of z a q.ranged (asked_bounded d k (as_natural z) m q)
     (subst (λ (i : ℕ). Forest (operands_due d k (as_natural z) i) a) q.operands f)
 
-pub parse : (R : List Row) (p m : ℕ) (ds : List Due) → Few ds → walk_from p ds R ≡ Told m → Forest ds R
+pub parse : (R : List Row) (p m : ℕ) (ds : List Due) → Few ds → walk_from p ds R ≡ Ok m → Forest ds R
 unfolding walk_from
 parse [] p m [] h e = refl
 parse [] p m (d ∷ ds) h e = absurd (let y : ◌≡◌ {A = ℕ} 0 1 = cc in omega arith)
@@ -96,8 +95,8 @@ parse (r ∷ rs) p m (d ∷ ds) h e =
     let s = parted (operands_due d r.0 (as_natural r.1) w.0) ds rs f in
     (r ∷ s.0, s.1, ap (λ (l : List Row). r ∷ l) s.2, node d r.0 r.1 w.0 s.0 h.0 q s.3, s.4)
 
-pub plan_parsed : (R : List Row) (m : ℕ) → walk_from 0 (due sort.Plan no_names ∷ []) R ≡ Told m → (P : Plan) × PlanInRange P × (R ≡ plan_rows P)
+pub plan_parsed : (R : List Row) (m : ℕ) → walk_from 0 (due sort.Plan no_names ∷ []) R ≡ Ok m → (P : Plan) × PlanInRange P × (R ≡ plan_rows P)
 plan_parsed R m e = one (due sort.Plan no_names) R (parse R 0 m (due sort.Plan no_names ∷ []) (omega arith, tt) e) refl
 
-pub loops_parsed : (R : List Row) (m : ℕ) → walk_from 0 (due sort.Loops no_names ∷ []) R ≡ Told m → (L : Loops) × LoopsInRange L × (R ≡ loops_rows L)
+pub loops_parsed : (R : List Row) (m : ℕ) → walk_from 0 (due sort.Loops no_names ∷ []) R ≡ Ok m → (L : Loops) × LoopsInRange L × (R ≡ loops_rows L)
 loops_parsed R m e = one (due sort.Loops no_names) R (parse R 0 m (due sort.Loops no_names ∷ []) (omega arith, tt) e) refl

@@ -1,11 +1,9 @@
 -- Rows that answer for what is due in front of them, whatever is due behind. Assumes nothing.
-use Rattle.std.specs.Prelude.{◌≡◌, Bool, true, ◌&&◌, List, [], ◌∷◌, ◌++◌, ℕ, suc, ◌+◌, leb, ℤ, length}
+use Rattle.std.specs.Prelude.{◌≡◌, Bool, true, ◌&&◌, List, [], ◌∷◌, ◌++◌, ℕ, suc, ◌+◌, leb, ℤ, length, Ok, Some}
 use Rattle.std.proofs.Common.{sym, ap, ◌∙◌, ⊎_elim, append_assoc, add-zero, arith, le-leb, length-append}
-use Rattle.refusals.specs.declared.Answer.TheVariants.{Told}
 use Rattle.words.specs.Kinds.{Row}
 use Rattle.words.specs.Words.{operands_of}
 use Rattle.words.specs.Groups.{one_of}
-use Rattle.words.specs.declared.Operands.TheVariants.{Count}
 use Rattle.meaning.specs.Limits.{IsCount, IsWidth}
 use Rattle.syntax.specs.declared.names.Names.{Names}
 use Rattle.syntax.specs.declared.operands.Due.{Due}
@@ -28,13 +26,13 @@ both d os a b f g p ds R =
     let e : p + length a + length b ≡ p + length (a ++ b) = simp length-append (omega arith) in
     ap (walk_from p (d ∷ (os ++ ds))) (append_assoc a b R) ∙ f p (os ++ ds) (b ++ R) ∙ g (p + length a) ds R ∙ ap (λ (q : ℕ). walk_from q ds R) e
 
-row_asked : (d : Due) (k : ℕ) (z : ℤ) (m : ℕ) (a : List Row) → ((line : ℕ) → ask_row d k (as_natural z) line ≡ Told m) → Passes (operands_due d k (as_natural z) m) a → Passes (d ∷ []) ((k, z) ∷ a)
+row_asked : (d : Due) (k : ℕ) (z : ℤ) (m : ℕ) (a : List Row) → ((line : ℕ) → ask_row d k (as_natural z) line ≡ Ok m) → Passes (operands_due d k (as_natural z) m) a → Passes (d ∷ []) ((k, z) ∷ a)
 unfolding walk_from
 row_asked d k z m a h f p ds R =
     rw (h (suc p)) (f (suc p) ds R ∙ ap (λ (q : ℕ). walk_from q ds R) (omega arith))
 
 -- a row of a word with c operands that is in range and whose names fit
-pub row : (d : Due) (k : ℕ) (z : ℤ) (c : ℕ) (a : List Row) → operands_of k d.sort ≡ Count c → in_range d.sort d.names k (as_natural z) ≡ true → Bounded (opened_by k (as_natural z) d.names)
+pub row : (d : Due) (k : ℕ) (z : ℤ) (c : ℕ) (a : List Row) → operands_of k d.sort ≡ Some c → in_range d.sort d.names k (as_natural z) ≡ true → Bounded (opened_by k (as_natural z) d.names)
     → Passes (operands_due d k (as_natural z) (inputs_counted d.sort (as_natural z) + c)) a → Passes (d ∷ []) ((k, z) ∷ a)
 row d k z c a of r b f =
     row_asked d k z (inputs_counted d.sort (as_natural z) + c) a

@@ -10,5 +10,5 @@ returns c =
     let a = c.args in
     let rows-with = c.rows_with in
     subst (λ (ws : List (List ℕ)). TranslatesRows ws a.text.now a.kinds.now a.numbers.now rows-with.result rows-with.new.kinds rows-with.new.numbers)
-    c.built_in-table.ensures.words_in
+    c.built_in.ensures.words_in
     rows-with.ensures

@@ -1,12 +1,17 @@
 -- `translate::translate_rows_in` meets its contract: the words text is refused, or read into the table.
-use mathlib.Core.Path.{refl}
-use Rattle.own_words.specs.Laws.{under_read, under_refused}
+use Rattle.std.specs.Prelude.{Ok, Err}
+use mathlib.Core.Path.{◌≡◌, refl}
+use borrow.Author.Rules.{rules}
+use Rattle.own_words.specs.Laws.{under_read, under_unread}
 use Rattle.translate.proofs.translate_rows_in.Goals as goal
 
-pub returns-in_default : goal.returns-in_default
-returns-in_default c = under_refused c.read-read.ensures.answer c.in_default.is (c.in_default.is, refl, refl)
+pub returns-in_err-table : goal.returns-in_err-table
+returns-in_err-table c =
+    let no : c.read.result ≡ Err c.in_err-table.field-0.0 = search rules in
+    let gone : c.from_residual.result ≡ Err c.in_err-table.field-0.0 = search rules in
+    under_unread c.read.ensures no (gone, refl, refl)
 
 pub returns : goal.returns
 returns c =
-    under_read c.read-read.ensures c.in-Told.is
-    c.rows_with.ensures
+    let read : c.read.result ≡ Ok c.in_ok-table.table = search rules in
+    under_read c.read.ensures read c.rows_with.ensures

@@ -9,5 +9,5 @@ pub returns : goal.returns
 returns c =
     let a = c.args in
     let text-with = c.text_with in
-    subst (λ (ws : List (List ℕ)). TranslatesText ws a.text.now a.lent.now text-with.result text-with.new.lent) c.built_in-table.ensures.words_in
+    subst (λ (ws : List (List ℕ)). TranslatesText ws a.text.now a.lent.now text-with.result text-with.new.lent) c.built_in.ensures.words_in
     text-with.ensures

@@ -1,8 +1,7 @@
 -- The plan of a text that passes the check. Assumes nothing.
-use Rattle.std.specs.Prelude.{◌≡◌, refl, List, ℕ, ◌≤◌, length}
+use Rattle.std.specs.Prelude.{◌≡◌, refl, List, ℕ, ◌≤◌, length, Ok, Err}
+use Rattle.refusals.specs.Answers.{Answer}
 use Rattle.std.proofs.Common.{sym, ap, ◌∙◌, subst, arith}
-use Rattle.refusals.specs.declared.Answer.{Answer}
-use Rattle.refusals.specs.declared.Answer.TheVariants.{Told, Refused}
 use Rattle.words.specs.Kinds.{Row}
 use Rattle.words.specs.Words.{look_up}
 use Rattle.texts.specs.Texts.{lines_of}
@@ -20,15 +19,15 @@ use Rattle.typing.proofs.Laws.Texts.{read_within, rows_printable, printable_numb
 use Rattle.translate.specs.Entry.{plan_in}
 use Rattle.translate.specs.Accepted.{TextPlan}
 
-pub text_plan : (ws : List (List ℕ)) (t : List ℕ) (m : ℕ) → check_plan_text ws t ≡ Told m → TextPlan ws t (plan_in ws t)
+pub text_plan : (ws : List (List ℕ)) (t : List ℕ) (m : ℕ) → check_plan_text ws t ≡ Ok m → TextPlan ws t (plan_in ws t)
 text_plan ws t m e = go (reading (look_up ws) plan_limits t) refl
   where
     R : List Row
     R = rows_in (look_up ws) (lines_of t)
 
     go : (r : Answer) → reading (look_up ws) plan_limits t ≡ r → TextPlan ws t (plan_of R)
-    go (Refused q) f = passed_refused (sym e ∙ unread_text ws t q f)
-    go (Told k) f =
+    go (Err q) f = passed_refused (sym e ∙ unread_text ws t q f)
+    go (Ok k) f =
         let a = passed_rows R m (sym (read_text ws t k f) ∙ e) in
         let p = plan_tree R a.0 in
         let few : length (plan_rows (plan_of R)) ≤ 256 =

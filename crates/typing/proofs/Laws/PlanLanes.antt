@@ -1,17 +1,13 @@
 -- Rows that are walked as a plan's are never refused by [18.15]: no `lanes` row is of a plan's sorts. Assumes nothing.
-use Rattle.std.specs.Prelude.{◌≡◌, refl, Bool, true, false, cond, List, [], ◌∷◌, ◌++◌, ℕ, zero, suc, ◌+◌, eqb, leb}
+use Rattle.std.specs.Prelude.{◌≡◌, refl, Bool, true, false, cond, List, [], ◌∷◌, ◌++◌, ℕ, zero, suc, ◌+◌, eqb, leb, Err, Option, Some, None}
 use Rattle.std.proofs.Common.{sym, ap, ◌∙◌, arith, ne_eqb}
 use Rattle.refusals.specs.declared.Refusal.{Refusal}
 use Rattle.refusals.specs.declared.Refusal.TheVariants.{LineForm, LanesInside}
-use Rattle.refusals.specs.declared.Answer.{Answer}
-use Rattle.refusals.specs.declared.Answer.TheVariants.{Refused}
 use Rattle.refusals.specs.Refusals.{refusal_number}
-use Rattle.refusals.specs.Answers.{after}
+use Rattle.refusals.specs.Answers.{after, Answer}
 use Rattle.words.specs.Kinds.{Row, word_plan, word_redseq, word_loops, word_new, word_lanes}
 use Rattle.words.specs.Groups.{one_of, is_map, is_loop, is_listed}
 use Rattle.words.specs.Words.{table, operands_of}
-use Rattle.words.specs.declared.Operands.{Operands}
-use Rattle.words.specs.declared.Operands.TheVariants.{Count, NotOfSort}
 use Rattle.words.specs.declared.Sort.{Sort}
 use Rattle.words.specs.declared.Sort.TheVariants as sort
 use Rattle.syntax.specs.declared.names.Names.{Names}
@@ -45,7 +41,7 @@ abbrev AllDue : List Due → Type 0
 AllDue [] = Unit {0}
 AllDue (d ∷ ds) = PlanDue d × AllDue ds
 
-no_lanes_holds : (s : Sort) → of_plan s ≡ true → operands_of word_lanes s ≡ NotOfSort
+no_lanes_holds : (s : Sort) → of_plan s ≡ true → operands_of word_lanes s ≡ None
 unfolding operands_of table
 no_lanes_holds sort.Plan h = refl
 no_lanes_holds sort.DataType h = refl
@@ -98,10 +94,10 @@ unfolding operands_due
 operands_due_holds d k n zero ds h f rest = rest
 operands_due_holds d k n (suc m) ds h f rest = (operand_due d k n (eqb (suc m) 1) h f, operands_due_holds d k n m ds h f rest)
 
-other : {q : Refusal} {l : ℕ} → (refusal_number q ≡ 18 → ⊥) → Refused q ≡ Refused (LanesInside l) → ⊥
+other : {q : Refusal} {l : ℕ} → (refusal_number q ≡ 18 → ⊥) → ◌≡◌ {A = Answer} (Err q) (Err (LanesInside l)) → ⊥
 other {q} {l} f e = let same : q ≡ LanesInside l = cc in f (ap refusal_number same)
 
-walk_apart : (R : List Row) (p : ℕ) (ds : List Due) → AllDue ds → (l : ℕ) → walk_from p ds R ≡ Refused (LanesInside l) → ⊥
+walk_apart : (R : List Row) (p : ℕ) (ds : List Due) → AllDue ds → (l : ℕ) → walk_from p ds R ≡ Err (LanesInside l) → ⊥
 unfolding walk_from ask_row
 walk_apart [] p [] h l e = passed_refused e
 walk_apart [] p (d ∷ ds) h l e = other (λ x. omega arith) e
@@ -114,37 +110,37 @@ walk_apart (r ∷ rs) p (d ∷ ds) h l e =
     dues : ℕ → List Due
     dues m = operands_due d r.0 (as_natural r.1) m ++ ds
 
-    listed : {m : ℕ} → operands_of r.0 d.sort ≡ Count m → r.0 ≡ word_lanes → ⊥
+    listed : {m : ℕ} → operands_of r.0 d.sort ≡ Some m → r.0 ≡ word_lanes → ⊥
     listed {m} q k =
-        let clash : Count m ≡ NotOfSort = sym q ∙ ap (λ (x : ℕ). operands_of x d.sort) k ∙ no_lanes_holds d.sort h.0.0 in
+        let clash : Some m ≡ None = sym q ∙ ap (λ (x : ℕ). operands_of x d.sort) k ∙ no_lanes_holds d.sort h.0.0 in
         let never' : ◌≡◌ {A = ℕ} 0 1 = cc in omega arith
 
-    go : (o : Operands) → operands_of r.0 d.sort ≡ o → (ranged fit apart : Bool)
+    go : (o : Option ℕ) → operands_of r.0 d.sort ≡ o → (ranged fit apart : Bool)
         → lanes_fit (opened_by r.0 (as_natural r.1) d.names) ≡ apart
-        → ((m : ℕ) → AllDue (dues m) → walk_from (suc p) (dues m) rs ≡ Refused (LanesInside l) → ⊥)
+        → ((m : ℕ) → AllDue (dues m) → walk_from (suc p) (dues m) rs ≡ Err (LanesInside l) → ⊥)
         → after (first_no o ranged fit apart (inputs_counted d.sort (as_natural r.1)) (suc p)) (λ m. walk_from (suc p) (dues m) rs)
-        ≡ Refused (LanesInside l)
+        ≡ Err (LanesInside l)
         → ⊥
-    go NotOfSort q ranged fit apart a next e = other (λ x. omega arith) e
-    go (Count m) q false fit apart a next e = other (λ x. omega arith) e
-    go (Count m) q true false apart a next e = other (λ x. omega arith) e
-    go (Count m) q true true false a next e =
+    go None q ranged fit apart a next e = other (λ x. omega arith) e
+    go (Some m) q false fit apart a next e = other (λ x. omega arith) e
+    go (Some m) q true false apart a next e = other (λ x. omega arith) e
+    go (Some m) q true true false a next e =
         let none : (opened_by r.0 (as_natural r.1) d.names).lanes ≡ 0 = lanes_kept r.0 (as_natural r.1) d.names (listed q) ∙ h.0.1 in
         never (sym a ∙ ap (λ (x : ℕ). leb x 1) none)
-    go (Count m) q true true true a next e =
+    go (Some m) q true true true a next e =
         next (inputs_counted d.sort (as_natural r.1) + m) (operands_due_holds d r.0 (as_natural r.1) _ ds h.0 (listed q) h.1) e
 
-listed_apart : (R : List Row) (p : ℕ) (next : Answer) (l : ℕ) → (next ≡ Refused (LanesInside l) → ⊥)
-    → listed_from p R next ≡ Refused (LanesInside l) → ⊥
+listed_apart : (R : List Row) (p : ℕ) (next : Answer) (l : ℕ) → (next ≡ Err (LanesInside l) → ⊥)
+    → listed_from p R next ≡ Err (LanesInside l) → ⊥
 unfolding listed_from
 listed_apart [] p next l f e = f e
 listed_apart (r ∷ rs) p next l f e = go (is_listed r.0) (listed_apart rs (suc p) next l f) e
   where
-    go : (b : Bool) → (listed_from (suc p) rs next ≡ Refused (LanesInside l) → ⊥)
-        → cond b (listed_from (suc p) rs next) (Refused (LineForm (suc p))) ≡ Refused (LanesInside l) → ⊥
+    go : (b : Bool) → (listed_from (suc p) rs next ≡ Err (LanesInside l) → ⊥)
+        → cond b (listed_from (suc p) rs next) (Err (LineForm (suc p))) ≡ Err (LanesInside l) → ⊥
     go true rest e = rest e
     go false rest e = other (λ x. omega arith) e
 
-pub plan_apart : (R : List Row) (l : ℕ) → walk_table sort.Plan R ≡ Refused (LanesInside l) → ⊥
+pub plan_apart : (R : List Row) (l : ℕ) → walk_table sort.Plan R ≡ Err (LanesInside l) → ⊥
 unfolding walk_table
 plan_apart R l e = listed_apart R 0 _ l (walk_apart R 0 (due sort.Plan no_names ∷ []) ((refl, refl), tt) l) e

@@ -1,10 +1,8 @@
 -- Rows: which are accepted. Assumes nothing.
-use Rattle.std.specs.Prelude.{◌≡◌, refl, List, ℕ, ◌≤◌, length}
+use Rattle.std.specs.Prelude.{◌≡◌, refl, List, ℕ, ◌≤◌, length, Ok, Err}
 use Rattle.std.proofs.Common.{sym, ap, ◌∙◌, subst}
 use Rattle.refusals.specs.declared.Refusal.{Refusal}
-use Rattle.refusals.specs.declared.Answer.{Answer}
-use Rattle.refusals.specs.declared.Answer.TheVariants.{Told, Refused}
-use Rattle.refusals.specs.Answers.{after}
+use Rattle.refusals.specs.Answers.{after, Answer}
 use Rattle.words.specs.Kinds.{Row}
 use Rattle.words.specs.declared.Sort.TheVariants as sort
 use Rattle.meaning.specs.Types.{DataType}
@@ -26,24 +24,24 @@ pub walked_rows : (R : List Row) → WalksWell sort.Plan R → check_plan_rows R
 unfolding check_plan_rows
 walked_rows R w = ap (λ (a : Answer). after a (λ n. answered n (check_plan (plan_of R)))) w
 
-pub unwalked_rows : (R : List Row) (q : Refusal) → walk_table sort.Plan R ≡ Refused q → check_plan_rows R ≡ Refused q
+pub unwalked_rows : (R : List Row) (q : Refusal) → walk_table sort.Plan R ≡ Err q → check_plan_rows R ≡ Err q
 unfolding check_plan_rows
 unwalked_rows R q w = ap (λ (a : Answer). after a (λ n. answered n (check_plan (plan_of R)))) w
 
 -- a table walks well or is refused
-pub by_walk : {A : Type 0} (R : List Row) → (WalksWell sort.Plan R → A) → ((q : Refusal) → walk_table sort.Plan R ≡ Refused q → A) → A
+pub by_walk : {A : Type 0} (R : List Row) → (WalksWell sort.Plan R → A) → ((q : Refusal) → walk_table sort.Plan R ≡ Err q → A) → A
 by_walk {A} R well ill = go (walk_table sort.Plan R) refl
   where
     go : (a : Answer) → walk_table sort.Plan R ≡ a → A
-    go (Told m) e = well (all_passed sort.Plan R m e)
-    go (Refused q) e = ill q e
+    go (Ok m) e = well (all_passed sort.Plan R m e)
+    go (Err q) e = ill q e
 
-answered_passed : (n m : ℕ) (v : Verdict) → answered n v ≡ Told m → (t : DataType) × (v ≡ typed t) × (n ≡ m)
+answered_passed : (n m : ℕ) (v : Verdict) → answered n v ≡ Ok m → (t : DataType) × (v ≡ typed t) × (n ≡ m)
 answered_passed n m (typed t) e = (t, refl, cc)
 answered_passed n m (refused q) e = passed_refused (sym e)
 
 -- what passes has walked well, and its plan has a type
-pub passed_rows : (R : List Row) (m : ℕ) → check_plan_rows R ≡ Told m
+pub passed_rows : (R : List Row) (m : ℕ) → check_plan_rows R ≡ Ok m
     → WalksWell sort.Plan R × (length R ≡ m) × ((t : DataType) × (check_plan (plan_of R) ≡ typed t))
 passed_rows R m e =
     by_walk R
@@ -52,7 +50,7 @@ passed_rows R m e =
 
 -- ---- accepted
 
-pub accepted_rows : (R : List Row) → length R ≤ 256 → check_plan_rows R ≡ Told (length R) → AcceptedRows R
+pub accepted_rows : (R : List Row) → length R ≤ 256 → check_plan_rows R ≡ Ok (length R) → AcceptedRows R
 accepted_rows R few e =
     let a = passed_rows R (length R) e in
     let p = plan_tree R a.0 in
@@ -64,7 +62,7 @@ accepted_rows R few e =
       only = λ Q f. plan_unique Q (plan_of R) (sym f ∙ p.1);
     }
 
-pub admitted_rows : (P : Plan) → Admitted P → check_plan_rows (plan_rows P) ≡ Told (length (plan_rows P))
+pub admitted_rows : (P : Plan) → Admitted P → check_plan_rows (plan_rows P) ≡ Ok (length (plan_rows P))
 admitted_rows P a =
     walked_rows (plan_rows P) ((plan_walks (plan_rows P)).1 (P, a.in_range_holds, refl))
     ∙ ap (λ (Q : Plan). answered (length (plan_rows P)) (check_plan Q)) (plan_read P)

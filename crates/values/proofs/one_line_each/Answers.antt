@@ -1,53 +1,36 @@
-use mathlib.Core.Path.{refl}
-use native.Mathlib.Omega.{arith}
-use borrow.Author.Rules.{rules}
+use Rattle.std.proofs.Common.{◌≡◌, arith, false, length-set, refl, ◌∙◌}
+use Rattle.values.specs.Values.{one_line_each}
 use Rattle.values.proofs.Seen.{nothing_seen, uneven, other_cell, cell_twice, cell_once, all_once}
 use Rattle.values.proofs.one_line_each.Goals as goal
+use Rattle.values.proofs.one_line_each.Goals.{then-count-place-via-then-count-place, then-count-place-via-else-count-place+then-seen-place}
 
 pub returns-then-cells-count : goal.returns-then-cells-count
 returns-then-cells-count c = uneven c.args.count c.args.cells.now c.if-cells-count.true
 
-pub loop-line-init : goal.loop-line-init
-loop-line-init c =
-    let a = c.args in
-    (c.if-cells-count.false, refl, nothing_seen a.count 16384 (omega (arith, c.if-cells-count.false, c.requires)))
+pub loop-cell-init : goal.loop-cell-init
+loop-cell-init c = (c.if-cells-count.false, refl, nothing_seen c.args.count 16384 (omega arith))
 
-pub returns-then-count-cell : goal.returns-then-count-cell
-returns-then-count-cell c =
-    let a = c.args in
-    let turn = c.loop-line in
-    let place = c.place-cell in
-    other_cell a.count a.cells.now turn.line place.result
-    (omega (arith, turn.invariant.0, c.loop-line-test.true)) place.ensures
-    (omega (arith, c.if-count-cell.true, turn.invariant.0, c.requires))
+pub returns-then-count-place : goal.returns-then-count-place
+returns-then-count-place c =
+    let n = c.args.count in
+    let cells = c.args.cells.now in
+    let turn = c.loop-cell in
+    elim c.then-count-place.branch as (λ _. false ≡ one_line_each n cells) [
+      | then-count-place-via-then-count-place w ↦ other_cell n cells turn.cell-index _ c.loop-cell-test.true refl w.if-count-place.true
+      | then-count-place-via-else-count-place+then-seen-place w ↦
+          cell_twice n cells turn.cell-index _ c.loop-cell-test.true refl turn.seen turn.invariant.2 w.if-count-place.false w.if-seen-place.true
+    ]
 
-pub returns-then-seen-cell : goal.returns-then-seen-cell
-returns-then-seen-cell c =
-    let a = c.args in
-    let turn = c.loop-line in
-    let place = c.place-cell in
-    cell_twice a.count a.cells.now turn.line place.result
-    (omega (arith, turn.invariant.0, c.loop-line-test.true)) place.ensures
-    turn.seen turn.invariant.2 (omega (arith, c.if-count-cell.false)) c.if-seen-cell.true
-
-pub loop-line-preserved : goal.loop-line-preserved
-loop-line-preserved c =
-    let a = c.args in
-    let turn = c.loop-line in
-    let place = c.place-cell in
-    let inside = c.if-count-cell.false in (
+pub loop-cell-preserved : goal.loop-cell-preserved
+loop-cell-preserved c =
+    let turn = c.loop-cell in (
       turn.invariant.0,
-      search rules,
-      cell_once a.count a.cells.now turn.line place.result (omega (
-        arith,
-        turn.invariant.0,
-        c.loop-line-test.true,
-      )) place.ensures turn.seen
-          turn.invariant.2 inside (omega (arith, inside, turn.invariant.0, turn.invariant.1, c.requires)) c.if-seen-cell.false,
+      length-set turn.seen _ _ ∙ turn.invariant.1,
+      cell_once c.args.count c.args.cells.now turn.cell-index _ c.loop-cell-test.true refl turn.seen turn.invariant.2 c.if-count-place.false
+          (omega arith) c.if-seen-place.false,
     )
 
 pub returns : goal.returns
 returns c =
-    let a = c.args in
-    let turn = c.loop-line in
-    all_once a.count a.cells.now turn.line turn.seen turn.invariant.0 c.loop-line-test.false turn.invariant.2
+    let turn = c.loop-cell in
+    all_once c.args.count c.args.cells.now turn.cell-index turn.seen turn.invariant.0 (omega arith) turn.invariant.2

@@ -1,37 +1,25 @@
-use mathlib.Core.Path.{refl, ◌∙◌}
-use Prim.Native.Nat.{◌+◌}
+-- `columns::names::closed` meets its contract: what is left begins at the first row that is open.
+use mathlib.Core.Path.{sym, ap, ◌∙◌}
 use native.Mathlib.Omega.{arith}
+use lib.ListN.{length, drop, drop_of_length-le}
+use lib.Seq.{drop-drop}
+use Rattle.syntax.proofs.Front.{part, part_all, part_length}
+use Rattle.columns.specs.Names.{closing}
 use Rattle.columns.proofs.Stacks as stacks
 use Rattle.columns.proofs.names.closed.Goals as goal
 
-pub loop-t-init : goal.loop-t-init
-loop-t-init c = (omega arith, c.requires, refl)
-
-pub returns-then-q-row_at : goal.returns-then-q-row_at
-returns-then-q-row_at c =
+pub returns-in-Some : goal.returns-in-Some
+returns-in-Some c =
     let a = c.args in
-    let turn = c.loop-t in
+    let all = part_all a.top a.stack.now in
+    let at = stacks.close_some a.ends.now (part a.top a.stack.now) a.q c.in-Some.place c.in-Some.ensures in
     record {
-      bound = (turn.invariant.0, turn.invariant.1);
-      result = stacks.close_stops a.ends.now a.stack.now a.q turn.t _ _ c.loop-t-test.true
-          c.row_at-row.ensures.0 c.row_at.ensures.0 c.if-q-row_at.true
-          ∙ turn.invariant.2;
+      bound = (omega arith, omega (arith, at.0, part_length a.top a.stack.now));
+      result = sym (drop-drop c.in-Some.place a.top a.stack.now) ∙ ap (drop c.in-Some.place) (sym all) ∙ at.1 ∙ ap (closing a.ends.now a.q) all;
     }
 
-pub loop-t-preserved : goal.loop-t-preserved
-loop-t-preserved c =
+pub returns-in-None-clause-result : goal.returns-in-None-clause-result
+returns-in-None-clause-result c =
     let a = c.args in
-    let turn = c.loop-t in
-    let test = c.loop-t-test.true in (
-      omega (arith, turn.invariant.0),
-      omega (arith, test),
-      stacks.close_on a.ends.now a.stack.now a.q turn.t (turn.t + 1) _ _ test c.row_at-row.ensures.0
-          c.row_at.ensures.0 (omega (arith, c.if-q-row_at.false)) (omega arith)
-          ∙ turn.invariant.2,
-    )
-
-pub returns : goal.returns
-returns c =
-    let a = c.args in
-    let turn = c.loop-t in
-    record { bound = (turn.invariant.0, turn.invariant.1); result = stacks.close_empty a.ends.now a.stack.now a.q turn.t (omega (arith, c.loop-t-test.false)) ∙ turn.invariant.2 }
+    drop_of_length-le a.stack.now {i = length a.stack.now} (omega arith) ∙ stacks.close_none a.ends.now (part a.top a.stack.now) a.q c.in-None.ensures
+    ∙ ap (closing a.ends.now a.q) (part_all a.top a.stack.now)

@@ -3,7 +3,4 @@ use Rattle.emission.specs.Laws.Assign.{set_rows, no_changes}
 use Rattle.emission.proofs.assign.put_set.Goals as goal
 
 pub returns : goal.returns
-returns c =
-    let at-put-count = c.put_count-place in
-    set_rows _ _ _ _ _ _ _ _ _ _ (no_changes _) (no_changes _) at-put-count.ensures c.put_place-next.ensures.rows
-    c.put_value.ensures.rows
+returns c = set_rows _ _ _ _ _ _ _ _ _ _ (no_changes _) (no_changes _) c.put_count.ensures c.put_place.ensures c.put_value.ensures.rows

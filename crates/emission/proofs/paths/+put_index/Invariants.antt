@@ -1,5 +1,5 @@
--- `put_index` meets its contract: the rows of what was found at the step are those of the index there.
+-- `put_index` meets its contract: an index made of others names a smaller depth.
 use Rattle.emission.proofs.paths.+put_index.Given as goal
 
 abbrev pub decreases-put_index : goal.decreases-put_index
-decreases-put_index l = l.depth
+decreases-put_index l = l.path.depth

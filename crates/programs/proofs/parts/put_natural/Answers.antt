@@ -14,6 +14,6 @@ returns c =
     let put-natural = c.put_natural in
     let d = decimal (pos a.value) in (
       omega (arith, natural-size.ensures.0, length-append d (a.closing ∷ [])),
-      number_put d a.closing a.text.now a.at natural-size.result natural-size.ensures.0 put-natural.ensures c.put_u8.ensures,
+      number_put d a.closing a.text.now a.at natural-size.result natural-size.ensures.0 put-natural.ensures c.put.ensures,
       omega arith,
     )

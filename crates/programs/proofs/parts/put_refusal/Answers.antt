@@ -1,57 +1,29 @@
 -- `put_refusal` meets its contract: the parts of the line one after the other, where they fit.
-use mathlib.Core.Path.{◌∙◌}
-use native.Mathlib.Omega.{arith}
+use Rattle.std.proofs.Common.{arith}
+use Rattle.words.specs.Words.{bytes}
 use Rattle.programs.specs.Printed.{refusal_text}
-use Rattle.programs.proofs.Putting.{put_all, put_none, refusal_sizes, refusal_put}
+use Rattle.programs.proofs.Putting.{put_all, put_none, front_copied, refusal_sizes, refusal_put}
 use Rattle.programs.proofs.parts.put_refusal.Goals as goal
 
 pub returns-then-text-size : goal.returns-then-text-size
 returns-then-text-size c =
-    let args = c.args in
-    let refusal-size = c.refusal_size-size in (
-      put_none (refusal_text args.refusal) args.text.now (omega (arith, refusal-size.ensures.0)),
-      omega (arith, refusal-size.ensures.0, refusal-size.ensures.1),
-    )
-
-pub put_natural-comma-requires : goal.put_natural-comma-requires
-put_natural-comma-requires c =
-    let args = c.args in
-    let number = c.number-number in
-    let line = c.line-line in
-    let if1 = c.if-text-size in
-    let refusal-size = c.refusal_size-size in
-    let s = refusal_sizes args.refusal number.result line.result number.ensures line.ensures in
-    omega (arith, c.put_bytes.auto.text, if1.false, refusal-size.ensures.0, s.0)
+    (put_none (refusal_text c.args.refusal) c.args.text.now (omega (arith, c.refusal_size-size.ensures.0)), omega arith)
 
 pub put_natural-requires : goal.put_natural-requires
 put_natural-requires c =
-    let args = c.args in
-    let number = c.number-number in
-    let line = c.line-line in
-    let put-natural = c.put_natural-comma in
-    let put_bytes = c.put_bytes in
-    let if1 = c.if-text-size in
-    let refusal-size = c.refusal_size-size in
-    let s = refusal_sizes args.refusal number.result line.result number.ensures line.ensures in
-    omega (arith, put-natural.auto.text, put-natural.ensures.0, put_bytes.auto.text, if1.false, refusal-size.ensures.0, s.0)
-
-pub shape_of-text : goal.shape_of-text
-shape_of-text c =
-    let put-natural = c.put_natural-comma in
-    let put_bytes = c.put_bytes in
-    c.put_natural.auto.text ∙ put-natural.auto.text ∙ put_bytes.auto.text
+    let s = refusal_sizes c.args.refusal c.number-number.result c.line-line.result c.number-number.ensures c.line-line.ensures in
+    omega (arith, s.0)
 
 pub returns : goal.returns
 returns c =
+    let q = c.args.refusal in
+    let t = c.args.text.now in
     let size = c.refusal_size-size in
-    let args = c.args in
-    let if1 = c.if-text-size in
     let number = c.number-number in
     let line = c.line-line in
-    let put-natural = c.put_natural-comma in
-    let put_bytes = c.put_bytes in (
-      put_all (refusal_text args.refusal) args.text.now size.result size.ensures.0 if1.false
-          (refusal_put args.refusal number.result line.result number.ensures line.ensures args.text.now
-          put-natural.result put_bytes.ensures put-natural.ensures.0 put-natural.ensures.1 c.put_natural.ensures.1),
-      omega (arith, size.ensures.0, size.ensures.1),
+    let comma = c.put_natural-comma in (
+      put_all (refusal_text q) t size.result size.ensures.0 c.if-text-size.false
+          (refusal_put q number.result line.result number.ensures line.ensures t comma.result
+          (front_copied (bytes "no,") t c.copy_from_slice.ensures.after (omega arith)) comma.ensures.0 comma.ensures.1 c.put_natural.ensures.1),
+      omega arith,
     )

@@ -8,4 +8,4 @@ returns c =
     let number = c.number-number in
     let line = c.line-line in
     let s = refusal_sizes c.args.refusal number.result line.result number.ensures line.ensures in
-    (omega (arith, s.0, s.1, s.2), omega arith)
+    (omega (arith, s.0, s.1, s.2), omega arith, omega arith)

@@ -28,5 +28,5 @@ returns c =
     let as_read = to_z-of_z fits.value in
     let size = c.size.ensures.value ∙ ap (λ (z : ℤ). length (decimal z)) as_read in
     let p = cell_put a.cell a.value a.text.now a.at put-natural.result c.size.result put-natural.ensures.1 put-natural.ensures.0 size
-    (put.ensures ∙ ap (λ (z : ℤ). sets put-natural.new.text put-natural.result (decimal z)) as_read) c.put_u8.ensures in
+    (put.ensures ∙ ap (λ (z : ℤ). sets put-natural.new.text put-natural.result (decimal z)) as_read) c.put-2.ensures in
     (p.0, omega (arith, size, c.size.ensures.upper_bound), p.1)

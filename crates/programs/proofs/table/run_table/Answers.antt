@@ -1,47 +1,51 @@
 -- `run_table` meets its contract: the check's answer, then question 14, then the values and the run.
-use Rattle.refusals.specs.declared.Refusal.TheVariants.{StoreSize}
+use Rattle.std.specs.Prelude.{Err, Ok}
+use Rattle.std.proofs.Common.{◌≡◌, ◌∙◌, refl, rules, subst, sym}
+use Rattle.refusals.specs.Answers.{Answer}
 use Rattle.words.specs.Kinds.{rows_of}
 use Rattle.syntax.specs.Reading.{loops_of}
+use Rattle.loops.specs.Check.{check_table}
+use Rattle.run.specs.Run.{Ran}
+use Rattle.programs.specs.Runner.{print_checked}
+use Rattle.programs.specs.Parts.{RunsInto}
 use Rattle.programs.proofs.Outcomes as outcomes
 use Rattle.programs.proofs.table.run_table.Goals as goal
 
-pub returns-then-store-need : goal.returns-then-store-need
-returns-then-store-need c =
+pub layout_of-layout-requires : goal.layout_of-layout-requires
+layout_of-layout-requires c =
     let a = c.args in
-    let check_table_holds = c.check_table-checked in
-    let if1 = c.if-store-need in
-    let put-refusal2 = c.put_refusal-then-store-need in
-    let pre = c.requires in
-    outcomes.store_short a.values.now a.kinds.now a.numbers.now a.store.now check_table_holds.result check_table_holds.ensures
-    c.in-Passes.writes c.in-Passes.need c.in-Passes.is if1.true
-    (outcomes.refusal_into (loops_of (rows_of a.kinds.now a.numbers.now)) StoreSize a.store.now put-refusal2.ensures.0 put-refusal2.ensures.1 pre.2)
+    outcomes.ready a.values.now a.kinds.now a.numbers.now a.store.now c.check_table.ensures c.in_ok-counted.was c.requires.0 c.requires.1 c.if-store-counted.false
 
-pub run_passing-requires : goal.run_passing-requires
-run_passing-requires c =
+pub returns-in_err-fill_inputs : goal.returns-in_err-fill_inputs
+returns-in_err-fill_inputs c =
     let a = c.args in
-    let check_table_holds = c.check_table-checked in
-    let pre = c.requires in
-    let if1 = c.if-store-need in (
-      outcomes.ready a.values.now a.kinds.now a.numbers.now a.store.now check_table_holds.result check_table_holds.ensures
-          c.in-Passes.writes c.in-Passes.need c.in-Passes.is pre.0 pre.1 if1.false,
-      pre.2,
+    let L = loops_of (rows_of a.kinds.now a.numbers.now) in
+    let x = print_checked (check_table (rows_of a.kinds.now a.numbers.now)) a.values.now L a.store.now in
+    let s = c.fill_inputs.new.store in
+    let layout = c.layout_of-layout in
+    let gone : c.from_residual-in_err-fill_inputs.result ≡ Err c.in_err-fill_inputs.field-0.0 = search rules in
+    subst (λ (r : Answer). RunsInto L x a.lent.now r s a.lent.now) (sym gone) (
+      outcomes.passing_run a.values.now a.kinds.now a.numbers.now a.store.now c.check_table.ensures c.in_ok-counted.was c.if-store-counted.false
+          ∙ outcomes.values_refused a.values.now L a.store.now s layout.result.inputs layout.result.output layout.ensures c.fill_inputs.ensures c.in_err-fill_inputs.was,
+      refl,
     )
 
-pub returns-in-Refused : goal.returns-in-Refused
-returns-in-Refused c =
-    let a = c.args in
-    let check_table_holds = c.check_table-checked in
-    let put-refusal = c.put_refusal in
-    let pre = c.requires in
-    outcomes.check_refused a.values.now a.kinds.now a.numbers.now a.store.now check_table_holds.result check_table_holds.ensures _
-    c.in-Refused.is
-    (outcomes.refusal_into (loops_of (rows_of a.kinds.now a.numbers.now)) _ a.store.now put-refusal.ensures.0 put-refusal.ensures.1 pre.2)
+pub print_run-requires : goal.print_run-requires
+print_run-requires c =
+    let a = c.args in (
+      outcomes.ready_same a.kinds.now a.numbers.now _ _ c.fill_inputs.auto.store
+          (outcomes.ready a.values.now a.kinds.now a.numbers.now a.store.now c.check_table.ensures c.in_ok-counted.was c.requires.0 c.requires.1 c.if-store-counted.false),
+      c.layout_of-layout.ensures,
+      c.requires.2,
+    )
 
-pub returns-else-store-need : goal.returns-else-store-need
-returns-else-store-need c =
+pub returns : goal.returns
+returns c =
     let a = c.args in
-    let check_table_holds = c.check_table-checked in
-    let if1 = c.if-store-need in
-    let run-passing = c.run_passing in
-    outcomes.passing_run a.values.now a.kinds.now a.numbers.now a.store.now check_table_holds.result check_table_holds.ensures
-    c.in-Passes.writes c.in-Passes.need c.in-Passes.is if1.false run-passing.ensures
+    let L = loops_of (rows_of a.kinds.now a.numbers.now) in
+    let run = c.print_run in
+    let layout = c.layout_of-layout in
+    subst (λ (x : Ran). RunsInto L x a.lent.now (Ok run.result) run.new.store run.new.lent)
+    (sym (outcomes.passing_run a.values.now a.kinds.now a.numbers.now a.store.now c.check_table.ensures c.in_ok-counted.was c.if-store-counted.false
+    ∙ outcomes.values_held a.values.now L a.store.now c.fill_inputs.new.store layout.result.inputs layout.result.output layout.ensures c.fill_inputs.ensures c.in_ok-fill_inputs.was))
+    run.ensures

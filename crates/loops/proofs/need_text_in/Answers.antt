@@ -1,9 +1,0 @@
--- `loops::need_text_in` meets its contract: the words text is refused, or read into the table.
-use Rattle.own_words.specs.Laws.{under_read, under_refused}
-use Rattle.loops.proofs.need_text_in.Goals as goal
-
-pub returns-in_default : goal.returns-in_default
-returns-in_default c = under_refused c.read-read.ensures.answer c.in_default.is c.in_default.is
-
-pub returns : goal.returns
-returns c = under_read c.read-read.ensures c.in-Told.is c.need_with.ensures

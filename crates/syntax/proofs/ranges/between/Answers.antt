@@ -1,9 +1,0 @@
--- `syntax::ranges::between` meets its contract: its two tests are those of the two comparisons.
-use borrow.Author.Tests.{le-leb, lt-leb}
-use Rattle.syntax.proofs.ranges.between.Goals as goal
-
-pub returns-then-number-least : goal.returns-then-number-least
-returns-then-number-least c = simp (lt-leb _ _ c.if-number-least.true)
-
-pub returns : goal.returns
-returns c = simp (le-leb _ _ c.if-number-least.false)
