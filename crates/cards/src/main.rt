@@ -68,17 +68,10 @@ fn run_only<R: Files + Print>(rt: &R) -> io::Result<()> {
     check_card(rt, "9 levels", "9-levels.plan")
 }
 
-// The bytes of a plan's file; none where it cannot be opened.
-fn read_plan<R: Files>(rt: &R, path: &str, text: &mut [u8; 4097]) -> usize
-    ensures { (result ≤ length text.new) × (result ≡ length (take result text.new)) }
-{
-    files::read(rt, path, text).unwrap_or(0)
-}
-
 // The check of a plan.
 fn check_card<R: Files + Print>(rt: &R, name: &str, path: &str) -> io::Result<()> {
     let mut plan = [0u8; 4097];
-    let size = read_plan(rt, path, &mut plan);
+    let size = files::read_if_there(rt, path, &mut plan);
     let checked = plans::check_text(&plan[..size]);
     print!(rt; "{name}")?;
     match checked {
@@ -92,7 +85,7 @@ fn make_loops<R: Files>(rt: &R, path: &str, text: &mut [u8; 65536]) -> usize
     ensures { (result ≤ length text.new) × (result ≡ length (take result text.new)) }
 {
     let mut plan = [0u8; 4097];
-    let size = read_plan(rt, path, &mut plan);
+    let size = files::read_if_there(rt, path, &mut plan);
     let made = translate::translate_text(&plan[..size], text);
     front(text, made.unwrap_or(0))
 }
@@ -138,13 +131,14 @@ fn run_card<R: Files + Print>(
 ) -> io::Result<()> {
     let mut text = [0u8; 65536];
     let size = make_loops(rt, path, &mut text);
-    run_order(rt, name, &text[..size], 0, store, first, count)?;
-    run_order(rt, name, &text[..size], 1, store, first, count)?;
-    run_order(rt, name, &text[..size], 2, store, first, count)
+    for order in 0..3 {
+        run_order(rt, name, &text[..size], order, store, first, count)?;
+    }
+    Ok(())
 }
 
 // The run in one order.
-// Seven parameters: a struct of some would be made for two calls alone.
+// Seven parameters: the card's name, what is run, in which order, on what, and which cells are shown.
 fn run_order<P: Print>(
     rt: &P,
     name: &str,

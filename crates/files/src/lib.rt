@@ -17,6 +17,13 @@ pub fn read<R: Files>(rt: &R, path: &str, text: &mut [u8]) -> Option<usize>
     Some(bytes)
 }
 
+// The same for who does not tell a file that cannot be opened from an empty one: how many bytes were put, 0 where it cannot be opened.
+pub fn read_if_there<R: Files>(rt: &R, path: &str, text: &mut [u8]) -> usize
+    ensures { (result ≤ length text.new) × (result ≡ length (take result text.new)) }
+{
+    read(rt, path, text).unwrap_or(0)
+}
+
 // Reads to the end, or as far as the lent text has room, or until reading fails: how many bytes were put at its front. Each read says how
 // far it came, so the bytes are counted by hand.
 pub fn fill<S: io::Read>(source: &mut S, text: &mut [u8]) -> usize

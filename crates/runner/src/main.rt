@@ -13,7 +13,7 @@ fn main(rt: HostRuntime) {
     let mut loops = [0u8; 65537];
     let mut values = [0u8; 65537];
     let own = files::read(&rt, "words.txt", &mut words);
-    let loops_size = read_file(&rt, "loops.txt", &mut loops);
+    let loops_size = files::read_if_there(&rt, "loops.txt", &mut loops);
     let values_size = read_values(&rt, &loops[..loops_size], &mut values);
     let mut store = [0i32; 16384];
     // [13.17] Room for the longest output.
@@ -36,13 +36,6 @@ fn main(rt: HostRuntime) {
     files::print(&rt, put, &text);
 }
 
-// [11.2] The bytes of a file; none where it cannot be opened.
-fn read_file<R: Files>(rt: &R, path: &str, text: &mut [u8; 65537]) -> usize
-    ensures { (result ≤ length text.new) × (result ≡ length (take result text.new)) }
-{
-    files::read(rt, path, text).unwrap_or(0)
-}
-
 // The bytes of the values file, where these loops want it read.
 fn read_values<R: Files>(rt: &R, loops: &[u8], text: &mut [u8; 65537]) -> usize
     ensures { (result ≤ length text.new) × (result ≡ length (take result text.new)) }
@@ -50,5 +43,5 @@ fn read_values<R: Files>(rt: &R, loops: &[u8], text: &mut [u8; 65537]) -> usize
     if !programs::reads_values(loops) {
         return 0;
     }
-    read_file(rt, "values.txt", text)
+    files::read_if_there(rt, "values.txt", text)
 }
