@@ -1,4 +1,5 @@
 // Arithmetic on cells, [4.1] to [4.5]: the exact result, clamped to 32 bits. Every public function answers every input.
+// `add`, `sub` and `mul` make it in 64 bits, by one operation and one clamping: the library's saturating product is made twice.
 #![tactic(auto)]
 
 ghost use Rattle.std.specs.Prelude.{◌≡◌, true, ◌≤◌, ◌^◌, pos, nat_abs};
@@ -14,19 +15,19 @@ pub fn clamp(z: i64) -> i32
 pub fn add(x: i32, y: i32) -> i32
     ensures { result ≡ sum x y }
 {
-    x.saturating_add(y)
+    clamp(x as i64 + y as i64)
 }
 
 pub fn sub(x: i32, y: i32) -> i32
     ensures { result ≡ difference x y }
 {
-    x.saturating_sub(y)
+    clamp(x as i64 - y as i64)
 }
 
 pub fn mul(x: i32, y: i32) -> i32
     ensures { result ≡ product x y }
 {
-    x.saturating_mul(y)
+    clamp(x as i64 * y as i64)
 }
 
 pub fn neg(x: i32) -> i32

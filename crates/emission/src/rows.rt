@@ -10,17 +10,18 @@ use std::marker::Model;
 use words::kinds::WORD_PLUS;
 
 // The most rows that a table holds.
-const MOST_ROWS: usize = 4096;
+pub const MOST_ROWS: usize = 4096;
 
 // The end of a table that was given more.
-const TOO_MANY_ROWS: usize = 4097;
+pub const TOO_MANY_ROWS: usize = 4097;
 
-// The kinds and the numbers of the rows put so far, and where the next row goes. It is 20 KiB: it is made once and lent.
+// The kinds and the numbers of the rows put so far, and where the next row goes: any two arrays and any end. It is 20 KiB: it is made once
+// and lent.
 #[derive(Drop)]
 pub struct Rows {
-    kinds: [u8; 4096],
-    numbers: [i32; 4096],
-    end: usize,
+    pub kinds: [u8; 4096],
+    pub numbers: [i32; 4096],
+    pub end: usize,
 }
 
 impl Model for Rows {

@@ -1,4 +1,4 @@
--- What `line_of`, `next_line` and the loops over lines know at each way out. A part of a slice from place n on is
+-- What `line_of`, `cut_line` and the loop over lines know at each way out. A part of a slice from place n on is
 -- `take (length l - n) (drop n l)`. Assumes nothing.
 use Rattle.std.specs.Prelude.{Option, Some, None, Ok, Err}
 use mathlib.Core.Path.{◌≡◌, refl, sym, ap, ap₂, ◌∙◌}

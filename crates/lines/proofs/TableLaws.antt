@@ -53,6 +53,16 @@ module _ (n k m : ℕ) where
       go true e = lt-leb n m (omega (arith, leb-true n k e))
       go false e = refl
 
+  pub short_kinds : k < n → (leb n k && leb n m) ≡ false
+  short_kinds h = simp (lt-leb n k h)
+
+  pub short_numbers : m < n → (leb n k && leb n m) ≡ false
+  short_numbers h = go (leb n k)
+    where
+      go : (b : Bool) → (b && leb n m) ≡ false
+      go true = lt-leb n m h
+      go false = refl
+
   pub room_for_holds : n ≤ k → n ≤ m → (leb n k && leb n m) ≡ true
   room_for_holds h g = simp (le-leb n k h, le-leb n m g)
 

@@ -76,7 +76,8 @@ impl Refusal {
     }
 }
 
-// [11.8] As the programs print it, but for the end of the line.
+// The number and the line with the commas of [11.8]. The two programs put these bytes by hand, since their bytes are promised and those of
+// Display are not.
 impl fmt::Display for Refusal {
     fn fmt<W: fmt::Write>(&self, f: &mut fmt::Formatter<W>) -> fmt::Result {
         write!(f, "no,{},{}", self.number(), self.line())

@@ -2,17 +2,18 @@
 use Rattle.std.specs.Prelude.{Ok, Err}
 use mathlib.Core.Bool.{Bool, true, false, cond}
 use mathlib.Core.Path.{◌≡◌, refl, sym, ap, ap₂, ◌∙◌, subst}
-use mathlib.Core.List.{List, []}
+use mathlib.Core.List.{List, [], ◌∷◌}
 use Prim.Native.Nat.{ℕ, ◌+◌, ◌≤◌, ◌<◌}
 use native.Mathlib.Decide.{dec_lt}
 use native.Mathlib.Nat.{zero-add}
 use native.Mathlib.Omega.{arith}
 use borrow.Author.Tests.{eq-eqb, ne_eqb}
 use lib.IntN.{ℤ, pos}
+use lib.Dec.{ltb, eqb}
 use Rattle.std.proofs.Common.{ltb-true, ltb-false}
 use Rattle.std.proofs.lemmas.List.{length-replicate}
 use Rattle.std.specs.Prelude.{Result, Ok, Err}
-use lib.ListN.{length, take, drop, replicate, length-map}
+use lib.ListN.{length, take, drop, replicate, set, length-set, length-map}
 use lib.Seq.{sets, sets-eq, take_at}
 use Rattle.refusals.specs.declared.Refusal.{Refusal}
 use Rattle.refusals.specs.declared.Refusal.TheVariants.{LoopsLength, LanesInside}
@@ -34,7 +35,7 @@ use Rattle.meaning.proofs.Laws.Typing.{well_typed}
 use Rattle.syntax.specs.Walk.{walk_table}
 use Rattle.syntax.specs.Reading.{plan_of}
 use Rattle.syntax.specs.Theorems.{all_passed, plan_tree}
-use Rattle.emission.specs.Table.{Table, table, no_rows, put_rows, too_many, kinds_put, numbers_put}
+use Rattle.emission.specs.Table.{Table, table, no_rows, put_row, put_rows, too_many, kinds_put, numbers_put}
 use Rattle.emission.specs.Laws.Filled.{end_of, rows_fit, rows_too_many}
 use Rattle.loops.specs.Check.{check_table}
 use Rattle.typing.specs.Check.{Verdict, typed, refused, check_plan}
@@ -71,6 +72,36 @@ module _ (n : ℕ) (q : Refusal) (k : ℕ) (is : k ≡ refusal_number q) where
 front : {A : Type 0} (l vs : List A) → length vs ≤ length l → take (length vs) (sets l 0 vs) ≡ vs
 front l vs h =
     ap (take (length vs)) (sets-eq vs l 0 (omega arith)) ∙ take_at vs (drop (0 + length vs) l) (length vs) refl
+
+-- rows that are put keep the table's size
+abbrev kinds_in : Table → List ℕ
+kinds_in (table k n end) = k
+
+abbrev numbers_in : Table → List ℤ
+numbers_in (table k n end) = n
+
+row_kept : (o : Table) (row : Row) → (length (kinds_in (put_row o row)) ≡ length (kinds_in o)) × (length (numbers_in (put_row o row)) ≡ length (numbers_in o))
+unfolding put_row
+row_kept (table k n end) row = go (ltb end 4096)
+  where
+    go : (b : Bool)
+        → (length (kinds_in (cond b (table (set k end row.0) (set n end row.1) (end + 1)) (table k n (cond (eqb end 4096) 4097 end)))) ≡ length k)
+        × (length (numbers_in (cond b (table (set k end row.0) (set n end row.1) (end + 1)) (table k n (cond (eqb end 4096) 4097 end)))) ≡ length n)
+    go true = (length-set k end row.0, length-set n end row.1)
+    go false = (refl, refl)
+
+rows_kept : (R : List Row) (o : Table) → (length (kinds_in (put_rows R o)) ≡ length (kinds_in o)) × (length (numbers_in (put_rows R o)) ≡ length (numbers_in o))
+unfolding put_rows
+rows_kept [] o = (refl, refl)
+rows_kept (r ∷ R) o =
+    let a = rows_kept R (put_row o r) in
+    let b = row_kept o r in (a.0 ∙ b.0, a.1 ∙ b.1)
+
+pub lengths_kept : (R : List Row) (k k' : List ℕ) (n n' : List ℤ) (from end : ℕ) → table k' n' end ≡ put_rows R (table k n from)
+    → (length k' ≡ length k) × (length n' ≡ length n)
+lengths_kept R k k' n n' from end e =
+    let a = rows_kept R (table k n from) in
+    (ap (λ (o : Table). length (kinds_in o)) e ∙ a.0, ap (λ (o : Table). length (numbers_in o)) e ∙ a.1)
 
 -- from an empty table on
 pub put_from_none : (R : List Row) (o : Table) → o ≡ no_rows → put_rows R o ≡ put_rows R no_rows

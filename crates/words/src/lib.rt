@@ -158,12 +158,20 @@ pub fn letter(table: &Table, kind: u8, i: usize) -> u8
     row[i]
 }
 
-// Whether these are the letters of a row's word.
+// Whether these are the letters of a row's word: the row is left at the first letter that differs, which in most rows is the first, so
+// they are not compared as slices.
 fn same(letters: &[u8], row: &[u8; 19]) -> bool
     ensures { result ≡ same_letters letters.now (word_in row.now) }
 {
-    let count = letter_count(row[8]);
-    letters == &row[..count]
+    for i in 0..letters.len() {
+        if 8 <= i {
+            return false;
+        }
+        if letters[i] != row[i] {
+            return false;
+        }
+    }
+    letter_count(row[8]) == letters.len()
 }
 
 // [1.3], [17.1] Goes down a table to the word with these letters, and ends there.
